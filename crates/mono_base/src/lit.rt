@@ -1,0 +1,71 @@
+//! Literals (DIMACS CNF): `x` says that variable x is true, `-x` that it is false.
+
+ghost use Rattle.std.specs.Prelude.{◌≡◌, ◌<◌, ◌≤◌, ◌↔◌, ℤ, pos, neg_ℤ, nat_abs, int_lt, IsSome, IfSome};
+
+use std::marker::Model;
+
+/// A literal: the number of its variable, from 1 to 1,000,000, or that number's negative.
+///
+/// Contracts see it as that whole number.
+#[derive(Clone, Copy, Debug, PartialEq, Eq)]
+pub struct Lit {
+    number: i32,
+}
+
+impl Model for Lit {
+    ghost use Rattle.std.specs.Prelude.{◌<◌, ◌≤◌, ℤ, nat_abs};
+
+    ghost Value = { ℤ };
+
+    ghost view = { λ l. l.number };
+
+    ghost invariant = { λ l. (0 < nat_abs l.number) × (nat_abs l.number ≤ 1000000) };
+
+    ghost inverse = { λ z. record { number = z } };
+}
+
+impl Lit {
+    /// The literal of a number: `None` exactly for 0 and for a magnitude above 1,000,000.
+    pub fn new(n: i32) -> Option<Lit>
+        ensures value { IfSome result (λ l. l ≡ n) }
+        ensures within { IsSome result ↔ ((0 < nat_abs n) × (nat_abs n ≤ 1000000)) }
+    {
+        if n != 0 && -1_000_000 <= n && n <= 1_000_000 {
+            Some(Lit { number: n })
+        } else {
+            None
+        }
+    }
+
+    /// The literal as a signed number, never 0.
+    pub fn number(self) -> i32
+        ensures { result ≡ self }
+    {
+        self.number
+    }
+
+    /// The literal's variable, from 1 to 1,000,000.
+    pub fn var(self) -> u32
+        ensures value { result ≡ nat_abs self }
+        ensures low { 0 < result }
+        ensures high { result ≤ 1000000 }
+    {
+        self.number.unsigned_abs()
+    }
+
+    /// Whether the literal says that its variable is true.
+    pub fn is_positive(self) -> bool
+        ensures { result ≡ int_lt (pos 0) self }
+    {
+        self.number > 0
+    }
+
+    /// The opposite literal of the same variable.
+    pub fn negated(self) -> Lit
+        ensures { result ≡ neg_ℤ self }
+    {
+        Lit {
+            number: -self.number,
+        }
+    }
+}

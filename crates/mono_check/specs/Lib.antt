@@ -1,0 +1,9 @@
+pub mod Items
+pub mod Lines
+pub mod Names
+pub mod Values
+pub mod StepLines
+pub mod Verdicts
+pub mod Seen
+pub mod Worked
+pub mod Answers

@@ -1,0 +1,41 @@
+//! The verdict on an answer.
+//!
+//! The function is named as its answer's type is but for case, so it stays in this module.
+
+ghost use Rattle.std.specs.Prelude.{◌≡◌, IfOk};
+ghost use Rattle.mono_check.specs.Verdicts.{verdict_of};
+
+use crate::item::{Item, Kind};
+use crate::reading::next_item;
+use crate::step_lines::judge_steps;
+use crate::values::judge_model;
+use crate::{Reason, Verdict};
+use mono_problem::Problem;
+use mono_text::Lines;
+use std::alloc::{AllocError, Global};
+
+/// The verdict on the text of an answer to the problem, for all bytes.
+///
+/// The lines are judged in order, and the first one at fault decides. The checker keeps the clauses of the steps, or
+/// the literals of a model, and one line.
+pub fn verdict(alloc: Global, problem: &Problem, answer: &[u8]) -> Result<Verdict, AllocError>
+    ensures { IfOk result (λ verdict. verdict ≡ verdict_of problem.now answer.now) }
+{
+    let mut lines = Lines::new(answer);
+    match next_item(alloc, &mut lines)? {
+        None => Ok(Verdict::Rejected {
+            line: 1,
+            reason: Reason::NotAnswer,
+        }),
+        Some((number, item)) => match item {
+            Some(Item::Status(Kind::Model)) => judge_model(alloc, problem, number, lines),
+            Some(Item::Status(Kind::Steps(claim))) => judge_steps(
+                alloc, problem, claim, number, lines,
+            ),
+            _ => Ok(Verdict::Rejected {
+                line: number,
+                reason: Reason::NotAnswer,
+            }),
+        },
+    }
+}

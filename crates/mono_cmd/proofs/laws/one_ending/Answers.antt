@@ -1,0 +1,5 @@
+use Rattle.mono_cmd.proofs.OneEnding.{one_ending}
+use Rattle.mono_cmd.proofs.laws.one_ending.Goals as goal
+
+pub returns : goal.returns
+returns c = one_ending

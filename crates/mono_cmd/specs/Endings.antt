@@ -1,0 +1,46 @@
+-- What a run came to before it writes: its status, and the text that is due.
+use Rattle.std.specs.Prelude.{ℕ, List, [], ◌∷◌, codes, decimal}
+use Rattle.mono_text.specs.Text.{spaced}
+use Rattle.mono_gnf.specs.Names.{fault_name}
+use Rattle.mono_check.specs.Names.{reason_name}
+use Rattle.mono_check.specs.declared.reason.Reason.{Reason}
+use Rattle.mono_check.specs.declared.reason.Reason.TheVariants as reason
+use Rattle.mono_check.specs.declared.verdict.Verdict.{Verdict}
+use Rattle.mono_check.specs.declared.verdict.Verdict.TheVariants as verdict
+use Rattle.mono_cmd.specs.declared.status.Status.{Status}
+use Rattle.mono_cmd.specs.declared.status.Status.TheVariants as status
+use Rattle.mono_cmd.specs.declared.ending.Ending.{Ending}
+use Rattle.mono_cmd.specs.declared.ending.Ending.TheVariants as ending
+
+abbrev pub verdict_status : Verdict → Status
+verdict_status verdict.Model = status.Accepted
+verdict_status verdict.Refutation = status.Accepted
+verdict_status (verdict.Progress n) = status.Accepted
+verdict_status (verdict.Rejected line r) = status.Rejected
+
+abbrev pub status_of : Ending → Status
+status_of ending.Words = status.Words
+status_of ending.ReadFault = status.ReadFault
+status_of ending.TooLong = status.TooLong
+status_of (ending.Refused line fault) = status.Refused
+status_of (ending.Judged v) = verdict_status v
+status_of (ending.Printed text) = status.Printed
+
+-- the name of a reason, and the number that it carries, if it carries one
+abbrev pub reason_words : Reason → List (List ℕ)
+reason_words (reason.ClauseFalse n) = reason_name (reason.ClauseFalse n) ∷ decimal n ∷ []
+reason_words r = reason_name r ∷ []
+
+abbrev pub verdict_text : Verdict → List ℕ
+verdict_text verdict.Model = codes "accepted model\n"
+verdict_text verdict.Refutation = codes "accepted refutation\n"
+verdict_text (verdict.Progress n) = spaced (codes "accepted" ∷ codes "progress" ∷ decimal n ∷ [])
+verdict_text (verdict.Rejected line r) = spaced (codes "rejected" ∷ decimal line ∷ reason_words r)
+
+abbrev pub text_of : Ending → List ℕ
+text_of ending.Words = codes "usage: check FILE ANSWER | print FILE\n"
+text_of ending.ReadFault = codes "read fault\n"
+text_of ending.TooLong = codes "too long\n"
+text_of (ending.Refused line fault) = spaced (codes "refused" ∷ decimal line ∷ fault_name fault ∷ [])
+text_of (ending.Judged v) = verdict_text v
+text_of (ending.Printed text) = text

@@ -1,0 +1,45 @@
+//! How a run ends.
+
+ghost use Rattle.std.specs.Prelude.{◌≡◌};
+ghost use Rattle.mono_cmd.specs.Statuses.{code_of};
+
+/// How a run ends. Each status has a number of its own kind that the process ends with.
+#[derive(Clone, Copy, Debug, PartialEq, Eq)]
+pub enum Status {
+    /// The answer is a satisfying model, a justified refutation or justified progress.
+    Accepted,
+    /// The input was printed.
+    Printed,
+    /// The answer isn't accepted.
+    Rejected,
+    /// The words are no command.
+    Words,
+    /// The input has a first fault.
+    Refused,
+    /// A file could not be read.
+    ReadFault,
+    /// The text could not be written whole.
+    WriteFault,
+    /// No memory was found. Nothing was written.
+    Memory,
+    /// A file has more bytes than its limit.
+    TooLong,
+}
+
+impl Status {
+    /// The exit status of the process.
+    pub fn code(self) -> u8
+        ensures { result ≡ code_of self }
+    {
+        match self {
+            Status::Accepted | Status::Printed => 0,
+            Status::Rejected => 1,
+            Status::Words => 2,
+            Status::Refused => 3,
+            Status::ReadFault => 4,
+            Status::WriteFault => 5,
+            Status::Memory => 6,
+            Status::TooLong => 7,
+        }
+    }
+}

@@ -1,0 +1,74 @@
+//! Runs of the whole program over files and an output in memory. The expected texts are worked by hand.
+
+use crate::run::run;
+use crate::status::Status;
+use mono_io::{MemoryShelf, MemorySink};
+use std::alloc::{AllocError, Global};
+use std::process::Abort;
+use std::test::Fail;
+
+mod faults;
+mod input;
+mod models;
+mod refutations;
+
+/// What a run wrote, and how it ended.
+#[derive(Drop)]
+struct Outcome {
+    status: Status,
+    text: Vec<u8>,
+}
+
+fn words_of(alloc: Global, line: &[&str]) -> Result<Vec<String>, AllocError> {
+    let mut words = Vec::new(alloc);
+    for word in line {
+        words.push(String::from_str(alloc, word)?)?;
+    }
+    Ok(words)
+}
+
+/// Runs these words over a shelf that holds the files `f` and `a`.
+fn outcome_of(
+    alloc: Global,
+    line: &[&str],
+    input: &[u8],
+    answer: &[u8],
+) -> Result<Outcome, AllocError> {
+    let mut shelf = MemoryShelf::new(alloc);
+    shelf.put("f", input)?;
+    shelf.put("a", answer)?;
+    let mut out = MemorySink::new(alloc, 1 << 20)?;
+    let words = words_of(alloc, line)?;
+    let status = run(alloc, words.as_slice(), &mut shelf, &mut out);
+    Ok(Outcome {
+        status,
+        text: out.bytes().to_vec(alloc)?,
+    })
+}
+
+/// The run of `check f a` ends so.
+fn checks(
+    rt: &(impl Abort + AllocGlobal),
+    input: &[u8],
+    answer: &[u8],
+    text: &[u8],
+    status: Status,
+) -> Result<(), Fail> {
+    let found = outcome_of(rt.alloc(), &["check", "f", "a"], input, answer)?;
+    assert_eq!(rt; found.text.as_slice(), text);
+    assert_eq!(rt; found.status, status);
+    Ok(())
+}
+
+/// The run of `print f` ends so.
+fn prints(
+    rt: &(impl Abort + AllocGlobal),
+    input: &[u8],
+    text: &[u8],
+    status: Status,
+) -> Result<(), Fail> {
+    let found = outcome_of(rt.alloc(), &["print", "f"], input, b"")?;
+    assert_eq!(rt; found.text.as_slice(), text);
+    assert_eq!(rt; found.status, status);
+    Ok(())
+}

@@ -1,0 +1,145 @@
+//! Files that can't be read, outputs that can't be written, and files that are too long.
+
+use super::words_of;
+use crate::run::run;
+use crate::status::Status;
+use mono_io::{MemoryShelf, MemorySink};
+use std::process::Abort;
+use std::test::Fail;
+
+const INPUT: &[u8] = b"1 2 0\n-1 0\n";
+
+const MODEL: &[u8] = b"s SATISFIABLE\nv -1 2 0\n";
+
+const OTHER: &[u8] = b"s SATISFIABLE\nv 1 2 0\n";
+
+#[test]
+fn a_missing_file_is_a_read_fault(rt: HostRuntime) -> Result<(), Fail> {
+    let mut shelf = MemoryShelf::new(rt.alloc());
+    shelf.put("a", MODEL)?;
+    let mut out = MemorySink::new(rt.alloc(), 100)?;
+    let words = words_of(rt.alloc(), &["check", "missing", "a"])?;
+    let status = run(rt.alloc(), words.as_slice(), &mut shelf, &mut out);
+    assert_eq!(rt; out.bytes(), b"read fault\n".as_slice());
+    assert_eq!(rt; status, Status::ReadFault);
+    Ok(())
+}
+
+/// Each call on the shelf fails in turn, until a run makes no further call.
+fn each_read_fails(
+    rt: &(impl Abort + AllocGlobal),
+    answer: &[u8],
+    most: usize,
+    calls: u64,
+    status: Status,
+) -> Result<(), Fail> {
+    for call in 1..=calls {
+        let mut shelf = MemoryShelf::new(rt.alloc());
+        shelf.put("f", INPUT)?;
+        shelf.put("a", answer)?;
+        if most > 0 {
+            shelf.pieces(most);
+        }
+        shelf.fail_at(call)?;
+        let mut out = MemorySink::new(rt.alloc(), 100)?;
+        let words = words_of(rt.alloc(), &["check", "f", "a"])?;
+        let found = run(rt.alloc(), words.as_slice(), &mut shelf, &mut out);
+        let due = if call < calls {
+            Status::ReadFault
+        } else {
+            status
+        };
+        assert_eq!(rt; found, due);
+        if call < calls {
+            assert_eq!(rt; out.bytes(), b"read fault\n".as_slice());
+        }
+    }
+    Ok(())
+}
+
+#[test]
+fn each_call_on_the_shelf_may_fail(rt: HostRuntime) -> Result<(), Fail> {
+    // A file is begun once and read to its end: two calls, and one more for the end.
+    each_read_fails(&rt, MODEL, 0, 7, Status::Accepted)?;
+    each_read_fails(&rt, OTHER, 0, 7, Status::Rejected)?;
+    // 11 and 23 bytes in pieces of 7: begin, two or four pieces, the end.
+    each_read_fails(&rt, MODEL, 7, 11, Status::Accepted)
+}
+
+/// Each write fails in turn: a prefix was written, and the last run has no further write.
+fn each_write_fails(
+    rt: &(impl Abort + AllocGlobal),
+    answer: &[u8],
+    text: &[u8],
+    writes: u64,
+    status: Status,
+) -> Result<(), Fail> {
+    for call in 1..=writes {
+        let mut shelf = MemoryShelf::new(rt.alloc());
+        shelf.put("f", INPUT)?;
+        shelf.put("a", answer)?;
+        let mut out = MemorySink::new(rt.alloc(), 100)?;
+        out.pieces(3);
+        out.fail_at(call)?;
+        let words = words_of(rt.alloc(), &["check", "f", "a"])?;
+        let found = run(rt.alloc(), words.as_slice(), &mut shelf, &mut out);
+        let due = if call < writes {
+            Status::WriteFault
+        } else {
+            status
+        };
+        assert_eq!(rt; found, due);
+        assert!(rt; text.starts_with(out.bytes()));
+    }
+    Ok(())
+}
+
+#[test]
+fn each_write_may_fail(rt: HostRuntime) -> Result<(), Fail> {
+    each_write_fails(&rt, MODEL, b"accepted model\n", 6, Status::Accepted)?;
+    each_write_fails(
+        &rt,
+        OTHER,
+        b"rejected 2 ClauseFalse 2\n",
+        10,
+        Status::Rejected,
+    )
+}
+
+#[test]
+fn a_full_output_keeps_a_prefix(rt: HostRuntime) -> Result<(), Fail> {
+    let mut shelf = MemoryShelf::new(rt.alloc());
+    shelf.put("f", b"")?;
+    let mut out = MemorySink::new(rt.alloc(), 4)?;
+    let words = words_of(rt.alloc(), &["print", "f"])?;
+    let status = run(rt.alloc(), words.as_slice(), &mut shelf, &mut out);
+    assert_eq!(rt; out.bytes(), b"p gn".as_slice());
+    assert_eq!(rt; status, Status::WriteFault);
+    Ok(())
+}
+
+#[test]
+fn a_file_beyond_its_limit_is_too_long(rt: HostRuntime) -> Result<(), Fail> {
+    let spaces = vec![in rt.alloc(); b' '; (1 << 28) + 1]?;
+    let mut shelf = MemoryShelf::new(rt.alloc());
+    shelf.put("f", spaces.as_slice())?;
+    let mut out = MemorySink::new(rt.alloc(), 100)?;
+    let words = words_of(rt.alloc(), &["print", "f"])?;
+    let status = run(rt.alloc(), words.as_slice(), &mut shelf, &mut out);
+    assert_eq!(rt; out.bytes(), b"too long\n".as_slice());
+    assert_eq!(rt; status, Status::TooLong);
+    Ok(())
+}
+
+#[test]
+fn a_file_at_its_limit_is_read(rt: HostRuntime) -> Result<(), Fail> {
+    let spaces = vec![in rt.alloc(); b' '; 1 << 28]?;
+    let mut shelf = MemoryShelf::new(rt.alloc());
+    shelf.put("f", spaces.as_slice())?;
+    let mut out = MemorySink::new(rt.alloc(), 100)?;
+    let words = words_of(rt.alloc(), &["print", "f"])?;
+    let status = run(rt.alloc(), words.as_slice(), &mut shelf, &mut out);
+    assert_eq!(rt; out.bytes(), b"p gnf 0 0\n".as_slice());
+    assert_eq!(rt; status, Status::Printed);
+    Ok(())
+}

@@ -1,0 +1,11 @@
+pub mod Names
+pub mod Statements
+pub mod Lines
+pub mod Declarations
+pub mod Faults
+pub mod Stands
+pub mod Within
+pub mod Reading
+pub mod Moves
+pub mod Printed
+pub mod Prints

@@ -1,0 +1,27 @@
+//! Laws of what a text stands for.
+
+ghost use Rattle.std.specs.Prelude.{◌≡◌, ◌⊎◌, ℕ, List, None, Some};
+ghost use Rattle.mono_problem.specs.Instance.{Instance};
+ghost use Rattle.mono_text.specs.Text.{token_lines};
+ghost use Rattle.mono_gnf.specs.declared.fault.GnfFault.{GnfFault};
+ghost use Rattle.mono_gnf.specs.Faults.{first_fault};
+ghost use Rattle.mono_gnf.specs.Stands.{Stands, instance_of};
+ghost use Rattle.mono_gnf.specs.Reading.{reading, outcome};
+
+/// A text stands for at most one problem.
+pub fn one_problem()
+    ensures { (text : List ℕ) (p q : Instance) → Stands text p → Stands text q → p ≡ q }
+{}
+
+/// A text has a first fault or stands for a problem, and not both.
+pub fn fault_or_problem()
+    ensures either { (text : List ℕ) →
+        ((line : ℕ) × (f : GnfFault) × (first_fault text ≡ Some (line, f))) ⊎ ((p : Instance) × Stands text p) }
+    ensures not_both { (text : List ℕ) (p : Instance) (line : ℕ) (f : GnfFault) →
+        Stands text p → first_fault text ≡ Some (line, f) → ⊥ }
+{}
+
+/// Reading a text line after line finds its first fault, or makes the problem of its lines.
+pub fn line_after_line()
+    ensures { (text : List ℕ) → reading text ≡ outcome (first_fault text) (instance_of (token_lines text)) }
+{}

@@ -1,0 +1,15 @@
+pub mod Places
+pub mod Ranges
+pub mod Lists
+pub mod EdgeNumbers
+pub mod GraphGrown
+pub mod NodeLists
+pub mod Membership
+pub mod WalkLaws
+pub mod Parts
+pub mod FlowLaws
+pub mod TreeLaws
+pub mod Joins
+pub mod Components
+pub mod LeastLaw
+pub mod Subparts

@@ -1,0 +1,5 @@
+use Rattle.mono_graph.proofs.LeastLaw.{is_least-le}
+use Rattle.mono_graph.proofs.laws.least_tree_is_lightest.Goals as goal
+
+pub returns : goal.returns
+returns c = is_least-le

@@ -1,0 +1,7 @@
+pub mod Buckets
+pub mod Digraph
+pub mod Kept
+pub mod Walks
+pub mod Flows
+pub mod Trees
+pub mod Worked

@@ -1,0 +1,4 @@
+mod Fronts
+mod Growing
+pub mod KnownBytes
+mod TextLemmas

@@ -1,0 +1,10 @@
+pub mod Entries
+pub mod FaultPlan
+pub mod Faults
+pub mod FileShelf
+pub mod MemoryShelf
+pub mod MemorySink
+pub mod Reading
+pub mod Shelf
+pub mod Sink
+pub mod Texts

@@ -1,0 +1,38 @@
+//! Texts read from a shelf and bytes written to a sink, in memory and real.
+//!
+//! - `failed`: the answer of a call to the outside that failed
+//! - `shelf`, `sink`: the traits, each with a count of faults to which its failures are tied
+//! - `reading`, `refusal`: a text read whole up to a limit, over any shelf
+//! - `writing`: all of a text written, over any sink
+//! - `memory_shelf`, `text_table`: texts in memory
+//! - `memory_sink`: bytes in memory
+//! - `fault_plan`: which calls of the two in memory are to fail
+//! - `file_shelf`, `std_sink`: the files of the system and the standard output
+#![tactic(auto)]
+
+mod failed;
+mod fault_plan;
+mod file_shelf;
+mod memory_shelf;
+mod memory_sink;
+mod reading;
+mod refusal;
+mod shelf;
+mod sink;
+mod std_sink;
+mod text_table;
+mod writing;
+
+pub use failed::Failed;
+pub use file_shelf::FileShelf;
+pub use memory_shelf::MemoryShelf;
+pub use memory_sink::MemorySink;
+pub use reading::read_whole;
+pub use refusal::ReadRefusal;
+pub use shelf::Shelf;
+pub use sink::Sink;
+pub use std_sink::StdSink;
+pub use writing::write_whole;
+
+#[cfg(test)]
+mod tests;

@@ -1,0 +1,9 @@
+pub mod Instance
+pub mod WellFormed
+pub mod Growth
+pub mod Uses
+pub mod Holds
+pub mod Quiet
+pub mod Flat
+pub mod Read
+pub mod Kept

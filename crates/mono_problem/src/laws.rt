@@ -1,0 +1,52 @@
+//! What holds of problems by their definitions.
+//!
+//! A predicate never fails because more edges are present (Bayless et al. 2015). So a list of literals that gives some
+//! variables their values decides a predicate from both sides: it holds whatever the other variables are where it holds
+//! with the edges that are surely present, and fails where it fails with those that are possibly present.
+
+ghost use Rattle.std.specs.Prelude.{◌≡◌, ℕ, ◌<◌, Bool, false, ◌⊎◌, ◌↔◌, ℤ, pos, List, IsTrue, All};
+ghost use Rattle.mono_base.specs.Literal.{lit_true};
+ghost use Rattle.mono_base.specs.Partial.{Extends, is_true_in, is_open_in};
+ghost use Rattle.mono_graph.specs.Digraph.{Digraph, IsGraph, IsSubpart, enabled};
+ghost use Rattle.mono_problem.specs.declared.atom.Atom.{Atom};
+ghost use Rattle.mono_problem.specs.declared.atom.Predicate.{Predicate};
+ghost use Rattle.mono_problem.specs.Holds.{Holds};
+ghost use Rattle.mono_problem.specs.Quiet.{under, over, Forces, TheoryQuiet};
+
+/// Predicates are monotonic: one that holds in a part holds in each larger part.
+pub fn predicates_are_monotonic()
+    ensures { (g : Digraph) (P Q : List Bool) → IsSubpart P Q → (q : Predicate) → Holds g P q → Holds g Q q }
+{}
+
+/// Where an assignment extends a list of literals, each surely present edge is enabled, and each enabled edge is possibly
+/// present.
+pub fn bounds_enclose_the_enabled_edges()
+    ensures surely { (g : Digraph) (t : List ℤ) (a : ℕ → Bool) → IsGraph g → Extends a t → IsSubpart (under g t) (enabled a g) }
+    ensures possibly { (g : Digraph) (t : List ℤ) (a : ℕ → Bool) → IsGraph g → Extends a t → IsSubpart (enabled a g) (over g t) }
+{}
+
+/// Where moreover the variable of every edge has a value in the list, both are the enabled edges.
+pub fn bounds_meet_where_all_edges_are_decided()
+    ensures surely { (g : Digraph) (t : List ℤ) (a : ℕ → Bool) → IsGraph g → Extends a t → All (λ e. is_open_in t (pos e.var) ≡ false) g.edges → under g t ≡ enabled a g }
+    ensures possibly { (g : Digraph) (t : List ℤ) (a : ℕ → Bool) → IsGraph g → Extends a t → All (λ e. is_open_in t (pos e.var) ≡ false) g.edges → over g t ≡ enabled a g }
+{}
+
+/// A literal that an atom forces under a list is true in each assignment that extends the list and agrees with the atom.
+pub fn forced_literals_are_true()
+    ensures { (g : Digraph) (x : Atom) (t : List ℤ) (l : ℤ) (a : ℕ → Bool) → IsGraph g → 0 < x.var → Extends a t → (IsTrue (a x.var) ↔ Holds g (enabled a g) x.predicate) → Forces g x t l → IsTrue (lit_true a l) }
+{}
+
+/// Where no atom forces anything beyond the list, each forced literal is true in it.
+///
+/// The other way round too, for atoms of which it is known whether they hold with the possibly present edges.
+pub fn quiet_atoms_force_nothing_more()
+    ensures forced { (g : Digraph) (atoms : List Atom) (t : List ℤ) → TheoryQuiet g atoms t → All (λ x. (l : ℤ) → Forces g x t l → IsTrue (is_true_in t l)) atoms }
+    ensures quiet { (g : Digraph) (atoms : List Atom) (t : List ℤ) → All (λ x. Holds g (over g t) x.predicate ⊎ ¬ Holds g (over g t) x.predicate) atoms → All (λ x. (l : ℤ) → Forces g x t l → IsTrue (is_true_in t l)) atoms → TheoryQuiet g atoms t }
+{}
+
+/// Where the variables of all edges and of the atoms have values in a list, and no atom forces anything beyond it, the
+/// atoms agree with each assignment that extends the list.
+pub fn quiet_atoms_agree()
+    ensures { (g : Digraph) (atoms : List Atom) (t : List ℤ) (a : ℕ → Bool) → IsGraph g → Extends a t → All (λ e. is_open_in t (pos e.var) ≡ false) g.edges → All (λ x. (0 < x.var) × (is_open_in t (pos x.var) ≡ false)) atoms
+        → TheoryQuiet g atoms t → All (λ x. IsTrue (a x.var) ↔ Holds g (enabled a g) x.predicate) atoms }
+{}

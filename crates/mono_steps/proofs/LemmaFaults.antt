@@ -1,0 +1,55 @@
+-- A lemma is justified exactly where the checks in their order find no fault.
+use Rattle.std.proofs.Common.{◌≡◌, Bool, true, false, not, ◌&&◌, List, Option, Some, None, length, refl, sym, subst, ℤ, ◌↔◌}
+use Rattle.std.specs.Prelude.{IsTrue, if◌then◌else◌, pos, neg_ℤ}
+use Rattle.std.proofs.lemmas.Bool.{and_parts, and_from}
+use Rattle.mono_base.specs.Literal.{has_lit}
+use Rattle.mono_graph.specs.Digraph.{Digraph}
+use Rattle.mono_graph.proofs.Parts.{length-part_by}
+use Rattle.mono_problem.specs.declared.atom.Atom.{Atom}
+use Rattle.mono_problem.specs.Instance.{Instance, graph_at, numbered}
+use Rattle.mono_steps.specs.declared.lemma.Lemma.{Lemma}
+use Rattle.mono_steps.specs.declared.lemma.Witness.{Witness}
+use Rattle.mono_steps.specs.ChainSteps.{names_vars}
+use Rattle.mono_steps.specs.Witnesses.{serves, is_shown, is_positive, is_small, names_known, passes, part_not, part_free, part_for, best_part, owed_lit, has_owed, justifies_by, justifies, LemmaFault, UnknownAtom, WrongKind, UnknownNumber, WitnessFails, MissingLiteral, lemma_fault_by, lemma_fault}
+use Rattle.mono_steps.proofs.Witnessed.{passes-best}
+
+pub length-part_for : (c : List ℤ) (g : Digraph) (w : Witness) → length (part_for c g w) ≡ length g.edges
+length-part_for c g w = by_word (is_positive w)
+  where
+    by_word : (b : Bool) → length (if b then part_not c g else part_free c g) ≡ length g.edges
+    by_word true = length-part_by (λ e. has_lit c (neg_ℤ (pos e.var))) g
+    by_word false = length-part_by (λ e. not (has_lit c (pos e.var))) g
+
+-- a clause that has what it owes has a witness that can pass
+owed_passes : (g : Digraph) (x : Atom) (c : List ℤ) (w : Witness) → IsTrue (has_owed g x c w) → IsTrue (passes g (best_part g w) x.predicate w)
+owed_passes g x c w h = passes-best g (part_for c g w) x.predicate w (length-part_for c g w) (and_parts (has_lit c (owed_lit x w)) (passes g (part_for c g w) x.predicate w) h).1
+
+-- the checks by their results: the word serves, the variables and what the witness names are known, the witness can pass, the clause has what it owes
+abbrev checked : Bool → Bool → Bool → Bool → Bool → Option LemmaFault
+checked s v k b o = if not s then Some WrongKind else if not (v && k) then Some UnknownNumber else if not b then Some WitnessFails else if not o then Some MissingLiteral else None
+
+all_pass : (v s k m b o : Bool) → IsTrue (v && (s && k && m && o)) → (IsTrue o → IsTrue b) → IsTrue m × (checked s v k b o ≡ None)
+all_pass true true true true true true h f = (refl, refl)
+all_pass true true true true false true h f = absurd (let e = f refl in cc)
+all_pass v s k m b o h f = absurd cc
+
+none_fails : (s v k m b o : Bool) → IsTrue m → checked s v k b o ≡ None → IsTrue (v && (s && k && m && o))
+none_fails true true true true true true h e = refl
+none_fails s v k m b o h e = absurd cc
+
+pub justified_no_fault : (p : Instance) (l : Lemma) → IsTrue (justifies p l) ↔ (IsTrue (is_small l.witness) × (lemma_fault p l ≡ None))
+justified_no_fault p l = by_atom (numbered p.atoms l.atom)
+  where
+    by_atom : (o : Option Atom) → IsTrue (elim o [ None ↦ false | Some x ↦ justifies_by p x l ]) ↔ (IsTrue (is_small l.witness) × ((elim o [ None ↦ Some UnknownAtom | Some x ↦ lemma_fault_by p x l ]) ≡ None))
+    by_atom None = (λ h. absurd cc, λ h. absurd (let e = h.1 in cc))
+    by_atom (Some x) =
+        let g : Digraph = graph_at p x.graph in
+        let w : Witness = l.witness in (
+          λ h. all_pass (names_vars p l.clause) (serves w x.predicate) (names_known g w) (is_small w) (passes g (best_part g w) x.predicate w) (has_owed g x l.clause w) h (owed_passes g x l.clause w),
+          λ h. none_fails (serves w x.predicate) (names_vars p l.clause) (names_known g w) (is_small w) (passes g (best_part g w) x.predicate w) (has_owed g x l.clause w) h.0 h.1,
+        )
+
+-- a lemma that its predicate's graph shows is justified where its variables are the problem's
+pub shown_justified : (p : Instance) (x : Atom) (l : Lemma) → numbered p.atoms l.atom ≡ Some x → IsTrue (names_vars p l.clause) → IsTrue (is_shown (graph_at p x.graph) x l) → IsTrue (justifies p l)
+shown_justified p x l e names shown =
+    subst (λ (o : Option Atom). IsTrue (elim o [ None ↦ false | Some y ↦ justifies_by p y l ])) (sym e) (and_from (names_vars p l.clause) (is_shown (graph_at p x.graph) x l) names shown)

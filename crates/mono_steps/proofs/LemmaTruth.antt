@@ -1,0 +1,162 @@
+-- Justified lemmas are true wherever the predicates agree with their graphs, and justified steps wherever the problem is satisfied.
+use Rattle.std.proofs.Common.{◌≡◌, ℕ, zero, suc, ◌<◌, ◌≤◌, Bool, true, false, not, ◌&&◌, ◌==◌, List, [], ◌∷◌, ◌++◌, length, map, get_or, slice_get, Option, Some, None, refl, sym, subst, ◌∙◌, inl, inr, arith, ℤ, pos, neg_ℤ, nat_abs, ◌↔◌}
+use Rattle.std.specs.Prelude.{IsTrue, if◌then◌else◌, nat_le}
+use Rattle.std.proofs.lemmas.List.Folds.{list_all-append}
+use Rattle.std.proofs.lemmas.Bool.{and_parts, and_from, or_cases, leb-true, both_ways, not_from_false, true_from_ne_false, false_from_ne_true, eqb-true}
+use Rattle.mono_base.specs.Literal.{lit_true, clause_true, all_true, has_lit, var_of}
+use Rattle.mono_base.proofs.Truth.{true_by, same_lit, pos_true, neg_true}
+use Rattle.mono_graph.specs.Digraph.{Digraph, IsGraph, IsSubpart, enabled}
+use Rattle.mono_graph.proofs.Parts.{part_by-larger, length-part_by}
+use Rattle.mono_problem.specs.declared.atom.Atom.{Atom}
+use Rattle.mono_problem.specs.Instance.{Instance, graph_at, no_graph, numbered}
+use Rattle.mono_problem.specs.WellFormed.{IsInstance, IsOver}
+use Rattle.mono_problem.specs.Holds.{HoldsAtom, Agrees, Satisfies, HasNoModel}
+use Rattle.mono_problem.proofs.Monotone.{Holds-larger}
+use Rattle.mono_steps.specs.declared.lemma.Lemma.{Lemma}
+use Rattle.mono_steps.specs.declared.step.Step.TheVariants as step
+use Rattle.mono_steps.specs.ChainSteps.{names_vars}
+use Rattle.mono_steps.specs.Witnesses.{serves, is_shown, is_positive, is_small, names_known, passes, part_not, part_free, part_for, owed_lit, has_owed, justifies_by, justifies}
+use Rattle.mono_steps.specs.Steps.{AnyStep, LemmaStep, ChainStep, clause_of, is_justified_step, are_justified_after, are_justified, is_empty_chain, ends_empty, is_refutation}
+use Rattle.mono_steps.proofs.Witnessed.{positive_holds, negative_excludes}
+use Rattle.mono_steps.proofs.Soundness.{step_true as chain_true}
+
+-- ---- items of a number
+
+record StandsAt {A : Type 0} (xs : List A) (k : ℕ) (x : A) : Type 0 where
+  low : k < length xs
+  is : get_or xs k x ≡ x
+
+stands_at : {A : Type 0} (xs : List A) (k : ℕ) (x : A) → slice_get xs k ≡ Some x → StandsAt xs k x
+stands_at [] k x e = absurd cc
+stands_at (y ∷ ys) zero x e = record { low = omega arith; is = cc }
+stands_at (y ∷ ys) (suc k) x e = let r = stands_at ys k x e in record { low = omega (arith, r.low); is = r.is }
+
+-- what holds at every place holds of the item of a number
+of_numbered : {A : Type 0} (P : A → Type 0) (xs : List A) (n : ℕ) (x : A) → ((k : ℕ) (d : A) → k < length xs → P (get_or xs k d)) → numbered xs n ≡ Some x → P x
+of_numbered P xs zero x h e = absurd cc
+of_numbered P xs (suc k) x h e = let r = stands_at xs k x e in subst P r.is (h k x r.low)
+
+-- ---- a false clause
+
+-- a literal of a false clause is false
+false_lit : (a : ℕ → Bool) (c : List ℤ) (l : ℤ) → clause_true a c ≡ false → IsTrue (has_lit c l) → lit_true a l ≡ false
+false_lit a c l f h = false_from_ne_true (lit_true a l) (λ t. both_ways (clause_true a c) f (true_by a l c h t))
+
+-- the variable of a literal of the clause is one of the problem's
+var_low : (p : Instance) (c : List ℤ) (l : ℤ) → IsTrue (names_vars p c) → IsTrue (has_lit c l) → 0 < var_of l
+var_low p [] l n h = absurd cc
+var_low p (m ∷ ms) l n h =
+    let a = and_parts (nat_le 1 (var_of m) && nat_le (var_of m) p.vars) (names_vars p ms) n in
+    elim (or_cases _ (has_lit ms l) h) [
+      | inl e ↦ let ge : 1 ≤ var_of m = leb-true 1 (var_of m) (and_parts (nat_le 1 (var_of m)) (nat_le (var_of m) p.vars) a.0).0 in
+          subst (λ (k : ℤ). 0 < var_of k) (sym (same_lit l m e)) (omega arith)
+      | inr e ↦ var_low p ms l a.1 e
+    ]
+
+nat_abs-neg : (x : ℕ) → nat_abs (neg_ℤ (pos x)) ≡ x
+nat_abs-neg zero = refl
+nat_abs-neg (suc n) = refl
+
+-- a false clause with the literal says what its variable is
+off_by : (p : Instance) (a : ℕ → Bool) (c : List ℤ) (x : ℕ) → IsTrue (names_vars p c) → clause_true a c ≡ false → IsTrue (has_lit c (pos x)) → a x ≡ false
+off_by p a c x names f h = sym (pos_true a x (var_low p c (pos x) names h)) ∙ false_lit a c (pos x) f h
+
+on_by : (p : Instance) (a : ℕ → Bool) (c : List ℤ) (x : ℕ) → IsTrue (names_vars p c) → clause_true a c ≡ false → IsTrue (has_lit c (neg_ℤ (pos x))) → IsTrue (a x)
+on_by p a c x names f h =
+    let positive : 0 < x = subst (λ (n : ℕ). 0 < n) (nat_abs-neg x) (var_low p c (neg_ℤ (pos x)) names h) in
+    let off : not (a x) ≡ false = sym (neg_true a x positive) ∙ false_lit a c (neg_ℤ (pos x)) f h in
+    true_from_ne_false (a x) (λ e. both_ways (not (a x)) off (not_from_false (a x) e))
+
+-- where a clause is false, the edges whose negated variable it has are enabled, and the enabled ones are among those whose variable it lacks
+part_not-enabled : (p : Instance) (a : ℕ → Bool) (c : List ℤ) (g : Digraph) → IsTrue (names_vars p c) → clause_true a c ≡ false → IsSubpart (part_not c g) (enabled a g)
+part_not-enabled p a c g names f = part_by-larger (λ e. has_lit c (neg_ℤ (pos e.var))) (λ e. a e.var) g (λ e h. on_by p a c e.var names f h)
+
+enabled-part_free : (p : Instance) (a : ℕ → Bool) (c : List ℤ) (g : Digraph) → IsTrue (names_vars p c) → clause_true a c ≡ false → IsSubpart (enabled a g) (part_free c g)
+enabled-part_free p a c g names f = part_by-larger (λ e. a e.var) (λ e. not (has_lit c (pos e.var))) g
+    (λ e h. not_from_false (has_lit c (pos e.var)) (false_from_ne_true (has_lit c (pos e.var)) (λ has. both_ways (a e.var) (off_by p a c e.var names f has) h)))
+
+-- ---- lemmas
+
+record Parts (p : Instance) (x : Atom) (l : Lemma) : Type 0 where
+  names : IsTrue (names_vars p l.clause)
+  has : IsTrue (has_lit l.clause (owed_lit x l.witness))
+  passed : IsTrue (passes (graph_at p x.graph) (part_for l.clause (graph_at p x.graph) l.witness) x.predicate l.witness)
+
+parts_of : (p : Instance) (x : Atom) (l : Lemma) → IsTrue (justifies_by p x l) → Parts p x l
+parts_of p x l h =
+    let g : Digraph = graph_at p x.graph in
+    let a = and_parts (names_vars p l.clause) (is_shown g x l) h in
+    let b = and_parts (serves l.witness x.predicate && names_known g l.witness && is_small l.witness) (has_owed g x l.clause l.witness) a.1 in
+    let c = and_parts (has_lit l.clause (owed_lit x l.witness)) (passes g (part_for l.clause g l.witness) x.predicate l.witness) b.1 in
+    record { names = a.0; has = c.0; passed = c.1 }
+
+lemma_true_by : (p : Instance) (a : ℕ → Bool) (x : Atom) (l : Lemma) → IsGraph (graph_at p x.graph) → IsOver (graph_at p x.graph) x.predicate
+    → (IsTrue (a x.var) ↔ HoldsAtom p a x) → IsTrue (justifies_by p x l) → IsTrue (clause_true a l.clause)
+lemma_true_by p a x l ok over agrees h = true_from_ne_false (clause_true a l.clause) (λ f. never (parts_of p x l h) f (is_positive l.witness) refl)
+  where
+    g : Digraph
+    g = graph_at p x.graph
+
+    c : List ℤ
+    c = l.clause
+
+    never : Parts p x l → clause_true a c ≡ false → (b : Bool) → is_positive l.witness ≡ b → ⊥
+    never k f true e =
+        let has : IsTrue (has_lit c (pos x.var)) = subst (λ (b : Bool). IsTrue (has_lit c (if b then pos x.var else neg_ℤ (pos x.var)))) e k.has in
+        let passed : IsTrue (passes g (part_not c g) x.predicate l.witness) = subst (λ (b : Bool). IsTrue (passes g (if b then part_not c g else part_free c g) x.predicate l.witness)) e k.passed in
+        let holds = Holds-larger g (part_not c g) (enabled a g) (part_not-enabled p a c g k.names f) x.predicate (positive_holds g (part_not c g) x.predicate l.witness e passed) in
+        both_ways (a x.var) (off_by p a c x.var k.names f has) (agrees.1 holds)
+    never k f false e =
+        let has : IsTrue (has_lit c (neg_ℤ (pos x.var))) = subst (λ (b : Bool). IsTrue (has_lit c (if b then pos x.var else neg_ℤ (pos x.var)))) e k.has in
+        let passed : IsTrue (passes g (part_free c g) x.predicate l.witness) = subst (λ (b : Bool). IsTrue (passes g (if b then part_not c g else part_free c g) x.predicate l.witness)) e k.passed in
+        let holds = Holds-larger g (enabled a g) (part_free c g) (enabled-part_free p a c g k.names f) x.predicate (agrees.0 (on_by p a c x.var k.names f has)) in
+        negative_excludes g (part_free c g) x.predicate l.witness ok over (length-part_by (λ d. not (has_lit c (pos d.var))) g) e passed holds
+
+pub lemma_true : (p : Instance) (a : ℕ → Bool) (l : Lemma) → IsInstance p → Agrees p a → IsTrue (justifies p l) → IsTrue (clause_true a l.clause)
+lemma_true p a l ok agrees h = by_atom (numbered p.atoms l.atom) refl h
+  where
+    by_atom : (o : Option Atom) → numbered p.atoms l.atom ≡ o → IsTrue (elim o [ None ↦ false | Some x ↦ justifies_by p x l ]) → IsTrue (clause_true a l.clause)
+    by_atom None e h = absurd cc
+    by_atom (Some x) e h =
+        let held : (x.graph < length p.graphs) × IsOver (graph_at p x.graph) x.predicate =
+        of_numbered (λ (y : Atom). (y.graph < length p.graphs) × IsOver (graph_at p y.graph) y.predicate) p.atoms l.atom x (λ k d lt. let i = ok.atoms k d lt in (i.graph, i.over)) e in
+        let graph = ok.graphs x.graph no_graph held.0 in
+        lemma_true_by p a x l graph.graph held.1 (of_numbered (λ y. IsTrue (a y.var) ↔ HoldsAtom p a y) p.atoms l.atom x agrees e) h
+
+-- ---- steps
+
+step_true : (p : Instance) (a : ℕ → Bool) (earlier : List (List ℤ)) (s : AnyStep) → IsInstance p → Agrees p a → IsTrue (all_true a earlier) → IsTrue (is_justified_step p earlier s)
+    → IsTrue (clause_true a (clause_of s))
+step_true p a earlier (LemmaStep l) ok agrees h j = lemma_true p a l ok agrees j
+step_true p a earlier (ChainStep c) ok agrees h j = chain_true p a earlier (step.Chain c) h j
+
+steps_true : (p : Instance) (a : ℕ → Bool) (earlier : List (List ℤ)) (ss : List AnyStep) → IsInstance p → Agrees p a → IsTrue (are_justified_after p earlier ss) → IsTrue (all_true a earlier)
+    → IsTrue (all_true a (map clause_of ss))
+steps_true p a earlier [] ok agrees j h = refl
+steps_true p a earlier (s ∷ ss) ok agrees j h =
+    let b = and_parts (is_justified_step p earlier s) (are_justified_after p (earlier ++ clause_of s ∷ []) ss) j in
+    let t = step_true p a earlier s ok agrees h b.0 in
+    let more : IsTrue (all_true a (earlier ++ clause_of s ∷ [])) =
+    list_all-append (clause_true a) earlier (clause_of s ∷ []) ∙ and_from (all_true a earlier) (all_true a (clause_of s ∷ [])) h (and_from (clause_true a (clause_of s)) true t refl) in
+    and_from (clause_true a (clause_of s)) (all_true a (map clause_of ss)) t (steps_true p a (earlier ++ clause_of s ∷ []) ss ok agrees b.1 more)
+
+pub justified_true : (p : Instance) (a : ℕ → Bool) (ss : List AnyStep) → IsInstance p → IsTrue (are_justified p ss) → Satisfies p a → IsTrue (all_true a (map clause_of ss))
+justified_true p a ss ok j s = steps_true p a p.clauses ss ok s.1 j s.0
+
+empty_false : (a : ℕ → Bool) (s : AnyStep) → IsTrue (is_empty_chain s) → IsTrue (clause_true a (clause_of s)) → ⊥
+empty_false a (LemmaStep l) e h = absurd cc
+empty_false a (ChainStep c) e h = no_literal c.clause e h
+  where
+    no_literal : (ls : List ℤ) → IsTrue (length ls == 0) → IsTrue (clause_true a ls) → ⊥
+    no_literal [] e h = cc
+    no_literal (m ∷ ms) e h = let z : suc (length ms) ≡ 0 = eqb-true (suc (length ms)) 0 e in omega arith
+
+not_all_true : (a : ℕ → Bool) (ss : List AnyStep) → IsTrue (ends_empty ss) → IsTrue (all_true a (map clause_of ss)) → ⊥
+not_all_true a [] e h = cc
+not_all_true a (s ∷ []) e h = empty_false a s e (and_parts (clause_true a (clause_of s)) true h).0
+not_all_true a (s ∷ t ∷ ss) e h = not_all_true a (t ∷ ss) e (and_parts (clause_true a (clause_of s)) (all_true a (map clause_of (t ∷ ss))) h).1
+
+pub refutation_excludes : (p : Instance) (ss : List AnyStep) → IsInstance p → IsTrue (is_refutation p ss) → HasNoModel p
+refutation_excludes p ss ok r a s =
+    let b = and_parts (are_justified p ss) (ends_empty ss) r in
+    not_all_true a ss b.1 (justified_true p a ss ok b.0 s)

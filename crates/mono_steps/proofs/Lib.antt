@@ -1,0 +1,10 @@
+pub mod Sets
+pub mod Resolution
+pub mod Clashes
+pub mod SetSteps
+pub mod Ends
+pub mod Soundness
+pub mod StepFaults
+pub mod Witnessed
+pub mod LemmaFaults
+pub mod LemmaTruth

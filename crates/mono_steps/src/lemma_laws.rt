@@ -1,0 +1,66 @@
+//! What lemmas and steps with lemmas show.
+
+ghost use Rattle.std.specs.Prelude.{◌≡◌, ◌↔◌, ℕ, ℤ, Bool, false, List, length, map, IsTrue, Some, None};
+ghost use Rattle.mono_base.specs.Literal.{clause_true, all_true};
+ghost use Rattle.mono_graph.specs.Digraph.{Digraph, IsGraph, IsSubpart};
+ghost use Rattle.mono_problem.specs.declared.atom.Atom.{Atom};
+ghost use Rattle.mono_problem.specs.declared.atom.Predicate.{Predicate};
+ghost use Rattle.mono_problem.specs.Instance.{Instance, graph_at, numbered};
+ghost use Rattle.mono_problem.specs.WellFormed.{IsInstance, IsOver};
+ghost use Rattle.mono_problem.specs.Holds.{Holds, HasNoModel, Agrees, Satisfies};
+ghost use Rattle.mono_steps.specs.declared.lemma.Lemma.{Lemma};
+ghost use Rattle.mono_steps.specs.declared.lemma.Witness.{Witness};
+ghost use Rattle.mono_steps.specs.ChainSteps.{names_vars};
+ghost use Rattle.mono_steps.specs.Witnesses.{is_positive, is_small, serves, passes, best_part, is_shown, justifies, lemma_fault};
+ghost use Rattle.mono_steps.specs.Steps.{AnyStep, clause_of, are_justified, is_refutation};
+
+/// A `Path`, `Flow` or `Tree` that passes over a part shows that the predicate holds there. A witness of another word
+/// that passes shows that it fails there.
+pub fn passing_witnesses_decide()
+    ensures holds { (g : Digraph) (P : List Bool) (q : Predicate) (w : Witness) → IsTrue (is_positive w) → IsTrue (passes g P q w) → Holds g P q }
+    ensures fails { (g : Digraph) (P : List Bool) (q : Predicate) (w : Witness) → IsGraph g → IsOver g q → length P ≡ length g.edges → is_positive w ≡ false → IsTrue (passes g P q w) → ¬ Holds g P q }
+{}
+
+/// What a `Path`, `Flow` or `Tree` passes over, it passes over each larger part of. A witness of another word passes over
+/// each smaller part. So over two parts with the same edges a witness passes or fails alike.
+pub fn witnesses_are_monotonic()
+    ensures larger { (g : Digraph) (P Q : List Bool) (q : Predicate) (w : Witness) → IsSubpart P Q → IsTrue (is_positive w) → IsTrue (passes g P q w) → IsTrue (passes g Q q w) }
+    ensures smaller { (g : Digraph) (P Q : List Bool) (q : Predicate) (w : Witness) → IsSubpart P Q → is_positive w ≡ false → IsTrue (passes g Q q w) → IsTrue (passes g P q w) }
+    ensures same { (g : Digraph) (P Q : List Bool) (q : Predicate) (w : Witness) → IsSubpart P Q → IsSubpart Q P → passes g P q w ≡ passes g Q q w }
+{}
+
+/// A witness passes only where its word serves the predicate.
+pub fn passing_witnesses_serve()
+    ensures { (g : Digraph) (P : List Bool) (q : Predicate) (w : Witness) → IsTrue (passes g P q w) → IsTrue (serves w q) }
+{}
+
+/// A witness that fails over the part that is best for its word passes over no part.
+pub fn best_part_decides_failure()
+    ensures { (g : Digraph) (P : List Bool) (q : Predicate) (w : Witness) → length P ≡ length g.edges → passes g (best_part g w) q w ≡ false → passes g P q w ≡ false }
+{}
+
+/// A lemma is justified exactly where its labels and amounts are at most 2^60 and it has no fault.
+pub fn no_fault_is_justified_lemma()
+    ensures { (p : Instance) (l : Lemma) → IsTrue (justifies p l) ↔ (IsTrue (is_small l.witness) × (lemma_fault p l ≡ None)) }
+{}
+
+/// A lemma that a graph and a predicate alone show is justified in each problem that has the predicate, over that graph,
+/// and the variables of the lemma's clause.
+pub fn shown_lemmas_are_justified()
+    ensures { (p : Instance) (x : Atom) (l : Lemma) → numbered p.atoms l.atom ≡ Some x → IsTrue (names_vars p l.clause) → IsTrue (is_shown (graph_at p x.graph) x l) → IsTrue (justifies p l) }
+{}
+
+/// The clause of a justified lemma is true in each assignment that agrees with the graphs.
+pub fn lemmas_are_true()
+    ensures { (p : Instance) (a : ℕ → Bool) (l : Lemma) → IsInstance p → Agrees p a → IsTrue (justifies p l) → IsTrue (clause_true a l.clause) }
+{}
+
+/// The clauses of justified steps are true in each assignment that satisfies the problem.
+pub fn justified_steps_are_true()
+    ensures { (p : Instance) (a : ℕ → Bool) (steps : List AnyStep) → IsInstance p → IsTrue (are_justified p steps) → Satisfies p a → IsTrue (all_true a (map clause_of steps)) }
+{}
+
+/// Where there is a refutation, no assignment satisfies the problem.
+pub fn refutation_means_no_model()
+    ensures { (p : Instance) (steps : List AnyStep) → IsInstance p → IsTrue (is_refutation p steps) → HasNoModel p }
+{}

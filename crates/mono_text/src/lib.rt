@@ -1,0 +1,35 @@
+//! Lines, tokens and numbers of a text, read without memory, and numbers written.
+//!
+//! The formats read here are lists of lines, and a line is a list of tokens. Both come from iterators
+//! over the bytes that are there: a line and a token are slices of the text. Numbers may have any
+//! number of digits, and their value alone decides whether they are within a limit.
+#![tactic(auto)]
+
+/// Numbers appended to a text.
+mod decimal;
+/// The numbers behind a line's first tokens.
+mod field;
+/// What the definitions say, worked out, and what is written read back.
+mod laws;
+/// A line with its number.
+mod line;
+/// The lines of a text.
+mod lines;
+/// Naturals and signed numbers.
+mod number;
+/// Tables that were worked by hand.
+#[cfg(test)]
+mod tests;
+/// The tokens of a line.
+mod tokens;
+
+pub use decimal::{push_natural, push_signed};
+pub use field::{FieldRefusal, fields};
+pub use laws::{
+    natural_of_decimal, printed_numbers, signed_of_decimal, worked_lines, worked_numbers,
+    worked_tokens,
+};
+pub use line::Line;
+pub use lines::Lines;
+pub use number::{NumberRefusal, natural, signed};
+pub use tokens::Tokens;

@@ -1,0 +1,93 @@
+//! The tokens of a line.
+//!
+//! A token is a longest run of bytes that are no blanks, and `Tokens` keeps what is left of the line.
+//! To give one it passes the blanks, and cuts at the first blank after them.
+
+ghost use Rattle.std.specs.Prelude.{◌≡◌, position, not, drop};
+ghost use Rattle.std.specs.List.{before_first, after_first, position_or_len};
+ghost use Rattle.mono_text.specs.Text.{is_blank as is_blank_byte, tokens_of};
+
+use std::marker::Model;
+
+/// The tokens of a line that are left, in order. It takes no memory, and each byte is read once.
+#[derive(Drop)]
+pub struct Tokens<'a> {
+    rest: &'a [u8],
+}
+
+impl<'a> Model for Tokens<'a> {
+    ghost use Rattle.std.specs.Prelude.{List, ℕ};
+    ghost use Rattle.mono_text.specs.Text.{tokens_of};
+
+    ghost Value = { List (List ℕ) };
+
+    ghost view = { λ t. tokens_of t.rest.now };
+}
+
+fn is_blank(byte: u8) -> bool
+    ensures { result ≡ is_blank_byte byte }
+{
+    byte == b' ' || byte == b'\t' || byte == b'\r'
+}
+
+fn first_blank(text: &[u8]) -> Option<usize>
+    ensures { result ≡ position is_blank_byte text.now }
+{
+    text.iter().position(|byte| is_blank(*byte))
+}
+
+fn first_of_token(text: &[u8]) -> Option<usize>
+    ensures { result ≡ position (λ b. not (is_blank_byte b)) text.now }
+{
+    text.iter().position(|byte| !is_blank(*byte))
+}
+
+// The text without the blanks that it begins with.
+fn without_blanks(text: &[u8]) -> &[u8]
+    ensures { result.now ≡ drop (position_or_len (λ b. not (is_blank_byte b)) text.now) text.now }
+{
+    match first_of_token(text) {
+        Some(start) => &text[start..],
+        None => &[],
+    }
+}
+
+// What stands before the first blank, and what follows it.
+fn split_at_blank(text: &[u8]) -> (&[u8], &[u8])
+    ensures before { result.0.now ≡ before_first is_blank_byte text.now }
+    ensures after { result.1.now ≡ after_first is_blank_byte text.now }
+{
+    match first_blank(text) {
+        Some(end) => (&text[..end], &text[end + 1..]),
+        None => (text, &[]),
+    }
+}
+
+impl<'a> Tokens<'a> {
+    /// All tokens of a line's text.
+    pub fn new(text: &'a [u8]) -> Tokens<'a>
+        ensures { result ≡ tokens_of text.now }
+    {
+        Tokens { rest: text }
+    }
+}
+
+impl<'a> Iterator for Tokens<'a> {
+    ghost use Rattle.std.specs.Iterator.{YieldsFirstBy, item_count};
+
+    type Item = &'a [u8];
+
+    ghost next_gives = { YieldsFirstBy (λ token. token.now) (λ rest. rest) };
+
+    ghost remaining = { item_count (λ rest. rest) };
+
+    fn next(&mut self) -> Option<&'a [u8]> {
+        self.rest = without_blanks(self.rest);
+        if self.rest.is_empty() {
+            return None;
+        }
+        let (token, rest) = split_at_blank(self.rest);
+        self.rest = rest;
+        Some(token)
+    }
+}
