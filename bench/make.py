@@ -2,8 +2,8 @@
 
 clauses     8,000,000 clauses of 16,000,000 literals, and a model of them
 graph       1,000,000 edges, 100,000 predicates and 8,000,000 clauses
-chain       a chain of implications over 1,000,000 variables, and its refutation step by step
-pigeons     n + 1 pigeons in n holes, and a resolution refutation, written out (pass n, by default 7)
+chain       a chain of implications over 1,000,000 variables, and a refutation of more than 100 MB, step by step
+pigeons     n + 1 pigeons in n holes, and a resolution refutation, written out (pass n, by default 8)
 """
 
 import os
@@ -34,8 +34,8 @@ def graph(folder):
 
 
 def chain(folder):
-    # 1, 1 -> 2, .., n-1 -> n, -n: step i derives the unit clause i + 1 from i and the implication.
-    n = 1_000_000
+    # 1, 1 -> 2, .., n-1 -> n, -n: a step derives the unit clause i + 1 from i and the implication. Each pass begins anew.
+    n, passes = 1_000_000, 4
     with open(os.path.join(folder, "f"), "w") as out:
         out.write("1 0\n")
         for i in range(1, n):
@@ -43,10 +43,13 @@ def chain(folder):
         out.write("-%d 0\n" % n)
     with open(os.path.join(folder, "a"), "w") as out:
         out.write("s UNSATISFIABLE\n")
-        last = 1
-        for i in range(1, n):
-            out.write("chain %d 0 %d %d\n" % (i + 1, last, i + 1))
-            last = n + 1 + i
+        number = n + 1
+        for _ in range(passes):
+            last = 1
+            for i in range(1, n):
+                out.write("chain %d 0 %d %d\n" % (i + 1, last, i + 1))
+                number += 1
+                last = number
         out.write("chain 0 %d %d\n" % (last, n + 1))
 
 
@@ -94,7 +97,7 @@ def main():
     kind, folder = sys.argv[1], sys.argv[2]
     os.makedirs(folder, exist_ok=True)
     if kind == "pigeons":
-        pigeons(folder, int(sys.argv[3]) if len(sys.argv) > 3 else 7)
+        pigeons(folder, int(sys.argv[3]) if len(sys.argv) > 3 else 8)
     else:
         {"clauses": clauses, "graph": graph, "chain": chain}[kind](folder)
 

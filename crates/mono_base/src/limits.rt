@@ -32,3 +32,12 @@ pub const MAX_WEIGHT: u64 = 4_294_967_295;
 
 /// The bound of a predicate, as it is written: 2^53.
 pub const MAX_BOUND: u64 = 9_007_199_254_740_992;
+
+// The comments name these four as powers of two.
+const _: () = prove!(MAX_INPUT_BYTES == 1 << 28);
+
+const _: () = prove!(MAX_ANSWER_BYTES == 1 << 30);
+
+const _: () = prove!(MAX_WEIGHT == (1 << 32) - 1);
+
+const _: () = prove!(MAX_BOUND == 1 << 53);

@@ -2,6 +2,7 @@
 
 ghost use Rattle.std.specs.Prelude.{◌≡◌, ◌<◌, ◌≤◌, ◌↔◌, ℤ, pos, neg_ℤ, nat_abs, int_lt, IsSome, IfSome};
 
+use crate::limits::MAX_VARS;
 use std::marker::Model;
 
 /// A literal: the number of its variable, from 1 to 1,000,000, or that number's negative.
@@ -30,7 +31,7 @@ impl Lit {
         ensures value { IfSome result (λ l. l ≡ n) }
         ensures within { IsSome result ↔ ((0 < nat_abs n) × (nat_abs n ≤ 1000000)) }
     {
-        if n != 0 && -1_000_000 <= n && n <= 1_000_000 {
+        if n != 0 && n.unsigned_abs() <= MAX_VARS {
             Some(Lit { number: n })
         } else {
             None
@@ -67,5 +68,14 @@ impl Lit {
         Lit {
             number: -self.number,
         }
+    }
+}
+
+impl Default for Lit {
+    ghost is_default = { λ l. l ≡ pos 1 };
+
+    /// Variable 1, true: what stands in the unused places of a small vector.
+    fn default() -> Lit {
+        Lit { number: 1 }
     }
 }

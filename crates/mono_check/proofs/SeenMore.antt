@@ -24,7 +24,8 @@ use Rattle.mono_check.specs.declared.step_lines.StepLines.{StepLines}
 use Rattle.mono_check.specs.declared.values.Values.{Values}
 use Rattle.mono_check.specs.Values.{lits_in, ends_in, literals_in, has_ended, end_line, value_fault, are_values, is_nil}
 use Rattle.mono_check.specs.StepLines.{step_line_fault, reason_of, clauses_in, steps_in, step_in}
-use Rattle.mono_check.specs.Seen.{values_seen, values_after, last_of, AreStepsSeen, AreStepsAfter}
+use Rattle.mono_check.specs.Lines.{last_of}
+use Rattle.mono_check.specs.Seen.{values_seen, values_after, AreStepsSeen, AreStepsAfter}
 
 pub unmapped : {A B : Type 0} (f : A → B) (o : Option A) → option_map f o ≡ None → o ≡ None
 unmapped f None h = refl

@@ -10,6 +10,10 @@ abbrev pub first_fault : (List (ℕ × Option Item) → Option Item → Option R
 first_fault fault before [] = None
 first_fault fault before ((n, i) ∷ ls) = option_or (option_map (λ r. (n, r)) (fault before i)) (first_fault fault (before ++ (n, i) ∷ []) ls)
 
--- the number of the last line, or that of the status line
+-- the number of the last line, if there is one
+abbrev pub last_of : List (ℕ × Option Item) → Option ℕ
+last_of ls = last_or None (map (λ l. l.0) ls)
+
+-- the number of the last line, or that of the status line, line n
 abbrev pub last_line : ℕ → List (ℕ × Option Item) → ℕ
-last_line n ls = unwrap_or (last_or None (map (λ l. l.0) ls)) n
+last_line n ls = unwrap_or (last_of ls) n

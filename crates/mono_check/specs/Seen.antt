@@ -1,6 +1,5 @@
 -- What the checker keeps of the lines so far, and what a line adds to it.
-use Rattle.std.specs.Prelude.{◌≡◌, ℕ, nat_le, Bool, not, ◌&&◌, ◌||◌, neg_ℤ, if◌then◌else◌, ℤ, List, [], ◌∷◌, ◌++◌, map, Option, Some, None, length, ◌==◌, All, unwrap_or}
-use Rattle.std.specs.List.{last_or}
+use Rattle.std.specs.Prelude.{◌≡◌, ℕ, nat_le, Bool, not, ◌&&◌, ◌||◌, neg_ℤ, if◌then◌else◌, ℤ, List, [], ◌∷◌, ◌++◌, Option, Some, None, length, ◌==◌, All, unwrap_or}
 use Rattle.std.specs.Option.{option_or}
 use Rattle.mono_base.specs.Literal.{has_lit, var_of}
 use Rattle.mono_problem.specs.Instance.{Instance}
@@ -15,11 +14,9 @@ use Rattle.mono_check.specs.declared.verdict.Verdict.{Verdict}
 use Rattle.mono_check.specs.declared.verdict.Verdict.TheVariants as verdict
 use Rattle.mono_check.specs.declared.values.Values.{Values}
 use Rattle.mono_check.specs.declared.step_lines.StepLines.{StepLines}
+use Rattle.mono_check.specs.Lines.{last_of}
 use Rattle.mono_check.specs.Values.{lits_in, ends_in, literals_in, end_line}
 use Rattle.mono_check.specs.StepLines.{clauses_in, steps_in}
-
-abbrev pub last_of : List (ℕ × Option Item) → Option ℕ
-last_of ls = last_or None (map (λ l. l.0) ls)
 
 -- ---- the lines of a model
 

@@ -1,6 +1,7 @@
 //! The verdict on an answer.
 //!
-//! The function is named as its answer's type is but for case, so it stays in this module.
+//! The names of the function `verdict` and the type `Verdict` differ only in case, so the two can't stand in one module:
+//! the function has this one.
 
 ghost use Rattle.std.specs.Prelude.{◌≡◌, IfOk};
 ghost use Rattle.mono_check.specs.Verdicts.{verdict_of};

@@ -8,6 +8,7 @@ ghost use Rattle.mono_text.specs.Text.{tokens_of};
 ghost use Rattle.mono_check.specs.Items.{literal_or_zero, clause_number as clause_number_of, literals_of, clause_numbers, kind_of, status_of, values_from, chain_from, lemma_words, item_of, items_in, AreNext};
 
 use crate::item::{Claim, Item, Kind};
+use mono_base::limits::MAX_VARS;
 use mono_base::{Lit, Row};
 use mono_steps::{Chain, Clause};
 use mono_text::{Line, Lines, Tokens, natural, signed};
@@ -20,7 +21,7 @@ fn number(token: &[u8]) -> Option<i32>
     ensures value { result ≡ literal_or_zero token.now }
     ensures within { IfSome result (λ z. nat_abs z ≤ 1000000) }
 {
-    match signed(token, 1_000_000) {
+    match signed(token, u64::from(MAX_VARS)) {
         Ok(number) => Some(number as i32),
         Err(_) => None,
     }

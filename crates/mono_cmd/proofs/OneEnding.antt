@@ -1,5 +1,5 @@
 -- One command over the same told files comes to one ending.
-use Rattle.std.proofs.Common.{◌≡◌, ◌≢◌, ℕ, ◌<◌, ◌≤◌, List, Option, Some, None, IfSome, length, refl, sym, ap, subst, ◌∙◌, inl, inr, arith, IsSome}
+use Rattle.std.proofs.Common.{◌≡◌, ◌≢◌, ℕ, ◌<◌, List, Option, Some, None, length, refl, sym, ap, subst, ◌∙◌, inl, inr, arith}
 use Rattle.std.specs.Prelude.{IsSomeAnd, ◌⊎◌}
 use Rattle.mono_problem.specs.Instance.{Instance}
 use Rattle.mono_gnf.specs.Stands.{Stands}

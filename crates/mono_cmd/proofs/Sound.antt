@@ -1,5 +1,5 @@
 -- An accepted refutation is one of the problem that FILE stands for.
-use Rattle.std.proofs.Common.{◌≡◌, ℕ, ◌+◌, List, [], ◌∷◌, ◌++◌, Option, Some, None, IfSome, length, drop, refl, sym, ap, subst, ◌∙◌, codes, decimal}
+use Rattle.std.proofs.Common.{◌≡◌, ℕ, List, ◌++◌, Option, Some, None, IfSome, refl, sym, ap, subst, ◌∙◌, codes}
 use Rattle.std.specs.Prelude.{slice_index}
 use Rattle.std.proofs.lemmas.Bool.{eqb-false}
 use Rattle.std.proofs.lemmas.List.{append_cancel_left}
@@ -18,7 +18,7 @@ use Rattle.mono_cmd.specs.declared.status.Status.TheVariants as status
 use Rattle.mono_cmd.specs.declared.ending.Ending.{Ending}
 use Rattle.mono_cmd.specs.declared.ending.Ending.TheVariants as ending
 use Rattle.mono_cmd.specs.Endings.{status_of, text_of, verdict_text}
-use Rattle.mono_cmd.specs.Runs.{Writes, Ends, IsJudged, HasProblem, RefutesSoundly}
+use Rattle.mono_cmd.specs.Runs.{Writes, Ends, IsJudged, RefutesSoundly}
 
 -- only one verdict is written so
 only_refutation : (v : Verdict) → verdict_text v ≡ codes "accepted refutation\n" → v ≡ verdict.Refutation

@@ -1,5 +1,5 @@
 -- The command that a list of words is. Each word is the list of its bytes.
-use Rattle.std.specs.Prelude.{ℕ, Bool, true, false, not, ◌&&◌, ◌==◌, if◌then◌else◌, List, [], ◌∷◌, Option, Some, None, codes, bytes_eq}
+use Rattle.std.specs.Prelude.{ℕ, Bool, false, not, ◌&&◌, ◌==◌, if◌then◌else◌, List, [], ◌∷◌, Option, Some, None, codes, bytes_eq}
 use Rattle.mono_cmd.specs.declared.command.Command.{Command}
 use Rattle.mono_cmd.specs.declared.command.Command.TheVariants as command
 

@@ -1,5 +1,5 @@
 -- What a run comes to, by its words and the texts of the files that they name.
-use Rattle.std.specs.Prelude.{◌≡◌, ◌≢◌, ℕ, ◌<◌, ◌≤◌, ◌^◌, ◌⊎◌, List, length, Option, Some, None, IsSome, IfSome, IsSomeAnd, Bool, true, false, IsTrue, codes, ◌++◌}
+use Rattle.std.specs.Prelude.{◌≡◌, ◌≢◌, ℕ, ◌<◌, ◌≤◌, ◌⊎◌, List, length, Option, Some, None, IsSome, IfSome, IsSomeAnd, Bool, true, false, codes, ◌++◌}
 use Rattle.std.specs.Io.KnownBytes.{append_known}
 use Rattle.mono_problem.specs.Instance.{Instance}
 use Rattle.mono_problem.specs.Holds.{HasNoModel}
@@ -9,9 +9,8 @@ use Rattle.mono_gnf.specs.Printed.{printed}
 use Rattle.mono_gnf.specs.declared.fault.GnfFault.{GnfFault}
 use Rattle.mono_check.specs.Verdicts.{verdict_of}
 use Rattle.mono_check.specs.declared.verdict.Verdict.{Verdict}
-use Rattle.mono_check.specs.declared.verdict.Verdict.TheVariants as verdict
 use Rattle.mono_io.specs.Shelf.{Texts, text_named, told_text}
-use Rattle.mono_io.specs.Faults.{Rose}
+use Rattle.mono_io.specs.Faults.{counted}
 use Rattle.mono_io.specs.Sink.{AppendsPrefix}
 use Rattle.mono_cmd.specs.declared.command.Command.{Command}
 use Rattle.mono_cmd.specs.declared.command.Command.TheVariants as command
@@ -88,10 +87,10 @@ pub record IsAnswerTooLong (found : Option Command) (texts : Option Texts) : Typ
   pub longer : IsLonger texts answer answer_limit
 
 -- What a run comes to, by the command that its words are. `before` and `now` are the shelf's counts of faults as the run
--- begins and as it ends: a fault is answered only where the count rose, and every other ending leaves it.
+-- begins and as it ends: a fault is answered at the first call that failed, and every other ending leaves the count.
 abbrev pub Ends : Option Command → Option Texts → ℕ → ℕ → Ending → Type 0
 Ends found texts before now ending.Words = (found ≡ None) × (now ≡ before)
-Ends found texts before now ending.ReadFault = IsSome found × Rose before now
+Ends found texts before now ending.ReadFault = IsSome found × (now ≡ counted before)
 Ends found texts before now ending.TooLong = (IsFileTooLong found texts ⊎ IsAnswerTooLong found texts) × (now ≡ before)
 Ends found texts before now (ending.Refused line fault) = IsRefused found texts line fault × (now ≡ before)
 Ends found texts before now (ending.Judged v) = IsJudged found texts v × (now ≡ before)

@@ -12,9 +12,9 @@ pub mod laws;
 pub mod run;
 /// How a run ends.
 pub mod status;
-/// The words of a command line.
 #[cfg(test)]
 mod tests;
+/// The words of a command line.
 pub mod words;
 
 use mono_io::{FileShelf, StdSink};

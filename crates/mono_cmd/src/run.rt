@@ -4,7 +4,7 @@
 //! refusal in this order decides. All text is made before the first write, so with want of memory nothing was written.
 
 ghost use Rattle.std.specs.Prelude.{◌≡◌, ◌≢◌, Some, IfSome, IsSomeAnd, IsTrue, IfOk, map, string_bytes};
-ghost use Rattle.mono_io.specs.Faults.{Rose};
+ghost use Rattle.mono_io.specs.Faults.{Rose, counted};
 ghost use Rattle.mono_cmd.specs.Commands.{command_of};
 ghost use Rattle.mono_cmd.specs.Runs.{Ends, HoldsText, HoldsFiles, IsHeldWithin, RefutesSoundly, WritesFor, is_answer, ReadsProblem, IsReadingOf, IsFaultless};
 
@@ -33,17 +33,18 @@ enum Reading {
 /// - `Refused` comes exactly where FILE was read whole and has a first fault; its line and name are written.
 /// - `Accepted` and `Rejected` come by the verdict on ANSWER for the problem that FILE stands for, `Printed` with its
 ///   printed form.
-/// - `ReadFault` comes only where the shelf's count of faults rose in this call, and never over a steady shelf that
-///   holds the files. `TooLong` comes only for a file with more bytes than its limit.
-/// - `WriteFault` comes only where the sink's count of faults rose; a prefix of the text that was due was written.
+/// - `ReadFault` comes only where the shelf's count of faults rose in this call, by one, and never over a steady shelf
+///   that holds the files. `TooLong` comes only for a file with more bytes than its limit.
+/// - `WriteFault` comes only where the sink's count of faults rose, by one; a prefix of the text that was due was
+///   written.
 /// - With `Memory` nothing was written.
 pub fn run<S: Shelf, K: Sink>(alloc: Global, words: &[String], shelf: &mut S, out: &mut K) -> Status
     ensures writes { WritesFor (command_of (map string_bytes words.now)) (S.texts shelf.old) (S.faults shelf.old) (S.faults shelf.new) result (K.written out.old) (K.written out.new) }
 
-    ensures write_fault { result ≡ Status.WriteFault → Rose (K.faults out.old) (K.faults out.new) }
+    ensures write_fault { result ≡ Status.WriteFault → K.faults out.new ≡ counted (K.faults out.old) }
     ensures written_whole { result ≢ Status.WriteFault → K.faults out.new ≡ K.faults out.old }
 
-    ensures read_fault { result ≡ Status.ReadFault → Rose (S.faults shelf.old) (S.faults shelf.new) }
+    ensures read_fault { result ≡ Status.ReadFault → S.faults shelf.new ≡ counted (S.faults shelf.old) }
     ensures steady { S.is_steady shelf.old → IfSome (command_of (map string_bytes words.now)) (HoldsFiles (S.texts shelf.old)) → result ≢ Status.ReadFault }
 
     // Over a steady shelf that holds the files, within the limits, with an output that doesn't fail and memory found,

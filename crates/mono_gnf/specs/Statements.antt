@@ -55,6 +55,7 @@ var_limit = 1000000
 abbrev pub wide_limit : ℕ
 wide_limit = 4294967295
 
+-- a predicate's bound
 abbrev pub bound_limit : ℕ
 bound_limit = 9007199254740992
 

@@ -13,13 +13,14 @@ ghost use Rattle.mono_problem.specs.WellFormed.{IsInstance};
 ghost use Rattle.mono_gnf.specs.Printed.{printed, header_line, graph_line, edge_line, edge_numbered, edges_up_to, most_word, most_number, least_word, least_number, predicate_line, atom_line, clause_line};
 
 use mono_base::Lit;
+use mono_base::limits::MAX_BOUND;
 use mono_graph::{Edge, Graph};
 use mono_problem::{Predicate, Problem};
 use mono_text::{push_natural, push_signed};
 use std::alloc::{AllocError, Global};
 
 /// The greatest bound that a line writes.
-const BOUND: i64 = 9_007_199_254_740_992;
+const BOUND: i64 = MAX_BOUND as i64;
 
 // A space and a number, for each of the numbers.
 fn push_numbers(out: &mut Vec<u8>, numbers: &[u64]) -> Result<(), AllocError>

@@ -15,6 +15,9 @@ use crate::refusal::Stop;
 use crate::statement::{Statement, is, statement_in};
 use crate::{GnfFault, GnfRefusal};
 use mono_base::Lit;
+use mono_base::limits::{
+    MAX_ATOMS, MAX_CLAUSES, MAX_EDGES, MAX_GRAPHS, MAX_LITERALS, MAX_NODES, MAX_VARS,
+};
 use mono_problem::{Draft, Predicate, Problem};
 use mono_text::{Line, NumberRefusal, signed};
 use std::alloc::Global;
@@ -119,7 +122,7 @@ impl Reader {
             return Err(Stop::Fault(GnfFault::NodeOutOfRange));
         }
         let totals = self.draft.totals();
-        if totals.graphs >= 1024 || totals.nodes + nodes > 1_000_000 {
+        if totals.graphs >= MAX_GRAPHS || totals.nodes + nodes > MAX_NODES {
             return Err(Stop::Fault(GnfFault::TooMany));
         }
         self.draft.add_graph(id, nodes)?;
@@ -145,7 +148,7 @@ impl Reader {
         if var == 0 {
             return Err(Stop::Fault(GnfFault::BadVariable));
         }
-        if self.draft.totals().edges >= 1_000_000 {
+        if self.draft.totals().edges >= MAX_EDGES {
             return Err(Stop::Fault(GnfFault::TooMany));
         }
         self.draft.add_edge(place, from, to, var, weight)?;
@@ -184,7 +187,7 @@ impl Reader {
         if same_ends(predicate) {
             return Err(Stop::Fault(GnfFault::SameEnds));
         }
-        if self.draft.totals().atoms >= 100_000 {
+        if self.draft.totals().atoms >= MAX_ATOMS {
             return Err(Stop::Fault(GnfFault::TooMany));
         }
         self.draft.add_atom(place, var, predicate)?;
@@ -226,7 +229,7 @@ impl Reader {
     fn end_clause(&mut self) -> Result<(), Stop>
         ensures { Moves (put_number self.old.last self.old (pos 0)) self.new result }
     {
-        if self.draft.totals().clauses >= 8_000_000 {
+        if self.draft.totals().clauses >= MAX_CLAUSES {
             return Err(Stop::Fault(GnfFault::TooMany));
         }
         self.draft.add_clause(self.row.as_slice())?;
@@ -238,7 +241,9 @@ impl Reader {
         requires { lit ≢ pos 0 }
         ensures { Moves (put_number line self.old lit) self.new result }
     {
-        if self.draft.totals().literals as usize + self.row.as_slice().len() >= 16_000_000 {
+        if self.draft.totals().literals as usize + self.row.as_slice().len()
+            >= MAX_LITERALS as usize
+        {
             return Err(Stop::Fault(GnfFault::TooMany));
         }
         match self.row.push(lit) {
@@ -253,7 +258,7 @@ impl Reader {
     fn read_number(&mut self, token: &[u8], line: u64) -> Result<(), Stop>
         ensures { Moves (read_number line self.old token.now) self.new result }
     {
-        match signed(token, 1_000_000) {
+        match signed(token, u64::from(MAX_VARS)) {
             Err(NumberRefusal::NotNumber) => Err(Stop::Fault(GnfFault::NotNumber)),
             Err(NumberRefusal::TooLarge) => Err(Stop::Fault(GnfFault::TooLarge)),
             Ok(number) => match Lit::new(number as i32) {

@@ -9,17 +9,15 @@ ghost use Rattle.mono_gnf.specs.Within.{IsWithin};
 ghost use Rattle.mono_problem.specs.WellFormed.{IsMost, IsLeast};
 
 use crate::GnfFault;
+use mono_base::limits::{MAX_BOUND as BOUND, MAX_VARS};
 use mono_problem::Predicate;
 use mono_text::{FieldRefusal, Line, fields};
 
 /// The limit of a number of variables or nodes, and of a variable.
-const VARS: u64 = 1_000_000;
+const VARS: u64 = MAX_VARS as u64;
 
 /// The limit of an identity, a node, a weight and a count that is advice.
 const WIDE: u64 = 4_294_967_295;
-
-/// The limit of a predicate's bound.
-const BOUND: u64 = 9_007_199_254_740_992;
 
 /// The words of word lines. The flag of a bound says that the bound itself is excluded.
 #[derive(Clone, Copy)]

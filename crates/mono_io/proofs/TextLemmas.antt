@@ -9,9 +9,19 @@ use Rattle.std.proofs.lemmas.Bool.Decides.{nat_tests}
 use Rattle.std.proofs.lemmas.Slice.Eq.{bytes_eq-Decides}
 use Rattle.mono_io.specs.Entries.{texts_of}
 use Rattle.mono_io.specs.Shelf.{Texts, text_named}
-use Rattle.mono_io.specs.Texts.{entry_at, IsAbsent, IsFirst, StandsAt, Puts}
+use Rattle.mono_io.specs.Texts.{entry_at, StandsAt, Puts}
 use Rattle.std.specs.declared.alloc.Global.{Global}
 use Rattle.mono_io.specs.declared.text_table.Entry.{Entry}
+
+-- no text has that name
+abbrev IsAbsent : Texts → List ℕ → Type 0
+IsAbsent texts name = (k : ℕ) → k < length texts → (entry_at texts k).0 ≡ name → ⊥
+
+-- at this place stands the first text of that name
+record IsFirst (texts : Texts) (name : List ℕ) (at : ℕ) : Type 0 where
+  within : at < length texts
+  named : (entry_at texts at).0 ≡ name
+  before : (k : ℕ) → k < at → (entry_at texts k).0 ≡ name → ⊥
 
 bytes_eq-same : (xs ys : List ℕ) → xs ≡ ys → bytes_eq xs ys ≡ true
 bytes_eq-same xs ys same = (bytes_eq-Decides xs ys).1 same

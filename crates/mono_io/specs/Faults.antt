@@ -9,8 +9,7 @@ counted n = max n (min (n + 1) (2 ^ 64 - 1))
 abbrev pub Rose : ℕ → ℕ → Type 0
 Rose before now = counted before ≤ now
 
--- The count never falls. A call that fails raises it, and one that succeeds leaves it.
+-- A call that fails raises the count by one, and one that succeeds leaves it.
 pub record HasCause {T E : Type 0} (before now : ℕ) (result : Result T E) : Type 0 where
-  pub later : before ≤ now
-  pub failed : OnErr result (Rose before now)
+  pub failed : OnErr result (now ≡ counted before)
   pub succeeded : OnOk result (now ≡ before)

@@ -11,16 +11,6 @@ abbrev pub name_at : Texts → Option ℕ → List ℕ
 name_at texts None = []
 name_at texts (Some at) = (entry_at texts at).0
 
--- no text has that name
-abbrev pub IsAbsent : Texts → List ℕ → Type 0
-IsAbsent texts name = (k : ℕ) → k < length texts → (entry_at texts k).0 ≡ name → ⊥
-
--- at this place stands the first text of that name
-pub record IsFirst (texts : Texts) (name : List ℕ) (at : ℕ) : Type 0 where
-  pub within : at < length texts
-  pub named : (entry_at texts at).0 ≡ name
-  pub before : (k : ℕ) → k < at → (entry_at texts k).0 ≡ name → ⊥
-
 -- at this place stands the text of that name
 pub record StandsAt (texts : Texts) (name : List ℕ) (at : ℕ) : Type 0 where
   pub within : at < length texts

@@ -13,9 +13,11 @@ nothing = record { vars = 0; graphs = []; atoms = []; clauses = [] }
 abbrev pub raised : Instance → ℕ → Instance
 raised p x = record p { vars = max p.vars x }
 
+-- one more graph, of n nodes and no edges
 abbrev pub with_graph : Instance → ℕ → ℕ → Instance
 with_graph p id n = record p { graphs = p.graphs ++ (id, record { nodes = n; edges = [] }) ∷ [] }
 
+-- a graph with one more edge, beside its identity
 abbrev pub graph_with : ℕ × Digraph → Edge → ℕ × Digraph
 graph_with g e = (g.0, record g.1 { edges = g.1.edges ++ e ∷ [] })
 

@@ -12,6 +12,7 @@ pub record Instance : Type 0 where
   pub atoms : List Atom
   pub clauses : List (List ℤ)
 
+-- what stands at a place that no graph has
 abbrev pub no_graph : ℕ × Digraph
 no_graph = (0, record { nodes = 0; edges = [] })
 

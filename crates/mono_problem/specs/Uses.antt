@@ -18,10 +18,11 @@ graph_uses k g = map (edge_use k g) (range_with_len 0 (length g.edges))
 abbrev pub atom_use : Atom → VarUse
 atom_use x = record { var = x.var; at = use_of.Atom x.number }
 
--- the uses of all variables: graph after graph its edges, then the atoms
+-- the uses of the edges of the first n graphs, graph after graph
 abbrev pub edges_used : List (ℕ × Digraph) → ℕ → List VarUse
 edges_used gs n = flat_map (λ k. graph_uses k (slice_index_or gs k no_graph).1) (range_with_len 0 n)
 
+-- the uses of all variables: those of the edges, then those of the atoms
 abbrev pub all_uses : Instance → List VarUse
 all_uses p = edges_used p.graphs (length p.graphs) ++ map atom_use p.atoms
 

@@ -20,6 +20,8 @@ use std::alloc::{AllocError, Global};
 use std::marker::Model;
 
 /// A problem in the making. Contracts see the problem that was made so far.
+///
+/// A call that adds a part answers `AllocError` for want of memory, and then leaves the draft as it was.
 #[derive(Drop)]
 pub struct Draft {
     var_count: u32,
@@ -43,6 +45,7 @@ impl Model for Draft {
     ghost invariant = { IsDraft };
 }
 
+// The greatest variable of the literals, or `vars` where it is greater.
 fn greatest_var(vars: u32, lits: &[Lit]) -> u32
     requires { vars ≤ 1000000 }
     ensures value { result ≡ greatest_of vars lits.now }
@@ -74,6 +77,7 @@ fn add_to(graphs: &mut IndexMap<u32, Graph>, place: u32, edge: Edge) -> Result<(
     }
 }
 
+// Adds the uses of the edges of the graph at a place.
 fn push_edges(all: &mut Vec<VarUse>, graph: &Graph, place: u32) -> Result<(), AllocError>
     ensures { OnOk result (all.new.items ≡ all.old.items ++ graph_uses place graph.now) }
 {
@@ -89,6 +93,7 @@ fn push_edges(all: &mut Vec<VarUse>, graph: &Graph, place: u32) -> Result<(), Al
     Ok(())
 }
 
+// The graph at a place.
 fn held_at(graphs: &IndexMap<u32, Graph>, place: usize) -> &Graph
     requires { place < length graphs.now.entries }
     ensures { result.now ≡ (slice_index_or graphs.now.entries place no_graph).1 }
@@ -99,6 +104,7 @@ fn held_at(graphs: &IndexMap<u32, Graph>, place: usize) -> &Graph
     }
 }
 
+// The uses of all edges, graph after graph.
 fn edges_used(alloc: Global, graphs: &IndexMap<u32, Graph>) -> Result<Vec<VarUse>, AllocError>
     requires { length graphs.now.entries ≤ 1024 }
     ensures { IfOk result (λ all. all.items ≡ uses_of_edges graphs.now.entries (length graphs.now.entries)) }
@@ -110,6 +116,7 @@ fn edges_used(alloc: Global, graphs: &IndexMap<u32, Graph>) -> Result<Vec<VarUse
     Ok(all)
 }
 
+// Adds the uses of the predicates.
 fn push_atoms(all: &mut Vec<VarUse>, atoms: &[Atom]) -> Result<(), AllocError>
     ensures { OnOk result (all.new.items ≡ all.old.items ++ map atom_use atoms.now) }
 {

@@ -1,10 +1,10 @@
 -- The end of a chain, as its numbers are gone through.
-use Rattle.std.proofs.Common.{◌≡◌, ℕ, suc, ◌+◌, ◌<◌, ◌≤◌, Bool, true, false, List, [], ◌∷◌, ◌++◌, filter_map, take, drop, get_or, length, Option, Some, None, refl, sym, ap, subst, ◌∙◌, ℤ, option_and_then, append_assoc, is_none, not, ◌||◌}
+use Rattle.std.proofs.Common.{◌≡◌, ℕ, ◌+◌, ◌<◌, ◌≤◌, Bool, true, false, List, [], ◌∷◌, ◌++◌, take, drop, get_or, length, Option, Some, None, refl, sym, ap, subst, ◌∙◌, ℤ, option_and_then, append_assoc, is_none, not, ◌||◌}
 use Rattle.std.specs.List.{cons_option}
 use Rattle.std.proofs.lemmas.Option.{same_Some}
 use Rattle.std.proofs.lemmas.List.{take_all, take_more, take-append-drop}
 use Rattle.std.proofs.lemmas.List.Elements.{filter_map-append}
-use Rattle.mono_base.specs.Literal.{has_lit, within}
+use Rattle.mono_base.specs.Literal.{within}
 use Rattle.mono_problem.specs.Instance.{Instance, numbered}
 use Rattle.mono_steps.specs.Chains.{resolvent, end_from, chain_end}
 use Rattle.mono_steps.specs.ChainSteps.{clauses_named, covers, names_vars, names_clauses, chain_fault, first_failed}

@@ -10,8 +10,8 @@ use Rattle.mono_problem.specs.Instance.{Instance, graph_at, numbered}
 use Rattle.mono_steps.specs.declared.lemma.Lemma.{Lemma}
 use Rattle.mono_steps.specs.declared.lemma.Witness.{Witness}
 use Rattle.mono_steps.specs.ChainSteps.{names_vars}
-use Rattle.mono_steps.specs.Witnesses.{serves, is_shown, is_positive, is_small, names_known, passes, part_not, part_free, part_for, best_part, owed_lit, has_owed, justifies_by, justifies, LemmaFault, UnknownAtom, WrongKind, UnknownNumber, WitnessFails, MissingLiteral, lemma_fault_by, lemma_fault}
-use Rattle.mono_steps.proofs.Witnessed.{passes-best}
+use Rattle.mono_steps.specs.Witnesses.{serves, is_shown, is_positive, is_small, names_known, passes, part_not, part_free, part_for, easiest_part, predicate_literal, shows_clause, justifies_by, justifies, LemmaFault, UnknownAtom, WrongKind, UnknownNumber, WitnessFails, MissingLiteral, lemma_fault_by, lemma_fault}
+use Rattle.mono_steps.proofs.Witnessed.{passes_over_easiest}
 
 pub length-part_for : (c : List ℤ) (g : Digraph) (w : Witness) → length (part_for c g w) ≡ length g.edges
 length-part_for c g w = by_word (is_positive w)
@@ -20,11 +20,11 @@ length-part_for c g w = by_word (is_positive w)
     by_word true = length-part_by (λ e. has_lit c (neg_ℤ (pos e.var))) g
     by_word false = length-part_by (λ e. not (has_lit c (pos e.var))) g
 
--- a clause that has what it owes has a witness that can pass
-owed_passes : (g : Digraph) (x : Atom) (c : List ℤ) (w : Witness) → IsTrue (has_owed g x c w) → IsTrue (passes g (best_part g w) x.predicate w)
-owed_passes g x c w h = passes-best g (part_for c g w) x.predicate w (length-part_for c g w) (and_parts (has_lit c (owed_lit x w)) (passes g (part_for c g w) x.predicate w) h).1
+-- a clause that has what it needs has a witness that can pass
+needed_passes : (g : Digraph) (x : Atom) (c : List ℤ) (w : Witness) → IsTrue (shows_clause g x c w) → IsTrue (passes g (easiest_part g w) x.predicate w)
+needed_passes g x c w h = passes_over_easiest g (part_for c g w) x.predicate w (length-part_for c g w) (and_parts (has_lit c (predicate_literal x w)) (passes g (part_for c g w) x.predicate w) h).1
 
--- the checks by their results: the word serves, the variables and what the witness names are known, the witness can pass, the clause has what it owes
+-- the checks by their results: the word serves, the variables and what the witness names are known, the witness can pass, the clause has what it needs
 abbrev checked : Bool → Bool → Bool → Bool → Bool → Option LemmaFault
 checked s v k b o = if not s then Some WrongKind else if not (v && k) then Some UnknownNumber else if not b then Some WitnessFails else if not o then Some MissingLiteral else None
 
@@ -45,8 +45,8 @@ justified_no_fault p l = by_atom (numbered p.atoms l.atom)
     by_atom (Some x) =
         let g : Digraph = graph_at p x.graph in
         let w : Witness = l.witness in (
-          λ h. all_pass (names_vars p l.clause) (serves w x.predicate) (names_known g w) (is_small w) (passes g (best_part g w) x.predicate w) (has_owed g x l.clause w) h (owed_passes g x l.clause w),
-          λ h. none_fails (serves w x.predicate) (names_vars p l.clause) (names_known g w) (is_small w) (passes g (best_part g w) x.predicate w) (has_owed g x l.clause w) h.0 h.1,
+          λ h. all_pass (names_vars p l.clause) (serves w x.predicate) (names_known g w) (is_small w) (passes g (easiest_part g w) x.predicate w) (shows_clause g x l.clause w) h (needed_passes g x l.clause w),
+          λ h. none_fails (serves w x.predicate) (names_vars p l.clause) (names_known g w) (is_small w) (passes g (easiest_part g w) x.predicate w) (shows_clause g x l.clause w) h.0 h.1,
         )
 
 -- a lemma that its predicate's graph shows is justified where its variables are the problem's

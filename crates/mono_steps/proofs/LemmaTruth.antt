@@ -15,7 +15,7 @@ use Rattle.mono_problem.proofs.Monotone.{Holds-larger}
 use Rattle.mono_steps.specs.declared.lemma.Lemma.{Lemma}
 use Rattle.mono_steps.specs.declared.step.Step.TheVariants as step
 use Rattle.mono_steps.specs.ChainSteps.{names_vars}
-use Rattle.mono_steps.specs.Witnesses.{serves, is_shown, is_positive, is_small, names_known, passes, part_not, part_free, part_for, owed_lit, has_owed, justifies_by, justifies}
+use Rattle.mono_steps.specs.Witnesses.{serves, is_shown, is_positive, is_small, names_known, passes, part_not, part_free, part_for, predicate_literal, shows_clause, justifies_by, justifies}
 use Rattle.mono_steps.specs.Steps.{AnyStep, LemmaStep, ChainStep, clause_of, is_justified_step, are_justified_after, are_justified, is_empty_chain, ends_empty, is_refutation}
 use Rattle.mono_steps.proofs.Witnessed.{positive_holds, negative_excludes}
 use Rattle.mono_steps.proofs.Soundness.{step_true as chain_true}
@@ -79,15 +79,15 @@ enabled-part_free p a c g names f = part_by-larger (λ e. a e.var) (λ e. not (h
 
 record Parts (p : Instance) (x : Atom) (l : Lemma) : Type 0 where
   names : IsTrue (names_vars p l.clause)
-  has : IsTrue (has_lit l.clause (owed_lit x l.witness))
+  has : IsTrue (has_lit l.clause (predicate_literal x l.witness))
   passed : IsTrue (passes (graph_at p x.graph) (part_for l.clause (graph_at p x.graph) l.witness) x.predicate l.witness)
 
 parts_of : (p : Instance) (x : Atom) (l : Lemma) → IsTrue (justifies_by p x l) → Parts p x l
 parts_of p x l h =
     let g : Digraph = graph_at p x.graph in
     let a = and_parts (names_vars p l.clause) (is_shown g x l) h in
-    let b = and_parts (serves l.witness x.predicate && names_known g l.witness && is_small l.witness) (has_owed g x l.clause l.witness) a.1 in
-    let c = and_parts (has_lit l.clause (owed_lit x l.witness)) (passes g (part_for l.clause g l.witness) x.predicate l.witness) b.1 in
+    let b = and_parts (serves l.witness x.predicate && names_known g l.witness && is_small l.witness) (shows_clause g x l.clause l.witness) a.1 in
+    let c = and_parts (has_lit l.clause (predicate_literal x l.witness)) (passes g (part_for l.clause g l.witness) x.predicate l.witness) b.1 in
     record { names = a.0; has = c.0; passed = c.1 }
 
 lemma_true_by : (p : Instance) (a : ℕ → Bool) (x : Atom) (l : Lemma) → IsGraph (graph_at p x.graph) → IsOver (graph_at p x.graph) x.predicate

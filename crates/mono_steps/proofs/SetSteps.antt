@@ -1,15 +1,15 @@
 -- Resolution on a set of literals: one literal after the other, and one clause after the other.
-use Rattle.std.proofs.Common.{◌≡◌, ℕ, ◌+◌, ◌<◌, ◌≤◌, Bool, true, false, not, ◌&&◌, ◌||◌, cond, List, [], ◌∷◌, ◌++◌, filter, take, get_or, length, Option, Some, None, refl, sym, ap, subst, ◌∙◌, ℤ, pos, neg_ℤ, option_map}
-use Rattle.std.specs.Prelude.{IsTrue, if◌then◌else◌}
+use Rattle.std.proofs.Common.{◌≡◌, ℕ, ◌+◌, ◌<◌, ◌≤◌, Bool, true, false, not, ◌&&◌, ◌||◌, List, ◌++◌, filter, take, get_or, length, Option, Some, None, refl, sym, ap, subst, ◌∙◌, ℤ, pos, neg_ℤ, option_map}
+use Rattle.std.specs.Prelude.{if◌then◌else◌}
 use Rattle.std.specs.Ordering.{int_eq}
 use Rattle.std.proofs.lemmas.Option.{same_Some}
 use Rattle.std.proofs.lemmas.List.{take_all}
 use Rattle.std.proofs.Math.Path.{fun_ext}
 use Rattle.mono_base.specs.Literal.{has_lit, without}
-use Rattle.mono_base.proofs.Truth.{same_lit, lit_itself}
+use Rattle.mono_base.proofs.Truth.{same_lit}
 use Rattle.mono_steps.specs.Chains.{clashing, only_var, joined_at, resolvent}
 use Rattle.mono_steps.specs.Current.{IsSetOf, HasCome}
-use Rattle.mono_steps.proofs.Sets.{has-append, has-without, has-take_more, taken_out, int_eq-sym}
+use Rattle.mono_steps.proofs.Sets.{has-append, has-without, has-take_more, int_eq-sym}
 
 -- ---- one literal after the other
 

@@ -1,10 +1,10 @@
 -- The clauses of justified steps are true wherever every clause of the problem is.
-use Rattle.std.proofs.Common.{◌≡◌, ℕ, suc, zero, Bool, true, false, not, ◌&&◌, ◌==◌, List, [], ◌∷◌, ◌++◌, length, map, filter_map, Option, Some, None, refl, sym, ap, subst, ◌∙◌, inl, inr, ℤ, arith}
+use Rattle.std.proofs.Common.{◌≡◌, ℕ, suc, zero, Bool, true, ◌&&◌, ◌==◌, List, [], ◌∷◌, ◌++◌, length, map, Option, Some, None, refl, subst, ◌∙◌, ℤ, arith}
 use Rattle.std.specs.Prelude.{IsTrue, slice_get}
 use Rattle.std.specs.List.{cons_option}
 use Rattle.std.proofs.lemmas.Bool.{and_parts, and_from, eqb-true}
 use Rattle.std.proofs.lemmas.List.Folds.{list_all-append}
-use Rattle.mono_base.specs.Literal.{clause_true, all_true, has_lit, within}
+use Rattle.mono_base.specs.Literal.{clause_true, all_true}
 use Rattle.mono_base.proofs.Truth.{wider}
 use Rattle.mono_problem.specs.Instance.{Instance, numbered}
 use Rattle.mono_steps.specs.declared.step.Step.{Step}

@@ -19,7 +19,7 @@ use Rattle.mono_problem.specs.WellFormed.{IsOver}
 use Rattle.mono_problem.specs.Holds.{Holds}
 use Rattle.mono_steps.specs.declared.lemma.Witness.{Witness}
 use Rattle.mono_steps.specs.declared.lemma.Witness.TheVariants as by
-use Rattle.mono_steps.specs.Witnesses.{serves, passes, best_part, is_positive, placed, placed_amounts, labels_of}
+use Rattle.mono_steps.specs.Witnesses.{serves, passes, easiest_part, is_positive, placed, placed_amounts, labels_of}
 
 pub positive_holds : (g : Digraph) (P : List Bool) (q : Predicate) (w : Witness) → IsTrue (is_positive w) → IsTrue (passes g P q w) → Holds g P q
 positive_holds g P (kind.Reach u v) (by.Path es) i h = (placed g es, h)
@@ -85,12 +85,12 @@ passes-same g P Q q w there back = elim (cases_Bool (is_positive w)) [
   | inr i ↦ same_truth (passes g P q w) (passes g Q q w) (passes-smaller g Q P q w back i) (passes-smaller g P Q q w there i)
 ]
 
--- what passes over some part passes over the best one
-pub passes-best : (g : Digraph) (P : List Bool) (q : Predicate) (w : Witness) → length P ≡ length g.edges → IsTrue (passes g P q w) → IsTrue (passes g (best_part g w) q w)
-passes-best g P q w fits h = elim (cases_Bool (is_positive w)) [
-  | inl i ↦ passes-larger g P (best_part g w) q w (record { keeps = λ k here. let lt = present_below P k here in part_by-has (λ e. is_positive w) g k (omega (arith, fits, lt)) i }) i h
-  | inr i ↦ passes-smaller g (best_part g w) P q w (record { keeps = λ k here. absurd (both_ways (is_positive w) i (in_part_by (λ e. is_positive w) g k here)) }) i h
+-- what passes over some part passes over the easiest one
+pub passes_over_easiest : (g : Digraph) (P : List Bool) (q : Predicate) (w : Witness) → length P ≡ length g.edges → IsTrue (passes g P q w) → IsTrue (passes g (easiest_part g w) q w)
+passes_over_easiest g P q w fits h = elim (cases_Bool (is_positive w)) [
+  | inl i ↦ passes-larger g P (easiest_part g w) q w (record { keeps = λ k here. let lt = present_below P k here in part_by-has (λ e. is_positive w) g k (omega (arith, fits, lt)) i }) i h
+  | inr i ↦ passes-smaller g (easiest_part g w) P q w (record { keeps = λ k here. absurd (both_ways (is_positive w) i (in_part_by (λ e. is_positive w) g k here)) }) i h
 ]
 
-pub fails-best : (g : Digraph) (P : List Bool) (q : Predicate) (w : Witness) → length P ≡ length g.edges → passes g (best_part g w) q w ≡ false → passes g P q w ≡ false
-fails-best g P q w fits off = false_from_ne_true (passes g P q w) (λ on. both_ways (passes g (best_part g w) q w) off (passes-best g P q w fits on))
+pub fails_everywhere : (g : Digraph) (P : List Bool) (q : Predicate) (w : Witness) → length P ≡ length g.edges → passes g (easiest_part g w) q w ≡ false → passes g P q w ≡ false
+fails_everywhere g P q w fits off = false_from_ne_true (passes g P q w) (λ on. both_ways (passes g (easiest_part g w) q w) off (passes_over_easiest g P q w fits on))

@@ -103,20 +103,20 @@ part_not c g = part_by (λ e. has_lit c (neg_ℤ (pos e.var))) g
 abbrev pub part_free : List ℤ → Digraph → List Bool
 part_free c g = part_by (λ e. not (has_lit c (pos e.var))) g
 
--- the literal of the predicate's variable that the clause owes, and the part over which the witness has to pass
-abbrev pub owed_lit : Atom → Witness → ℤ
-owed_lit x w = if is_positive w then pos x.var else neg_ℤ (pos x.var)
+-- the literal of the predicate's variable that the clause needs, and the part over which the witness has to pass
+abbrev pub predicate_literal : Atom → Witness → ℤ
+predicate_literal x w = if is_positive w then pos x.var else neg_ℤ (pos x.var)
 
 abbrev pub part_for : List ℤ → Digraph → Witness → List Bool
 part_for c g w = if is_positive w then part_not c g else part_free c g
 
 -- the clause has the literal of the predicate's variable, and the witness passes over its part
-abbrev pub has_owed : Digraph → Atom → List ℤ → Witness → Bool
-has_owed g x c w = has_lit c (owed_lit x w) && passes g (part_for c g w) x.predicate w
+abbrev pub shows_clause : Digraph → Atom → List ℤ → Witness → Bool
+shows_clause g x c w = has_lit c (predicate_literal x w) && passes g (part_for c g w) x.predicate w
 
--- the graph and the predicate alone show the lemma: the word serves, what the witness names is there, labels and amounts are small, and the clause has what it owes
+-- the graph and the predicate alone show the lemma: the word serves, what the witness names is there, labels and amounts are small, and the clause has what it needs
 abbrev pub is_shown : Digraph → Atom → Lemma → Bool
-is_shown g x l = serves l.witness x.predicate && names_known g l.witness && is_small l.witness && has_owed g x l.clause l.witness
+is_shown g x l = serves l.witness x.predicate && names_known g l.witness && is_small l.witness && shows_clause g x l.clause l.witness
 
 -- the predicate x of the problem justifies the lemma: the clause is over the problem's variables, and the predicate's graph shows it
 abbrev pub justifies_by : Instance → Atom → Lemma → Bool
@@ -135,17 +135,17 @@ pub data LemmaFault : Type 0 where
   WitnessFails : LemmaFault
   MissingLiteral : LemmaFault
 
--- the part that is best for the word: all edges where it shows that the predicate holds, and else none
-abbrev pub best_part : Digraph → Witness → List Bool
-best_part g w = part_by (λ e. is_positive w) g
+-- the part over which the witness passes if it passes over any: all edges where its word shows that the predicate holds, and else none
+abbrev pub easiest_part : Digraph → Witness → List Bool
+easiest_part g w = part_by (λ e. is_positive w) g
 
 abbrev pub lemma_fault_by : Instance → Atom → Lemma → Option LemmaFault
 lemma_fault_by p x l =
     let g = graph_at p x.graph in
     if not (serves l.witness x.predicate) then Some WrongKind
     else if not (names_vars p l.clause && names_known g l.witness) then Some UnknownNumber
-    else if not (passes g (best_part g l.witness) x.predicate l.witness) then Some WitnessFails
-    else if not (has_owed g x l.clause l.witness) then Some MissingLiteral
+    else if not (passes g (easiest_part g l.witness) x.predicate l.witness) then Some WitnessFails
+    else if not (shows_clause g x l.clause l.witness) then Some MissingLiteral
     else None
 
 abbrev pub lemma_fault : Instance → Lemma → Option LemmaFault

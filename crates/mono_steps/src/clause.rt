@@ -1,15 +1,19 @@
 //! Clauses that a program holds one by one.
 
-ghost use Rattle.std.specs.Prelude.{◌≡◌, IfOk};
+ghost use Rattle.std.specs.Prelude.{◌≡◌, ◌≤◌, length, IfOk, IsOk};
 
 use mono_base::Lit;
+use smallvec::SmallVec;
 use std::alloc::{AllocError, Global};
 use std::marker::Model;
+
+/// So many literals stand in a clause itself, with no allocation.
+const INLINE: usize = 4;
 
 /// A list of literals, read as a set (DIMACS CNF). Contracts see the list.
 #[derive(Drop)]
 pub struct Clause {
-    items: Vec<Lit>,
+    items: SmallVec<Lit, INLINE>,
 }
 
 impl Model for Clause {
@@ -21,12 +25,13 @@ impl Model for Clause {
 }
 
 impl Clause {
-    /// The clause of these literals.
+    /// The clause of these literals. It takes memory only for more than four.
     pub fn from_lits(alloc: Global, lits: &[Lit]) -> Result<Clause, AllocError>
-        ensures { IfOk result (λ clause. clause ≡ lits.now) }
+        ensures value { IfOk result (λ clause. clause ≡ lits.now) }
+        ensures succeeds { length lits.now ≤ 4 → IsOk result }
     {
         Ok(Clause {
-            items: Vec::from_slice(alloc, lits)?,
+            items: SmallVec::from_slice(alloc, lits)?,
         })
     }
 
@@ -37,9 +42,10 @@ impl Clause {
         self.items.as_slice()
     }
 
-    /// Another clause of the same literals, from the same allocator.
+    /// Another clause of the same literals, from the same allocator. It takes memory only for more than four.
     pub fn copy(&self) -> Result<Clause, AllocError>
-        ensures { IfOk result (λ clause. clause ≡ self.now) }
+        ensures value { IfOk result (λ clause. clause ≡ self.now) }
+        ensures succeeds { length self.now ≤ 4 → IsOk result }
     {
         Clause::from_lits(self.allocator(), self.lits())
     }

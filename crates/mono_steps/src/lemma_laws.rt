@@ -11,7 +11,7 @@ ghost use Rattle.mono_problem.specs.Holds.{Holds, HasNoModel, Agrees, Satisfies}
 ghost use Rattle.mono_steps.specs.declared.lemma.Lemma.{Lemma};
 ghost use Rattle.mono_steps.specs.declared.lemma.Witness.{Witness};
 ghost use Rattle.mono_steps.specs.ChainSteps.{names_vars};
-ghost use Rattle.mono_steps.specs.Witnesses.{is_positive, is_small, serves, passes, best_part, is_shown, justifies, lemma_fault};
+ghost use Rattle.mono_steps.specs.Witnesses.{is_positive, is_small, serves, passes, easiest_part, is_shown, justifies, lemma_fault};
 ghost use Rattle.mono_steps.specs.Steps.{AnyStep, clause_of, are_justified, is_refutation};
 
 /// A `Path`, `Flow` or `Tree` that passes over a part shows that the predicate holds there. A witness of another word
@@ -34,9 +34,9 @@ pub fn passing_witnesses_serve()
     ensures { (g : Digraph) (P : List Bool) (q : Predicate) (w : Witness) → IsTrue (passes g P q w) → IsTrue (serves w q) }
 {}
 
-/// A witness that fails over the part that is best for its word passes over no part.
-pub fn best_part_decides_failure()
-    ensures { (g : Digraph) (P : List Bool) (q : Predicate) (w : Witness) → length P ≡ length g.edges → passes g (best_part g w) q w ≡ false → passes g P q w ≡ false }
+/// A witness that fails over the easiest part for its word passes over no part.
+pub fn easiest_part_decides_failure()
+    ensures { (g : Digraph) (P : List Bool) (q : Predicate) (w : Witness) → length P ≡ length g.edges → passes g (easiest_part g w) q w ≡ false → passes g P q w ≡ false }
 {}
 
 /// A lemma is justified exactly where its labels and amounts are at most 2^60 and it has no fault.

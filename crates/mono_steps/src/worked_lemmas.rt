@@ -8,7 +8,7 @@ ghost use Rattle.mono_steps.specs.Witnesses.{justifies, lemma_fault, UnknownAtom
 ghost use Rattle.mono_steps.specs.Steps.{are_justified, is_refutation};
 ghost use Rattle.mono_steps.specs.WorkedLemmas.{asks, of_1, minus, barred, edge_1_reaches, chain};
 
-/// A path may go over an edge again. It owes the edge's literal once, and each time counts.
+/// A path may go over an edge again. It needs the edge's literal once, and each time counts.
 pub fn path_that_repeats_an_edge()
     ensures reach { lemma_fault (asks (round_trip 2 3) (kind.Reach 0 1) 3) (of_1 (minus 1 ∷ minus 2 ∷ pos 3 ∷ []) (by.Path (1 ∷ 2 ∷ 1 ∷ []))) ≡ None }
     ensures justified { justifies (asks (round_trip 2 3) (kind.Reach 0 1) 3) (of_1 (minus 1 ∷ minus 2 ∷ pos 3 ∷ []) (by.Path (1 ∷ 2 ∷ 1 ∷ []))) ≡ true }
@@ -18,17 +18,17 @@ pub fn path_that_repeats_an_edge()
     ensures not_six { lemma_fault (asks (round_trip 2 3) (kind.Distance 0 1 (pos 6)) 3) (of_1 (minus 1 ∷ minus 2 ∷ pos 3 ∷ []) (by.Path (1 ∷ 2 ∷ 1 ∷ []))) ≡ Some WitnessFails }
 {}
 
-/// The empty path leads from a node to itself and owes the predicate's literal alone. It leads to no other node, and no
+/// The empty path leads from a node to itself and needs the predicate's literal alone. It leads to no other node, and no
 /// path meets a bound of -1.
 pub fn empty_path()
     ensures stays { lemma_fault (asks (round_trip 2 3) (kind.Reach 1 1) 3) (of_1 (pos 3 ∷ []) (by.Path [])) ≡ None }
-    ensures owes_its_literal { lemma_fault (asks (round_trip 2 3) (kind.Reach 1 1) 3) (of_1 [] (by.Path [])) ≡ Some MissingLiteral }
+    ensures needs_its_literal { lemma_fault (asks (round_trip 2 3) (kind.Reach 1 1) 3) (of_1 [] (by.Path [])) ≡ Some MissingLiteral }
     ensures wrong_sign { lemma_fault (asks (round_trip 2 3) (kind.Reach 1 1) 3) (of_1 (minus 3 ∷ []) (by.Path [])) ≡ Some MissingLiteral }
     ensures goes_nowhere { lemma_fault (asks (round_trip 2 3) (kind.Reach 0 1) 3) (of_1 (pos 3 ∷ []) (by.Path [])) ≡ Some WitnessFails }
     ensures never_met { lemma_fault (asks (round_trip 2 3) (kind.Steps 0 0 (minus 1)) 3) (of_1 (pos 3 ∷ []) (by.Path [])) ≡ Some WitnessFails }
 {}
 
-/// A path fails where it would with all edges present. Else its clause has all that it owes, or a literal is missing.
+/// A path fails where it would with all edges present. Else its clause has all that it needs, or a literal is missing.
 pub fn failing_and_missing_for_a_path()
     ensures wider { lemma_fault (asks (round_trip 2 3) (kind.Reach 0 1) 3) (of_1 (minus 1 ∷ pos 2 ∷ pos 3 ∷ []) (by.Path (1 ∷ []))) ≡ None }
     ensures no_edge_literal { lemma_fault (asks (round_trip 2 3) (kind.Reach 0 1) 3) (of_1 (pos 3 ∷ []) (by.Path (1 ∷ []))) ≡ Some MissingLiteral }
@@ -49,33 +49,33 @@ pub fn failing_and_missing_for_a_cut()
     ensures end_within { lemma_fault (asks (round_trip 2 3) (kind.Reach 0 1) 3) (of_1 (pos 1 ∷ minus 3 ∷ []) (by.Cut (0 ∷ 1 ∷ []))) ≡ Some WitnessFails }
 {}
 
-/// Labels owe the edges along which they rise by more than the edge costs. A node that isn't listed has the bound plus 1.
+/// Labels need the edges along which they rise by more than the edge costs. A node that isn't listed has the bound plus 1.
 pub fn labels()
-    ensures none_owed { lemma_fault (asks (round_trip 2 3) (kind.Distance 0 1 (pos 1)) 3) (of_1 (minus 3 ∷ []) (by.Label (record { node = 0; value = 0 } ∷ record { node = 1; value = 2 } ∷ []))) ≡ None }
+    ensures none_needed { lemma_fault (asks (round_trip 2 3) (kind.Distance 0 1 (pos 1)) 3) (of_1 (minus 3 ∷ []) (by.Label (record { node = 0; value = 0 } ∷ record { node = 1; value = 2 } ∷ []))) ≡ None }
     ensures unlisted { lemma_fault (asks (round_trip 2 3) (kind.Distance 0 1 (pos 1)) 3) (of_1 (minus 3 ∷ []) (by.Label (record { node = 0; value = 0 } ∷ []))) ≡ None }
     ensures tense { lemma_fault (asks (round_trip 2 3) (kind.Distance 0 1 (pos 1)) 3) (of_1 (minus 3 ∷ []) (by.Label (record { node = 0; value = 0 } ∷ record { node = 1; value = 3 } ∷ []))) ≡ Some MissingLiteral }
-    ensures owed { lemma_fault (asks (round_trip 2 3) (kind.Distance 0 1 (pos 1)) 3) (of_1 (pos 1 ∷ minus 3 ∷ []) (by.Label (record { node = 0; value = 0 } ∷ record { node = 1; value = 3 } ∷ []))) ≡ None }
+    ensures needed { lemma_fault (asks (round_trip 2 3) (kind.Distance 0 1 (pos 1)) 3) (of_1 (pos 1 ∷ minus 3 ∷ []) (by.Label (record { node = 0; value = 0 } ∷ record { node = 1; value = 3 } ∷ []))) ≡ None }
     ensures steps_cost_1 { lemma_fault (asks (round_trip 2 3) (kind.Steps 0 1 (pos 1)) 3) (of_1 (minus 3 ∷ []) (by.Label (record { node = 0; value = 0 } ∷ []))) ≡ Some MissingLiteral }
     ensures start_not_0 { lemma_fault (asks (round_trip 2 3) (kind.Distance 0 1 (pos 1)) 3) (of_1 (minus 3 ∷ []) (by.Label (record { node = 0; value = 1 } ∷ []))) ≡ Some WitnessFails }
     ensures node_twice { lemma_fault (asks (round_trip 2 3) (kind.Distance 0 1 (pos 1)) 3) (of_1 (minus 3 ∷ []) (by.Label (record { node = 0; value = 0 } ∷ record { node = 0; value = 0 } ∷ []))) ≡ Some WitnessFails }
     ensures bound_of_minus_1 { lemma_fault (asks (round_trip 2 3) (kind.Steps 0 1 (minus 1)) 3) (of_1 (minus 3 ∷ []) (by.Label [])) ≡ None }
 {}
 
-/// A flow owes the edges that carry something. A flow cut owes so many of the edges that leave it that the others weigh
+/// A flow needs the edges that carry something. A flow cut needs so many of the edges that leave it that the others weigh
 /// less than the bound. For a bound of 0 there is none: it fails with no edge present, and the empty flow passes.
 pub fn flows_and_flow_cuts()
     ensures flow { lemma_fault (asks (pipe 3 2) (kind.Flow 0 2 (pos 2)) 5) (of_1 (minus 1 ∷ minus 2 ∷ pos 5 ∷ []) (by.Flow (record { edge = 1; amount = 2 } ∷ record { edge = 2; amount = 2 } ∷ []))) ≡ None }
     ensures edge_missing { lemma_fault (asks (pipe 3 2) (kind.Flow 0 2 (pos 2)) 5) (of_1 (minus 1 ∷ pos 5 ∷ []) (by.Flow (record { edge = 1; amount = 2 } ∷ record { edge = 2; amount = 2 } ∷ []))) ≡ Some MissingLiteral }
     ensures lost { lemma_fault (asks (pipe 3 2) (kind.Flow 0 2 (pos 2)) 5) (of_1 (minus 1 ∷ minus 2 ∷ pos 5 ∷ []) (by.Flow (record { edge = 1; amount = 3 } ∷ record { edge = 2; amount = 2 } ∷ []))) ≡ Some WitnessFails }
     ensures listed_with_0 { lemma_fault (asks (pipe 3 2) (kind.Flow 0 2 (pos 0)) 5) (of_1 (pos 5 ∷ []) (by.Flow (record { edge = 2; amount = 0 } ∷ []))) ≡ None }
-    ensures cut_owes_none { lemma_fault (asks (pipe 3 2) (kind.Flow 0 2 (pos 3)) 5) (of_1 (minus 5 ∷ []) (by.FlowCut (0 ∷ 1 ∷ []))) ≡ None }
-    ensures cut_owes_one { lemma_fault (asks (pipe 3 2) (kind.Flow 0 2 (pos 2)) 5) (of_1 (minus 5 ∷ []) (by.FlowCut (0 ∷ 1 ∷ []))) ≡ Some MissingLiteral }
+    ensures cut_needs_none { lemma_fault (asks (pipe 3 2) (kind.Flow 0 2 (pos 3)) 5) (of_1 (minus 5 ∷ []) (by.FlowCut (0 ∷ 1 ∷ []))) ≡ None }
+    ensures cut_needs_one { lemma_fault (asks (pipe 3 2) (kind.Flow 0 2 (pos 2)) 5) (of_1 (minus 5 ∷ []) (by.FlowCut (0 ∷ 1 ∷ []))) ≡ Some MissingLiteral }
     ensures cut_has_it { lemma_fault (asks (pipe 3 2) (kind.Flow 0 2 (pos 2)) 5) (of_1 (pos 2 ∷ minus 5 ∷ []) (by.FlowCut (0 ∷ 1 ∷ []))) ≡ None }
     ensures no_cut_for_0 { lemma_fault (asks (pipe 3 2) (kind.Flow 0 2 (pos 0)) 5) (of_1 (pos 1 ∷ minus 5 ∷ []) (by.FlowCut (0 ∷ []))) ≡ Some WitnessFails }
     ensures flow_for_0 { lemma_fault (asks (pipe 3 2) (kind.Flow 0 2 (pos 0)) 5) (of_1 (pos 5 ∷ []) (by.Flow [])) ≡ None }
 {}
 
-/// A least tree owes the edges whose ends it joins only by heavier ones. With a tie it owes nothing.
+/// A least tree needs the edges whose ends it joins only by heavier ones. With a tie it needs nothing.
 pub fn trees_splits_and_least_trees()
     ensures tree { lemma_fault (asks (triangle 1 1 1) (kind.Tree (pos 2)) 5) (of_1 (minus 3 ∷ minus 7 ∷ pos 5 ∷ []) (by.Tree (3 ∷ 7 ∷ []))) ≡ None }
     ensures tree_edge_missing { lemma_fault (asks (triangle 1 1 1) (kind.Tree (pos 2)) 5) (of_1 (minus 3 ∷ pos 5 ∷ []) (by.Tree (3 ∷ 7 ∷ []))) ≡ Some MissingLiteral }
@@ -85,7 +85,7 @@ pub fn trees_splits_and_least_trees()
     ensures all_nodes { lemma_fault (asks (triangle 1 1 1) (kind.Tree (pos 2)) 5) (of_1 (pos 7 ∷ pos 9 ∷ minus 5 ∷ []) (by.Split (0 ∷ 1 ∷ 2 ∷ []))) ≡ Some WitnessFails }
     ensures tie { lemma_fault (asks (triangle 1 1 1) (kind.Tree (pos 1)) 5) (of_1 (minus 5 ∷ []) (by.Least (3 ∷ 7 ∷ []))) ≡ None }
     ensures lighter_edge { lemma_fault (asks (triangle 1 1 0) (kind.Tree (pos 1)) 5) (of_1 (minus 5 ∷ []) (by.Least (3 ∷ 7 ∷ []))) ≡ Some MissingLiteral }
-    ensures lighter_edge_owed { lemma_fault (asks (triangle 1 1 0) (kind.Tree (pos 1)) 5) (of_1 (pos 9 ∷ minus 5 ∷ []) (by.Least (3 ∷ 7 ∷ []))) ≡ None }
+    ensures lighter_edge_needed { lemma_fault (asks (triangle 1 1 0) (kind.Tree (pos 1)) 5) (of_1 (pos 9 ∷ minus 5 ∷ []) (by.Least (3 ∷ 7 ∷ []))) ≡ None }
     ensures not_above { lemma_fault (asks (triangle 1 1 1) (kind.Tree (pos 2)) 5) (of_1 (minus 5 ∷ []) (by.Least (3 ∷ 7 ∷ []))) ≡ Some WitnessFails }
     ensures edge_twice { lemma_fault (asks (triangle 1 1 1) (kind.Tree (pos 1)) 5) (of_1 (minus 5 ∷ []) (by.Least (3 ∷ 3 ∷ []))) ≡ Some WitnessFails }
 {}

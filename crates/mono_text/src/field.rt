@@ -44,7 +44,7 @@ fn tokens_behind<'a>(line: &Line<'a>, skip: usize) -> Tokens<'a>
 /// The naturals behind the first `skip` tokens of a line, one for each limit and up to it.
 ///
 /// `Count` exactly where the line hasn't `skip + N` tokens. Otherwise the first field from the left
-/// that isn't a natural up to its limit is named by its place, from 0.
+/// that isn't a natural up to its limit is named by its place, from 0. `skip` is at most 4.
 pub fn fields<const N: usize>(
     line: &Line<'_>,
     skip: usize,

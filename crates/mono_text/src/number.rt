@@ -48,7 +48,7 @@ pub fn natural(token: &[u8], limit: u64) -> Result<u64, NumberRefusal>
 }
 
 /// The signed number that the token is: a natural, or `-` directly before one, its magnitude up to
-/// the limit. `-0` is 0.
+/// the limit, which is at most 2^62. `-0` is 0.
 pub fn signed(token: &[u8], limit: u64) -> Result<i64, NumberRefusal>
     requires { limit ≤ 2 ^ 62 }
     ensures { result ≡ signed_within limit (signed token.now) }

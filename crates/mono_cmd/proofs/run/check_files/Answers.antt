@@ -1,4 +1,4 @@
-use Rattle.std.proofs.Common.{◌≡◌, ◌∙◌, Err, inr, refl, ap, subst, Option}
+use Rattle.std.proofs.Common.{◌∙◌, Err, inr, refl, ap, subst, Option}
 use Rattle.mono_io.specs.Shelf.{Texts}
 use Rattle.mono_cmd.specs.Runs.{IsLonger, answer_limit}
 use Rattle.mono_cmd.proofs.run.check_files.Goals as goal

@@ -1,4 +1,4 @@
-use Rattle.std.proofs.Common.{◌≡◌, ◌∙◌, ap, sym, List, ℕ, map, string_bytes}
+use Rattle.std.proofs.Common.{◌∙◌, ap, sym, List, ℕ, map, string_bytes}
 use Rattle.std.specs.Io.KnownBytes.{append_known}
 use Rattle.mono_cmd.specs.Commands.{command_of}
 use Rattle.mono_cmd.proofs.Sound.{sound}

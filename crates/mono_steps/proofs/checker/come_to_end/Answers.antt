@@ -1,4 +1,4 @@
-use Rattle.std.proofs.Common.{◌≡◌, ◌++◌, ◌<◌, ◌∙◌, refl, sym, subst, ap, Bool, true, false, length, get_or, take, ◌+◌, List, ℤ, ℕ, arith}
+use Rattle.std.proofs.Common.{◌≡◌, ◌++◌, ◌∙◌, refl, sym, subst, Bool, get_or, take, ◌+◌}
 use Rattle.mono_base.specs.LitSet.{LiteralSet}
 use Rattle.mono_steps.specs.Chains.{resolvent}
 use Rattle.mono_steps.specs.ChainSteps.{clauses_named}

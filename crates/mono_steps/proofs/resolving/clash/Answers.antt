@@ -1,7 +1,6 @@
-use Rattle.std.proofs.Common.{◌≡◌, ◌||◌, ◌==◌, ◌∙◌, ap, sym, subst, not, true, false, Bool, ℕ, List, ℤ, pos, neg_ℤ, nat_abs, Some, None, option_map}
+use Rattle.std.proofs.Common.{◌≡◌, ◌||◌, ◌==◌, ◌∙◌, ap, sym, subst, not, true, false, Bool, ℕ, List, ℤ, pos, neg_ℤ, nat_abs, Some, option_map}
 use Rattle.std.specs.List.{list_all}
 use Rattle.mono_base.specs.Literal.{has_lit, var_of}
-use Rattle.mono_steps.specs.Chains.{clashing, only_var}
 use Rattle.mono_steps.proofs.Clashes.{no_clash, clash_of}
 use Rattle.mono_steps.proofs.resolving.clash.Goals as goal
 

@@ -1,4 +1,4 @@
-use Rattle.std.proofs.Common.{◌≡◌, ◌==◌, ◌&&◌, not, ◌∙◌, ap, length, ◌≤◌, List, ℤ, arith}
+use Rattle.std.proofs.Common.{◌==◌, ◌&&◌, not, ◌∙◌, ap, length, ◌≤◌, List, ℤ, arith}
 use Rattle.std.proofs.lemmas.List.{take_all}
 use Rattle.mono_base.specs.Literal.{has_lit}
 use Rattle.mono_steps.proofs.Sets.{none_left}

@@ -1,9 +1,9 @@
-use Rattle.std.proofs.Common.{◌≡◌, ◌<◌, ◌||◌, ◌∙◌, sym, subst, ap, take, ◌+◌, true, false, ℤ, ℕ, arith}
+use Rattle.std.proofs.Common.{◌≡◌, ◌∙◌, sym, subst, ap, ◌+◌}
 use Rattle.std.specs.Ordering.{int_eq}
 use Rattle.std.proofs.lemmas.Bool.{not-true, not-false}
 use Rattle.mono_base.specs.LitSet.{LiteralSet}
 use Rattle.mono_steps.proofs.Sets.{taken_out}
-use Rattle.mono_steps.proofs.SetSteps.{IsJoinedTo, join_put, join_pass, join_done}
+use Rattle.mono_steps.proofs.SetSteps.{IsJoinedTo, join_put, join_pass}
 use Rattle.mono_steps.proofs.resolving.join.Goals as goal
 use Rattle.mono_steps.proofs.resolving.join.Goals.{then-ne, else-ne}
 
