@@ -87,7 +87,7 @@ pub record IsAnswerTooLong (found : Option Command) (texts : Option Texts) : Typ
   pub longer : IsLonger texts answer answer_limit
 
 -- What a run comes to, by the command that its words are. `before` and `now` are the shelf's counts of faults as the run
--- begins and as it ends: a fault is answered at the first call that failed, and every other ending leaves the count.
+-- begins and as it ends: a read fault is answered where exactly one call failed, and every other ending where none did.
 abbrev pub Ends : Option Command → Option Texts → ℕ → ℕ → Ending → Type 0
 Ends found texts before now ending.Words = (found ≡ None) × (now ≡ before)
 Ends found texts before now ending.ReadFault = IsSome found × (now ≡ counted before)

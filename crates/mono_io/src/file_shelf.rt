@@ -1,5 +1,5 @@
 //! A shelf over the files of the system. What a real file holds, no contract can say.
-ghost use Rattle.std.specs.Prelude.{◌≡◌, ◌≤◌, ◌+◌, ◌↔◌, [], None, IsSome, IsOk, IsErr, IfSome, IfOk, OnErr, length};
+ghost use Rattle.std.specs.Prelude.{◌≡◌, ◌≤◌, ◌+◌, ◌↔◌, [], None, IsSome, IsOk, IsErr, IfSome, IfOk, OnOk, OnErr, length};
 ghost use Rattle.mono_io.specs.Faults.{HasCause};
 ghost use Rattle.mono_io.specs.FileShelf.{GivesRest};
 ghost use Rattle.mono_io.specs.Shelf.{advanced, moved, ReadsNext};
@@ -34,6 +34,7 @@ impl<F: Read> Opened<F> {
     fn read(&mut self, buf: &mut [u8]) -> Result<usize, Failed>
         ensures bound { IfOk result (λ count. count ≤ length buf.new) }
         ensures place { IfOk result (λ count. self.new.place ≡ self.old.place + count) }
+        ensures reach { OnOk result (self.new.place ≤ LAST_PLACE) }
         ensures bytes { GivesRest (F.remaining self.old.file) (F.remaining self.new.file) result buf.new }
         ensures err { OnErr result (self.new.place ≡ self.old.place) }
     {
@@ -109,6 +110,7 @@ impl<'a, R: Files> Shelf for FileShelf<'a, R> {
 
     fn read(&mut self, buf: &mut [u8]) -> Result<usize, Failed>
         ensures rest { GivesRest self.old.rest self.new.rest result buf.new }
+        ensures reach { OnOk result (IfSome self.new.place (λ place. place ≤ LAST_PLACE)) }
 
         // What the trait asks, in this shelf's terms.
         ensures bound { IfOk result (λ count. count ≤ length buf.new) }
