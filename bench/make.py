@@ -4,6 +4,8 @@ clauses     8,000,000 clauses of 16,000,000 literals, and a model of them
 graph       1,000,000 edges, 100,000 predicates and 8,000,000 clauses
 chain       a chain of implications over 1,000,000 variables, and a refutation of more than 100 MB, step by step
 pigeons     n + 1 pigeons in n holes, and a resolution refutation, written out (pass n, by default 8)
+lemmas      a grid of 100,000 edges, and progress of 100,000 lemmas on walks: paths and cuts in turn
+model       1,000,000 edges, 1,000 predicates on walks from 10 sources, and a model
 """
 
 import os
@@ -93,13 +95,84 @@ def pigeons(folder, n):
             out.write(" ".join(["chain"] + [str(x) for x in c] + ["0"] + [str(x) for x in used]) + "\n")
 
 
+def grid_edges(side):
+    """The edges of a grid, right and down, then left and up, as pairs of nodes."""
+    for r in range(side):
+        for q in range(side):
+            u = r * side + q
+            if q + 1 < side:
+                yield u, u + 1
+                yield u + 1, u
+            if r + 1 < side:
+                yield u, u + side
+                yield u + side, u
+
+
+def lemmas(folder):
+    side, count = 159, 100_000
+    edges = list(grid_edges(side))
+    number = {e: n for n, e in enumerate(edges, 1)}
+    x = len(edges) + 1
+    with open(os.path.join(folder, "f"), "w") as out:
+        out.write("digraph int %d %d 0\n" % (side * side, len(edges)))
+        for n, (u, v) in enumerate(edges, 1):
+            out.write("edge 0 %d %d %d\n" % (u, v, n))
+        out.write("reach 0 0 %d %d\n" % (side * side - 1, x))
+    with open(os.path.join(folder, "a"), "w") as out:
+        out.write("s UNKNOWN\n")
+        for i in range(count):
+            if i % 2:
+                # a block of nodes in the corner of the source; what leaves it has to be absent
+                rows, columns = 2 + i % 5, 2 + i // 5 % 7
+                nodes = [r * side + q for r in range(rows) for q in range(columns)]
+                inside = set(nodes)
+                cut = [number[u, v] for u in nodes for v in (u + 1, u + side) if v not in inside]
+                out.write("cut 1 %s -%d 0 %s\n" % (" ".join(map(str, cut)), x, " ".join(map(str, nodes))))
+            else:
+                # right for a while, then down, then right again
+                bend = i % side
+                way = [q for q in range(bend + 1)] + [r * side + bend for r in range(1, side)]
+                way += [(side - 1) * side + q for q in range(bend + 1, side)]
+                used = [number[u, v] for u, v in zip(way, way[1:])]
+                out.write("path 1 -%s %d 0 %s\n" % (" -".join(map(str, used)), x, " ".join(map(str, used))))
+
+
+def model(folder):
+    nodes, count, predicates = 250_000, 999_000, 1_000
+    edges = [(i % nodes, (i * 7 + 1 + i // nodes) % nodes) for i in range(count)]
+    onward = [[] for _ in range(nodes)]
+    for n, (u, v) in enumerate(edges):
+        if n % 4:
+            onward[u].append(v)
+    values = [n + 1 if n % 4 else -n - 1 for n in range(count)]
+    with open(os.path.join(folder, "f"), "w") as out:
+        out.write("digraph int %d %d 0\n" % (nodes, count))
+        for n, (u, v) in enumerate(edges, 1):
+            out.write("edge 0 %d %d %d %d\n" % (u, v, n, n % 9))
+        for i in range(predicates):
+            source, target = i % 10 * 1000, i * 241 % nodes
+            out.write("reach 0 %d %d %d\n" % (source, target, count + 1 + i))
+            if i < 10:
+                came, queue = {source}, [source]
+                for u in queue:
+                    for v in onward[u]:
+                        if v not in came:
+                            came.add(v)
+                            queue.append(v)
+                sources = [came] if i == 0 else sources + [came]
+            values.append((1 if target in sources[i % 10] else -1) * (count + 1 + i))
+    with open(os.path.join(folder, "a"), "w") as out:
+        out.write("s SATISFIABLE\nv %s 0\n" % " ".join(map(str, values)))
+
+
 def main():
     kind, folder = sys.argv[1], sys.argv[2]
     os.makedirs(folder, exist_ok=True)
     if kind == "pigeons":
         pigeons(folder, int(sys.argv[3]) if len(sys.argv) > 3 else 8)
     else:
-        {"clauses": clauses, "graph": graph, "chain": chain}[kind](folder)
+        kinds = {"clauses": clauses, "graph": graph, "chain": chain, "lemmas": lemmas, "model": model}
+        kinds[kind](folder)
 
 
 main()

@@ -1,15 +1,19 @@
 """A second reading of docs/FORMATS.md, written apart from the program: the reader, the printer and the checker.
 
-It is short and slow, and shares no code and no definition with the program. fuzz/run.py compares the two.
+It is short and slow, and shares no code and no definition with the program. fuzz/run.py compares the two. What walks,
+flows and spanning trees are stands in fuzz/graphs.py.
 """
 
 import re
 from dataclasses import dataclass, field
 
+import graphs
+
 MOST_VARIABLES = 10**6
 MOST_32_BITS = 2**32 - 1
 MOST_BOUND = 2**53
 MOST_NUMBER = 2**64 - 1
+MOST_AMOUNT = 2**60
 
 # word: the greatest value of each field behind it
 NODES = [MOST_32_BITS, MOST_32_BITS, MOST_32_BITS, MOST_VARIABLES]
@@ -25,7 +29,19 @@ PREDICATES = {
     b"mst_weight_leq": [MOST_32_BITS, MOST_VARIABLES, MOST_BOUND],
     b"mst_weight_lt": [MOST_32_BITS, MOST_VARIABLES, MOST_BOUND],
 }
-LEMMAS = {b"path", b"cut", b"label", b"flow", b"flowcut", b"tree", b"split", b"least"}
+# word: the greatest value of each number of an item of its list
+LEMMAS = {
+    "path": [MOST_32_BITS],
+    "cut": [MOST_32_BITS],
+    "label": [MOST_32_BITS, MOST_AMOUNT],
+    "flow": [MOST_32_BITS, MOST_AMOUNT],
+    "flowcut": [MOST_32_BITS],
+    "tree": [MOST_32_BITS],
+    "split": [MOST_32_BITS],
+    "least": [MOST_32_BITS],
+}
+POSITIVE = {"path", "flow", "tree"}  # these show that a predicate holds, the others that it fails
+OVER_EDGES = {"path", "flow", "tree", "least"}  # their lists name edges, the others' nodes
 
 
 class Fault(Exception):
@@ -211,26 +227,67 @@ def judge_model(problem, status_line, rest):
     for number, clause in enumerate(problem.clauses, 1):
         if not any(signs[abs(x)] == (x > 0) for x in clause):
             raise Rejected(ended, "ClauseFalse", number)
-    if problem.predicates:
-        raise Rejected(ended, "NotBuilt")
+    for number, predicate in enumerate(problem.predicates, 1):
+        edges = [e for e in edges_of(problem, predicate) if signs[e[3]]]
+        holds = graphs.holds(nodes_of(problem, predicate), edges, *meaning(predicate))
+        if holds != signs[variable_of(predicate)]:
+            raise Rejected(ended, "AtomWrong", number)
     return "accepted model"
 
 
-def chain_line(line, tokens):
-    """The literals and the clause numbers of a chain's line."""
-    values = [signed(t) for t in tokens[1:]]
-    if tokens[0] in LEMMAS:
-        raise Rejected(line, "NotBuilt")
-    if tokens[0] != b"chain" or 0 not in values:
+def nodes_of(problem, predicate):
+    return problem.graphs[predicate[1][0]]
+
+
+def edges_of(problem, predicate):
+    return [e for e in problem.edges if e[0] == predicate[1][0]]
+
+
+def variable_of(predicate):
+    word, fields = predicate
+    return fields[1] if word.startswith("mst") else fields[3]
+
+
+def meaning(predicate):
+    """The kind of a predicate, its ends, and its bound in the form 'at most' or 'at least'."""
+    word, fields = predicate
+    if word == "reach":
+        return "reach", fields[1:3], None
+    bound = fields[-1] + {"_lt": -1, "_gt": 1}.get(word[-3:], 0)
+    for start, kind in (("distance", "steps"), ("weighted", "weight"), ("maximum", "flow"), ("mst", "tree")):
+        if word.startswith(start):
+            return kind, [] if kind == "tree" else fields[1:3], bound
+
+
+def step_line(line, tokens):
+    """The word, the predicate's number (None for a chain), the literals and the list of a step's line.
+
+    The list holds numbers, or pairs of numbers under `label` and `flow`.
+    """
+    word, rest = tokens[0].decode("latin1"), tokens[1:]
+    limits = [MOST_NUMBER] if word == "chain" else LEMMAS.get(word)
+    if limits is None:
+        raise Rejected(line, "BadLine")
+    number = None
+    if word != "chain":
+        number = natural(rest[0]) if rest else None
+        if number is None or number > MOST_32_BITS:
+            raise Rejected(line, "BadLine")
+        rest = rest[1:]
+    values = [signed(t) for t in rest]
+    if 0 not in values:
         raise Rejected(line, "BadLine")
     end = values.index(0)
-    literals = values[:end]
-    numbers = [natural(t) for t in tokens[end + 2 :]]
-    if any(x is None or abs(x) > MOST_VARIABLES for x in literals) or not numbers:
+    literals, listed = values[:end], [natural(t) for t in rest[end + 1 :]]
+    if any(x is None or abs(x) > MOST_VARIABLES for x in literals):
         raise Rejected(line, "BadLine")
-    if any(n is None or n > MOST_NUMBER for n in numbers):
+    if len(listed) % len(limits) or (word == "chain" and not listed):
         raise Rejected(line, "BadLine")
-    return literals, numbers
+    if any(n is None or n > limits[k % len(limits)] for k, n in enumerate(listed)):
+        raise Rejected(line, "BadLine")
+    if len(limits) == 2:
+        listed = list(zip(listed[::2], listed[1::2]))
+    return word, number, literals, listed
 
 
 def resolvent(c, d):
@@ -258,17 +315,62 @@ def judge_chain(problem, clauses, line, literals, numbers):
         raise Rejected(line, "NotCovered")
 
 
+def judge_lemma(problem, line, word, number, literals, listed):
+    if not 1 <= number <= len(problem.predicates):
+        raise Rejected(line, "UnknownAtom")
+    predicate = problem.predicates[number - 1]
+    kind, ends, bound = meaning(predicate)
+    if word not in graphs.WORDS[kind]:
+        raise Rejected(line, "WrongKind")
+    if any(abs(x) > problem.variables for x in literals):
+        raise Rejected(line, "UnknownNumber")
+    # The edges of the predicate's graph by their numbers over the whole input.
+    edges = {n: e for n, e in enumerate(problem.edges, 1) if e[0] == predicate[1][0]}
+    nodes = nodes_of(problem, predicate)
+    named = [item[0] if isinstance(item, tuple) else item for item in listed]
+    if any(n not in edges if word in OVER_EDGES else n >= nodes for n in named):
+        raise Rejected(line, "UnknownNumber")
+
+    def passes(present):
+        return graphs.passes(word, nodes, edges, present, kind, ends, bound, listed)
+
+    if not passes(set(edges) if word in POSITIVE else set()):
+        raise Rejected(line, "WitnessFails")
+    x = variable_of(predicate)
+    if word in POSITIVE:
+        owed, present = x, {n for n, e in edges.items() if -e[3] in literals}
+    else:
+        owed, present = -x, {n for n, e in edges.items() if e[3] not in literals}
+    if owed not in literals or not passes(present):
+        raise Rejected(line, "MissingLiteral")
+
+
+def is_justified(problem, word, number, literals, listed):
+    """Whether a lemma is justified, its list being the numbers of its line."""
+    if len(LEMMAS[word]) == 2:
+        listed = list(zip(listed[::2], listed[1::2]))
+    try:
+        judge_lemma(problem, 0, word, number, literals, listed)
+    except Rejected:
+        return False
+    return True
+
+
 def judge_steps(problem, is_refutation, status_line, rest):
     clauses = [frozenset(c) for c in problem.clauses]
-    line, literals, steps = status_line, None, 0
+    line, is_empty_chain, chains = status_line, False, 0
     for line, tokens in rest:
-        literals, numbers = chain_line(line, tokens)
-        judge_chain(problem, clauses, line, literals, numbers)
+        word, number, literals, listed = step_line(line, tokens)
+        if word == "chain":
+            judge_chain(problem, clauses, line, literals, listed)
+        else:
+            judge_lemma(problem, line, word, number, literals, listed)
         clauses.append(frozenset(literals))
-        steps += 1
+        is_empty_chain = word == "chain" and not literals
+        chains += word == "chain"
     if not is_refutation:
-        return "accepted progress %d" % steps
-    if literals != []:
+        return "accepted progress %d" % chains
+    if not is_empty_chain:
         raise Rejected(line, "NoEmptyClause")
     return "accepted refutation"
 

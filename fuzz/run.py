@@ -13,6 +13,7 @@ import subprocess
 import sys
 import tempfile
 
+import graphs
 import reference
 
 NUMBERS = [10**6, 10**6 + 1, 2**31, 2**32 - 1, 2**32, 2**53, 2**53 + 1, 2**63, 2**64 - 1, 2**64, 10**40]
@@ -69,25 +70,38 @@ class Texts:
         return " ".join(map(str, literals + [0]))
 
     def input(self):
-        variables = self.one_of([2, 3, 3, 5])
+        variables = self.one_of([2, 3, 3, 5, 7])
         rows = []
         if self.often(0.6):
             rows.append("p %s %d %d" % (self.one_of(["cnf", "gnf"]), self.up_to(variables), self.up_to(9)))
-        graphs = [self.up_to(3) for _ in range(self.one_of([0, 0, 1, 1, 2]))]
-        for graph in graphs:
+        identities = [self.up_to(3) for _ in range(self.one_of([0, 1, 1, 1, 2]))]
+        for graph in identities:
             rows.append("%s %d %d %d" % (self.one_of(["digraph", "digraph int"]), self.up_to(4, 1), self.up_to(3), graph))
-        if graphs:
-            rows += [self.graph_line(self.one_of(graphs), variables) for _ in range(self.up_to(5))]
+        if identities:
+            rows += [self.graph_line(self.one_of(identities), variables) for _ in range(self.up_to(8))]
         rows += [self.clause(variables) for _ in range(self.up_to(12))]
         if self.often(0.3):
             rows.insert(self.up_to(len(rows)), self.one_of(["c x", "", "cfoo", "  ", "c", "\tc 1 0"]))
         return self.text(rows)
 
+    def agreeing(self, problem, signs):
+        """The signs, each predicate's variable set to what the edges say, in turn."""
+        signs = list(signs)
+        for predicate in problem.predicates:
+            edges = [e for e in reference.edges_of(problem, predicate) if signs[e[3] - 1] > 0]
+            nodes = reference.nodes_of(problem, predicate)
+            holds = graphs.holds(nodes, edges, *reference.meaning(predicate))
+            signs[reference.variable_of(predicate) - 1] = 1 if holds else -1
+        return signs
+
     def model(self, problem):
         """A model where there is one, cut into lines anywhere."""
         signs = [self.one_of([-1, 1]) for _ in range(min(problem.variables, 50))]
-        if problem.variables < 8 and self.often(0.7):
-            for tried in itertools.product([1, -1], repeat=problem.variables):
+        if problem.variables < 10 and self.often(0.7):
+            tries = list(itertools.product([1, -1], repeat=problem.variables))
+            self.random.shuffle(tries)
+            for tried in tries:
+                tried = self.agreeing(problem, tried)
                 if all(any(tried[abs(x) - 1] * x > 0 for x in c) for c in problem.clauses):
                     signs = tried
                     break
@@ -118,23 +132,105 @@ class Texts:
             used.append(self.up_to(len(clauses) + 1, 1))
         return literals, used
 
+    def witness(self, word, nodes, edges, kind, ends, bound):
+        """The list of a lemma's line, and the numbers of the edges on which it rests, over some of the edges."""
+        some = {n: e for n, e in edges.items() if self.often(0.8)}
+        numbers, held = list(some), list(some.values())
+        if word == "path":
+            return self.walk(some, ends), None
+        if word == "cut":
+            found = graphs.distances(nodes, held, "reach", ends[0])
+            inside = [u for u in range(nodes) if found[u] is not None]
+            return inside, [n for n, e in edges.items() if graphs.leaves(e, inside)]
+        if word == "label":
+            found = graphs.distances(nodes, held, kind, ends[0])
+            label = {u: d for u, d in enumerate(found) if d is not None and d <= bound}
+
+            def of(u):
+                return label.get(u, bound + 1)
+
+            tense = [n for n, e in edges.items() if of(e[2]) > of(e[1]) + graphs.cost(kind, e)]
+            return [x for pair in label.items() for x in pair], tense
+        if word == "flow":
+            _, amounts, _ = graphs.maximum_flow(held, *ends)
+            carried = [(n, a) for n, a in zip(numbers, amounts) if a or self.often(0.1)]
+            return [x for pair in carried for x in pair], [n for n, a in carried if a]
+        if word == "flowcut":
+            inside = graphs.maximum_flow(held, *ends)[2]
+            return inside, [n for n, e in edges.items() if graphs.leaves(e, inside) and self.often(0.8)]
+        if word == "split":
+            name = graphs.joined(nodes, held)
+            inside = [u for u in range(nodes) if name[u] == name[0]]
+            return inside, [n for n, e in edges.items() if (e[1] in inside) != (e[2] in inside)]
+        chosen = graphs.least_tree(nodes, held) or held[: nodes - 1]
+        tree = [n for n in numbers if some[n] in chosen][: nodes - 1]
+        unbridged = [n for n, e in edges.items() if not graphs.is_bridged(nodes, edges, tree, e)]
+        return tree, tree if word == "tree" else unbridged
+
+    def walk(self, edges, ends):
+        """A walk between the ends, where one is met by chance."""
+        u, listed = ends[0], []
+        while u != ends[1] or self.often(0.1):
+            onward = [n for n, e in edges.items() if e[1] == u]
+            if not onward or len(listed) > 6:
+                break
+            listed.append(self.one_of(onward))
+            u = edges[listed[-1]][2]
+        return listed
+
+    def owed_lemma(self, problem):
+        """A lemma of some predicate with the literals that it owes: its word, number, clause and list."""
+        number = self.up_to(len(problem.predicates), 1)
+        predicate = problem.predicates[number - 1]
+        kind, ends, bound = reference.meaning(predicate)
+        word = self.one_of(graphs.WORDS[kind])
+        edges = {n: e for n, e in enumerate(problem.edges, 1) if e[0] == predicate[1][0]}
+        listed, needed = self.witness(word, reference.nodes_of(problem, predicate), edges, kind, ends, bound)
+        needed = listed if needed is None else needed
+        sign = -1 if word in reference.POSITIVE else 1
+        literals = list({sign * edges[n][3] for n in needed} | {-sign * reference.variable_of(predicate)})
+        self.random.shuffle(literals)
+        return word, number, literals, listed
+
+    def lemma(self, problem):
+        """The line of a lemma that is mostly justified, and its clause."""
+        for _ in range(self.one_of([1, 10, 10])):
+            word, number, literals, listed = self.owed_lemma(problem)
+            if reference.is_justified(problem, word, number, literals, listed):
+                break
+        kind = self.up_to(40)
+        if kind == 0:
+            word = self.one_of(list(reference.LEMMAS))
+        elif kind == 1:
+            number += self.one_of([-1, 1])
+        elif kind == 2 and listed:
+            listed = listed + [self.one_of(listed)]
+        elif kind < 5 and literals:
+            literals.pop()
+        elif kind < 8:
+            literals.append(self.literal(problem.variables))
+        return [word, number, *literals, 0, *listed], literals
+
     def steps(self, problem):
         rows = [self.one_of(["s UNSATISFIABLE", "s UNKNOWN"])]
         clauses = [frozenset(c) for c in problem.clauses]
-        for _ in range(self.up_to(12) if clauses else 0):
-            literals, used = self.chain(clauses)
-            if self.often(0.1) and problem.variables:
-                literals.append(self.literal(problem.variables))
-            rows.append(" ".join(map(str, ["chain", *literals, 0, *used])))
+        for _ in range(self.up_to(12) if clauses or problem.predicates else 0):
+            if problem.predicates and (not clauses or self.often(0.6)):
+                row, literals = self.lemma(problem)
+            else:
+                literals, used = self.chain(clauses)
+                if self.often(0.1) and problem.variables:
+                    literals.append(self.literal(problem.variables))
+                row = ["chain", *literals, 0, *used]
+            rows.append(" ".join(map(str, row)))
             clauses.append(frozenset(literals))
             if not literals and self.often(0.8):
                 break
-        if self.often(0.05):
-            rows.append("path 1 1 0 1")
         return rows
 
     def answer(self, problem):
-        return self.text(self.model(problem) if self.often(0.4) else self.steps(problem))
+        is_model = self.often(0.4) and problem.variables <= 50
+        return self.text(self.model(problem) if is_model else self.steps(problem))
 
     def changed(self, row):
         tokens = row.split(" ")

@@ -1,4 +1,5 @@
 pub mod Members
+pub mod Partials
 pub mod Quiet
 pub mod Sparse
 pub mod Truth

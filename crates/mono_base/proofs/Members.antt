@@ -1,9 +1,12 @@
 -- Which literals a list has after one is put in or taken out.
-use Rattle.std.proofs.Common.{◌≡◌, Bool, true, false, List, ◌∷◌, refl, sym, ◌∙◌, subst, ◌&&◌, ◌||◌, not}
+use Rattle.std.proofs.Common.{◌≡◌, Bool, true, false, List, ◌∷◌, length, arith, refl, sym, ◌∙◌, subst, ◌&&◌, ◌||◌, not}
 use Rattle.std.specs.Prelude.{ℤ}
 use Rattle.std.specs.Ordering.{int_eq}
+use Rattle.std.specs.List.{IsDistinct}
 use Rattle.std.specs.List.Sorted.{IsPermutation}
+use Rattle.std.proofs.lemmas.Map.Made.{length-le_from_is_member}
 use Rattle.std.proofs.lemmas.Bool.Decides.{Decides-int_eq}
+use Rattle.std.proofs.lemmas.Cmp.{int_eq_equiv}
 use Rattle.std.proofs.lemmas.List.Sorted.{list_any-IsPermutation}
 use Rattle.mono_base.specs.Literal.{has_lit}
 
@@ -33,3 +36,10 @@ has_lit_rest c rest l m moved none = rw (list_any-IsPermutation (int_eq m) c (l 
     by_cases b true at h = sym at ∙ h refl
     by_cases true false at h = refl
     by_cases false false at h = refl
+
+-- lists without repeats that have the same literals are equally long
+pub same_length : (c d : List ℤ) → IsDistinct int_eq c → IsDistinct int_eq d → ((l : ℤ) → has_lit c l ≡ has_lit d l) → length c ≡ length d
+same_length c d x y same =
+    let more = length-le_from_is_member int_eq_equiv c d x (λ l h. sym (same l) ∙ h) in
+    let less = length-le_from_is_member int_eq_equiv d c y (λ l h. same l ∙ h) in
+    omega (arith, more, less)

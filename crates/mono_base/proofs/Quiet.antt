@@ -4,6 +4,7 @@ use Rattle.std.specs.Prelude.{ℤ, IsTrue, not, filter}
 use Rattle.std.specs.List.{list_any, list_all}
 use Rattle.std.proofs.lemmas.Bool.{or_cases, or_left, or_right, and_parts, and_from, not-true}
 use Rattle.mono_base.specs.Literal.{lit_true, clause_true, all_true}
+use Rattle.mono_base.proofs.Truth.{at_each}
 use Rattle.mono_base.specs.Partial.{Extends, HasNoOpen, has_no_open, is_open_in, is_true_in, is_quiet, has_two, unit_quiet}
 
 filter-none : (p : ℤ → Bool) (c : List ℤ) → IsTrue (list_all (λ l. not (p l)) c) → filter p c ≡ []
@@ -17,7 +18,7 @@ true_by_extension : (a : ℕ → Bool) (t c : List ℤ) → Extends a t → IsTr
 true_by_extension a t [] e h = absurd cc
 true_by_extension a t (l ∷ ls) e h =
     elim (or_cases (is_true_in t l) (list_any (is_true_in t) ls) h) [
-      | inl here ↦ or_left (lit_true a l) (clause_true a ls) (e l here)
+      | inl here ↦ or_left (lit_true a l) (clause_true a ls) (at_each (lit_true a) t e l here)
       | inr later ↦ or_right (lit_true a l) (clause_true a ls) (true_by_extension a t ls e later)
     ]
 

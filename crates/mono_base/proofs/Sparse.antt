@@ -2,26 +2,25 @@
 use Rattle.std.proofs.Common.{◌≡◌, ◌≢◌, ℕ, ◌+◌, ◌-◌, ◌*◌, ◌<◌, ◌≤◌, Bool, true, false, eqb, List, [], ◌∷◌, ◌++◌, length, get_or, set, map, arith, refl, sym, ◌∙◌, ap, subst, inl, inr, length-append}
 use Rattle.std.specs.Prelude.{ℤ, pos, negsuc, nat_abs, not}
 use Rattle.std.specs.Ordering.{int_eq}
-use Rattle.std.specs.List.{list_any, position_or_len, IsDistinct}
+use Rattle.std.specs.List.{list_any, IsDistinct}
 use Rattle.std.proofs.lemmas.Bool.{cases_eq, cases_lt, false≢true}
 use Rattle.std.proofs.lemmas.Bool.Decides.{Decides-int_eq, eqb_tells}
 use Rattle.std.proofs.lemmas.List.{get_or_default, get_or_past, get_or_read, length-map, get_or-map, length-set, get_or-set_same, get_or-set_other, get_or_append_left}
 use Rattle.std.proofs.Math.Seq.{get_or-append_seam}
-use Rattle.std.proofs.lemmas.List.Sums.{position_or_len_is}
 use Rattle.std.proofs.lemmas.List.Folds.{list_any_at, list_any_none}
 use Rattle.std.proofs.lemmas.Map.Keys.{IsDistinct-from_apart}
 use Rattle.std.proofs.lemmas.Map.Steps.{length-le_from_distinct_below}
-use Rattle.mono_base.specs.Literal.{has_lit}
-use Rattle.mono_base.specs.LitSet.{slot, IsIndexOf, IsSparse, IsLitWithin}
+use Rattle.mono_base.specs.Literal.{has_lit, slot, IsLitWithin}
+use Rattle.mono_base.specs.LitSet.{IsIndexOf, IsSparse}
 
 -- two literals have two slots
-slot_injective : (l m : ℤ) → slot l ≡ slot m → l ≡ m
+pub slot_injective : (l m : ℤ) → slot l ≡ slot m → l ≡ m
 slot_injective (pos a) (pos b) e = ap pos (omega arith)
 slot_injective (pos a) (negsuc b) e = absurd (omega arith)
 slot_injective (negsuc a) (pos b) e = absurd (omega arith)
 slot_injective (negsuc a) (negsuc b) e = ap negsuc (omega arith)
 
-slot_bound : (l : ℤ) (vars : ℕ) → nat_abs l ≤ vars → slot l < 2 * vars + 2
+pub slot_bound : (l : ℤ) (vars : ℕ) → nat_abs l ≤ vars → slot l < 2 * vars + 2
 slot_bound (pos a) vars h = omega arith
 slot_bound (negsuc a) vars h = omega arith
 
@@ -47,14 +46,6 @@ stands_at places members l place x mark =
     let at = x.stands (slot l) (λ e. omega (arith, e, mark)) in
     let place_is : place ≡ get_or places (slot l) 0 - 1 = omega (arith, mark) in
     (omega (arith, at.0, mark), ap (λ (j : ℕ). get_or members j (pos 0)) place_is ∙ slot_injective (get_or members (get_or places (slot l) 0 - 1) (pos 0)) l at.1)
-
--- it stands nowhere before
-pub first_at : (places : List ℕ) (members : List ℤ) (l : ℤ) (place : ℕ) → IsIndexOf places members → get_or places (slot l) 0 ≡ place + 1 → position_or_len (int_eq l) members ≡ place
-first_at places members l place x mark =
-    let at = stands_at places members l place x mark in
-    position_or_len_is (int_eq l) members place (pos 0) (omega (arith, at.0)) (λ k less. not_same l (get_or members k (pos 0)) (λ same.
-    let listed : get_or places (slot l) 0 ≡ k + 1 = subst (λ (m : ℤ). get_or places (slot m) 0 ≡ k + 1) (sym same) (x.listed k (omega (arith, at.0))) in
-    omega (arith, listed, mark))) (λ _. (Decides-int_eq l (get_or members place (pos 0))).1 (sym at.1))
 
 -- a literal without a mark is no member
 pub no_mark : (places : List ℕ) (members : List ℤ) (l : ℤ) → IsIndexOf places members → get_or places (slot l) 0 ≡ 0 → has_lit members l ≡ false

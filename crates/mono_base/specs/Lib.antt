@@ -1,3 +1,4 @@
 pub mod Literal
 pub mod LitSet
 pub mod Partial
+pub mod Worked

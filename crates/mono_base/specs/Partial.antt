@@ -1,8 +1,19 @@
 -- Partial assignments: lists of literals over different variables, which are taken to be true.
-use Rattle.std.specs.Prelude.{ℕ, Bool, false, not, ◌&&◌, ◌||◌, ℤ, neg_ℤ, List, [], ◌∷◌, filter, IsTrue}
+use Rattle.std.specs.Prelude.{ℕ, ◌==◌, Bool, true, false, not, ◌&&◌, ◌||◌, ℤ, neg_ℤ, List, [], ◌∷◌, filter, IsTrue, if◌then◌else◌}
 use Rattle.std.specs.Ordering.{int_eq}
 use Rattle.std.specs.List.{list_any, list_all}
-use Rattle.mono_base.specs.Literal.{has_lit, lit_true}
+use Rattle.mono_base.specs.declared.value.Value.{Value}
+use Rattle.mono_base.specs.declared.value.Value.TheVariants.{Yes, No, Unset}
+use Rattle.mono_base.specs.Literal.{var_of, is_lit, has_lit, lit_true, without}
+
+-- some literal of the list is over the variable
+abbrev pub has_var : List ℤ → ℕ → Bool
+has_var t x = list_any (λ l. var_of l == x) t
+
+-- the list is a partial assignment: literals over different variables
+abbrev pub is_partial : List ℤ → Bool
+is_partial [] = true
+is_partial (l ∷ t) = is_lit l && not (has_var t (var_of l)) && is_partial t
 
 -- the literal is true, false, or open
 abbrev pub is_true_in : List ℤ → ℤ → Bool
@@ -14,9 +25,24 @@ is_false_in t l = has_lit t (neg_ℤ l)
 abbrev pub is_open_in : List ℤ → ℤ → Bool
 is_open_in t l = not (is_true_in t l) && not (is_false_in t l)
 
+-- the value of a literal
+abbrev pub value_by : List ℤ → ℤ → Value
+value_by t l = if is_true_in t l then Yes else if is_false_in t l then No else Unset
+
+-- the clause has no literal that isn't false
+abbrev pub is_false_clause : List ℤ → List ℤ → Bool
+is_false_clause t c = list_all (is_false_in t) c
+
+-- every literal of the clause but l is false
+abbrev pub others_false : List ℤ → List ℤ → ℤ → Bool
+others_false t c l = is_false_clause t (without c l)
+
 -- the assignment makes each literal of the partial one true
+abbrev pub extends : (ℕ → Bool) → List ℤ → Bool
+extends a t = list_all (lit_true a) t
+
 abbrev pub Extends : (ℕ → Bool) → List ℤ → Type 0
-Extends a t = (l : ℤ) → IsTrue (has_lit t l) → IsTrue (lit_true a l)
+Extends a t = IsTrue (extends a t)
 
 -- two literals of the list differ
 abbrev pub has_two : List ℤ → Bool

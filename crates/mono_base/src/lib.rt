@@ -15,6 +15,8 @@ mod row;
 #[cfg(test)]
 mod tests;
 mod value;
+/// What the definitions make of small literals, clauses and partial assignments.
+pub mod worked;
 
 pub use lit::Lit;
 pub use lit_set::LitSet;

@@ -1,4 +1,8 @@
 //! The greatest sizes of an input and an answer. A reader refuses what is beyond them.
+//!
+//! Contracts, definitions and proofs cite a limit by its name, so that a change of a limit is a change of this file.
+
+ghost use Rattle.std.specs.Prelude.{◌≡◌, ◌+◌, ◌^◌};
 
 /// Variables are numbered from 1 to at most this.
 pub const MAX_VARS: u32 = 1_000_000;
@@ -33,11 +37,21 @@ pub const MAX_WEIGHT: u64 = 4_294_967_295;
 /// The bound of a predicate, as it is written: 2^53.
 pub const MAX_BOUND: u64 = 9_007_199_254_740_992;
 
-// The comments name these four as powers of two.
-const _: () = prove!(MAX_INPUT_BYTES == 1 << 28);
+/// A label's value or an edge's amount in a witness: 2^60.
+pub const MAX_WITNESS_VALUE: u64 = 1_152_921_504_606_846_976;
 
-const _: () = prove!(MAX_ANSWER_BYTES == 1 << 30);
-
-const _: () = prove!(MAX_WEIGHT == (1 << 32) - 1);
-
-const _: () = prove!(MAX_BOUND == 1 << 53);
+/// Each limit is pinned by its number here, and cited by its name everywhere else.
+pub fn limits_are_these_numbers()
+    ensures vars { MAX_VARS ≡ 1000000 }
+    ensures graphs { MAX_GRAPHS ≡ 1024 }
+    ensures nodes { MAX_NODES ≡ 1000000 }
+    ensures edges { MAX_EDGES ≡ 1000000 }
+    ensures atoms { MAX_ATOMS ≡ 100000 }
+    ensures clauses { MAX_CLAUSES ≡ 8000000 }
+    ensures literals { MAX_LITERALS ≡ 16000000 }
+    ensures input_bytes { MAX_INPUT_BYTES ≡ 2 ^ 28 }
+    ensures answer_bytes { MAX_ANSWER_BYTES ≡ 2 ^ 30 }
+    ensures weight { MAX_WEIGHT + 1 ≡ 2 ^ 32 }
+    ensures bound { MAX_BOUND ≡ 2 ^ 53 }
+    ensures witness_value { MAX_WITNESS_VALUE ≡ 2 ^ 60 }
+{}

@@ -1,6 +1,7 @@
 //! Literals (DIMACS CNF): `x` says that variable x is true, `-x` that it is false.
 
 ghost use Rattle.std.specs.Prelude.{◌≡◌, ◌<◌, ◌≤◌, ◌↔◌, ℤ, pos, neg_ℤ, nat_abs, int_lt, IsSome, IfSome};
+ghost use Rattle.mono_base.specs.Literal.{slot};
 
 use crate::limits::MAX_VARS;
 use std::marker::Model;
@@ -15,12 +16,13 @@ pub struct Lit {
 
 impl Model for Lit {
     ghost use Rattle.std.specs.Prelude.{◌<◌, ◌≤◌, ℤ, nat_abs};
+    ghost use Rattle.mono_base.specs.declared.limits.TheConstants.{MAX_VARS};
 
     ghost Value = { ℤ };
 
     ghost view = { λ l. l.number };
 
-    ghost invariant = { λ l. (0 < nat_abs l.number) × (nat_abs l.number ≤ 1000000) };
+    ghost invariant = { λ l. (0 < nat_abs l.number) × (nat_abs l.number ≤ MAX_VARS) };
 
     ghost inverse = { λ z. record { number = z } };
 }
@@ -29,7 +31,7 @@ impl Lit {
     /// The literal of a number: `None` exactly for 0 and for a magnitude above 1,000,000.
     pub fn new(n: i32) -> Option<Lit>
         ensures value { IfSome result (λ l. l ≡ n) }
-        ensures within { IsSome result ↔ ((0 < nat_abs n) × (nat_abs n ≤ 1000000)) }
+        ensures within { IsSome result ↔ ((0 < nat_abs n) × (nat_abs n ≤ MAX_VARS)) }
     {
         if n != 0 && n.unsigned_abs() <= MAX_VARS {
             Some(Lit { number: n })
@@ -49,7 +51,7 @@ impl Lit {
     pub fn var(self) -> u32
         ensures value { result ≡ nat_abs self }
         ensures low { 0 < result }
-        ensures high { result ≤ 1000000 }
+        ensures high { result ≤ MAX_VARS }
     {
         self.number.unsigned_abs()
     }
@@ -59,6 +61,14 @@ impl Lit {
         ensures { result ≡ int_lt (pos 0) self }
     {
         self.number > 0
+    }
+
+    /// The literal's place in a table by literals: 2x for variable x, 2x + 1 for its negation.
+    pub fn slot(self) -> usize
+        ensures value { result ≡ slot self }
+        ensures literal { 0 < nat_abs self }
+    {
+        2 * self.var() as usize + if self.is_positive() { 0 } else { 1 }
     }
 
     /// The opposite literal of the same variable.

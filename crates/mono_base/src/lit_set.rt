@@ -7,16 +7,18 @@
 ghost use Rattle.std.specs.Prelude.{◌≡◌, ◌≢◌, ◌+◌, ◌<◌, ◌≤◌, ◌++◌, ◌||◌, ◌&&◌, ℕ, ℤ, pos, [], ◌∷◌, not, length, nat_abs, slice_index_or, vec_len, vec_capacity, All, IfOk};
 ghost use Rattle.std.specs.List.{IsDistinct};
 ghost use Rattle.std.specs.Ordering.{int_eq};
-ghost use Rattle.mono_base.specs.Literal.{has_lit, var_of};
-ghost use Rattle.mono_base.specs.LitSet.{IsLitWithin, empty_set, with_lit, without_lit, slot};
+ghost use Rattle.mono_base.specs.Literal.{has_lit, var_of, slot, IsLitWithin};
+ghost use Rattle.mono_base.specs.LitSet.{empty_set};
 
 use crate::Lit;
+use crate::limits::MAX_VARS;
 use std::alloc::{AllocError, Global};
 use std::marker::Model;
 
 /// A set of literals over the variables from 1 to a number that is fixed when the set is made.
 ///
-/// Contracts see that number and the list of the members. No call but `new` takes memory.
+/// Contracts see that number and the members, each once, in an order that no contract tells. No call but `new` takes
+/// memory.
 #[derive(Drop)]
 pub struct LitSet {
     vars: u32,
@@ -39,7 +41,7 @@ impl Model for LitSet {
 impl LitSet {
     /// The empty set of literals over the variables from 1 to `vars`, of which there are at most 1,000,000.
     pub fn new(alloc: Global, vars: u32) -> Result<LitSet, AllocError>
-        requires { vars ≤ 1000000 }
+        requires { vars ≤ MAX_VARS }
         ensures { IfOk result (λ s. s ≡ empty_set vars) }
     {
         let slots = 2 * vars as usize + 2;
@@ -50,13 +52,13 @@ impl LitSet {
         })
     }
 
-    /// Puts the literal into the set: at the end of the members, where it was not one of them.
+    /// Puts the literal into the set. Where it is a member already, nothing changes.
     pub fn insert(&mut self, lit: Lit)
         requires { var_of lit ≤ self.old.vars }
-        ensures value { self.new ≡ with_lit self.old lit }
+        ensures vars { self.new.vars ≡ self.old.vars }
         ensures has { (m : ℤ) → has_lit self.new.members m ≡ (has_lit self.old.members m || int_eq m lit) }
     {
-        let slot = slot_of(lit);
+        let slot = lit.slot();
         if self.places[slot] != 0 {
             return;
         }
@@ -64,19 +66,19 @@ impl LitSet {
         push_within(&mut self.members, lit);
     }
 
-    /// Takes the literal out of the set, where it is a member. The last member then takes its place.
+    /// Takes the literal out of the set. Where it isn't a member, nothing changes.
     pub fn remove(&mut self, lit: Lit)
         requires { var_of lit ≤ self.old.vars }
-        ensures value { self.new ≡ without_lit self.old lit }
+        ensures vars { self.new.vars ≡ self.old.vars }
         ensures has { (m : ℤ) → has_lit self.new.members m ≡ (has_lit self.old.members m && not (int_eq m lit)) }
     {
-        let slot = slot_of(lit);
+        let slot = lit.slot();
         let place = self.places[slot];
         if place == 0 {
             return;
         }
         let last = self.members[self.members.len() - 1];
-        self.places[slot_of(last)] = place;
+        self.places[last.slot()] = place;
         self.places[slot] = 0;
         self.members.swap_remove(place as usize - 1);
     }
@@ -86,10 +88,10 @@ impl LitSet {
         requires { var_of lit ≤ self.now.vars }
         ensures { result ≡ has_lit self.now.members lit }
     {
-        self.places[slot_of(lit)] != 0
+        self.places[lit.slot()] != 0
     }
 
-    /// The members, each once.
+    /// The members, each once, in any order.
     pub fn members(&self) -> &[Lit]
         ensures value { result.now ≡ self.now.members }
         ensures distinct { IsDistinct int_eq self.now.members }
@@ -105,14 +107,6 @@ impl LitSet {
         erase(&mut self.places, &self.members);
         self.members.clear();
     }
-}
-
-/// The place of a literal in a table by literals.
-fn slot_of(lit: Lit) -> usize
-    ensures value { result ≡ slot lit }
-    ensures literal { 0 < nat_abs lit }
-{
-    2 * lit.var() as usize + if lit.is_positive() { 0 } else { 1 }
 }
 
 /// Appends a literal where there is room for it.
@@ -135,6 +129,6 @@ fn erase(places: &mut Vec<u32>, lits: &[Lit])
     ensures erased { (k : ℕ) → k < length lits.now → slice_index_or places.new.items (slot (slice_index_or lits.now k (pos 0))) 0 ≡ 0 }
 {
     for lit in lits {
-        places[slot_of(*lit)] = 0;
+        places[lit.slot()] = 0;
     }
 }

@@ -8,11 +8,11 @@ use std::marker::Model;
 ///
 /// Public types hold lists as rows, so that their values can be compared. No call takes memory.
 #[derive(Drop)]
-pub struct Row<T: Drop> {
+pub struct Row<T> {
     items: Vec<T>,
 }
 
-impl<T: Drop> Model for Row<T> {
+impl<T> Model for Row<T> {
     ghost use Rattle.std.specs.Prelude.{List};
 
     ghost Value = { List T };
@@ -20,7 +20,7 @@ impl<T: Drop> Model for Row<T> {
     ghost view = { λ r. r.items.items };
 }
 
-impl<T: Drop> Row<T> {
+impl<T> Row<T> {
     /// The row of these items.
     pub fn from_vec(items: Vec<T>) -> Row<T>
         ensures { result ≡ items.items }

@@ -1,7 +1,10 @@
-pub mod TokenSteps
-pub mod Distinct
 pub mod Walked
+pub mod Literals
+pub mod ValueFaults
 pub mod SeenMore
 pub mod LineByLine
+pub mod Found
+pub mod WrongAtoms
+pub mod ModelEnds
 pub mod AllTrue
 pub mod Accepted

@@ -1,31 +1,35 @@
 -- What the checker keeps, behind one more line.
-use Rattle.std.proofs.Common.{◌≡◌, ℕ, Bool, true, false, not, ◌&&◌, ◌||◌, List, [], ◌∷◌, ◌++◌, map, find, length, Option, Some, None, option_map, refl, sym, ap, subst, ◌∙◌, All, ℤ, is_some, append-nil}
-use Rattle.std.specs.Prelude.{IsTrue, nat_le, nat_lt, if◌then◌else◌}
+use Rattle.std.proofs.Common.{◌≡◌, ℕ, ◌+◌, ◌≤◌, Bool, true, false, not, ◌&&◌, ◌||◌, List, [], ◌∷◌, ◌++◌, map, filter, find, length, Option, Some, None, option_map, refl, sym, ap, subst, ◌∙◌, All, ℤ, is_some, append-nil, length-append, arith}
+use Rattle.std.specs.Prelude.{IsTrue, nat_le, if◌then◌else◌}
 use Rattle.std.specs.List.{last_or}
 use Rattle.std.specs.Option.{option_or}
 use Rattle.std.proofs.lemmas.Bool.{and_parts, leb-true}
 use Rattle.std.proofs.lemmas.List.{map-append}
 use Rattle.std.proofs.lemmas.List.Concat.{flat_map-append}
-use Rattle.std.proofs.lemmas.List.Elements.{filter_map-append, All-cons, All-nil, All-push}
+use Rattle.std.proofs.lemmas.List.Elements.{filter-append, filter_map-append, All-cons, All-nil, All-push}
 use Rattle.std.proofs.lemmas.List.Folds.{find-append}
-use Rattle.mono_base.specs.Literal.{var_of}
-use Rattle.mono_problem.specs.Instance.{Instance}
-use Rattle.mono_problem.specs.WellFormed.{IsLitWithin}
-use Rattle.mono_steps.specs.declared.step.Chain.{Chain}
+use Rattle.mono_base.specs.Literal.{var_of, IsLitWithin}
+use Rattle.mono_problem.specs.declared.atom.Atom.{Atom}
+use Rattle.mono_problem.specs.Instance.{Instance, graph_at, numbered}
+use Rattle.mono_steps.specs.declared.fault.StepFault.{StepFault}
+use Rattle.mono_steps.specs.declared.fault.StepFault.TheVariants as fault
+use Rattle.mono_steps.specs.declared.lemma.Lemma.{Lemma}
 use Rattle.mono_steps.specs.declared.step.Step.{Step}
 use Rattle.mono_steps.specs.declared.step.Step.TheVariants as step
-use Rattle.mono_steps.specs.ChainSteps.{chain_fault, clause_of, clauses_named, covers, names_vars, names_clauses, ends_empty, is_empty_chain}
+use Rattle.mono_steps.specs.Faults.{first_failed}
+use Rattle.mono_steps.specs.ChainSteps.{names_vars, names_clauses, clauses_named, covers}
 use Rattle.mono_steps.specs.Chains.{chain_end}
-use Rattle.mono_steps.proofs.StepFaults.{no_fault_in}
-use Rattle.mono_check.specs.declared.item.Item.{Item}
-use Rattle.mono_check.specs.declared.item.Item.TheVariants as item
-use Rattle.mono_check.specs.declared.reason.Reason.TheVariants as reason
+use Rattle.mono_steps.specs.Witnesses.{lemma_fault, lemma_fault_by, serves, names_known as names_known_by, passes, easiest_part, shows_clause}
+use Rattle.mono_steps.specs.Steps.{step_fault, clause_of, is_empty_chain, ends_empty}
+use Rattle.mono_steps.proofs.ChainFaults.{no_fault_in}
+use Rattle.mono_answer.specs.declared.item.Item.{Item}
+use Rattle.mono_answer.specs.declared.item.Item.TheVariants as says
 use Rattle.mono_check.specs.declared.step_lines.StepLines.{StepLines}
 use Rattle.mono_check.specs.declared.values.Values.{Values}
-use Rattle.mono_check.specs.Values.{lits_in, ends_in, literals_in, has_ended, end_line, value_fault, are_values, is_nil}
-use Rattle.mono_check.specs.StepLines.{step_line_fault, reason_of, clauses_in, steps_in, step_in}
+use Rattle.mono_check.specs.Values.{lits_in, ends_in, literals_in, has_ended, end_line}
+use Rattle.mono_check.specs.StepLines.{step_line_fault, reason_of, clauses_in, steps_in, step_in, is_chain, chain_count}
 use Rattle.mono_check.specs.Lines.{last_of}
-use Rattle.mono_check.specs.Seen.{values_seen, values_after, AreStepsSeen, AreStepsAfter}
+use Rattle.mono_check.specs.Seen.{AreMembers, AreValuesSeen, AreValuesAfter, AreStepsSeen, IsStepAfter}
 
 pub unmapped : {A B : Type 0} (f : A → B) (o : Option A) → option_map f o ≡ None → o ≡ None
 unmapped f None h = refl
@@ -40,7 +44,7 @@ last_more before n i = sym (ap (last_or None) (map-append (λ (l : ℕ × Option
 
 -- ---- the lines of a model
 
-pub literals_more : (before : List (ℕ × Option Item)) (n : ℕ) (i : Option Item) → literals_in before ++ lits_in i ≡ literals_in (before ++ (n, i) ∷ [])
+literals_more : (before : List (ℕ × Option Item)) (n : ℕ) (i : Option Item) → literals_in before ++ lits_in i ≡ literals_in (before ++ (n, i) ∷ [])
 literals_more before n i = sym (flat_map-append (λ (l : ℕ × Option Item). lits_in l.1) before ((n, i) ∷ []) ∙ ap (λ (ls : List ℤ). literals_in before ++ ls) (append-nil (lits_in i)))
 
 end_more : (before : List (ℕ × Option Item)) (n : ℕ) (i : Option Item) → option_or (end_line before) (if ends_in i then Some n else None) ≡ end_line (before ++ (n, i) ∷ [])
@@ -59,27 +63,12 @@ ended_by_line (l ∷ ls) = by_head (ends_in l.1) (ended_by_line ls)
     by_head true h = refl
     by_head false h = h
 
-pub values_more : (p : Instance) (v v' : Values) (before : List (ℕ × Option Item)) (n : ℕ) (i : Option Item) → v ≡ values_seen p before → v' ≡ values_after v n i → v' ≡ values_seen p (before ++ (n, i) ∷ [])
-values_more p v v' before n i seen after = after ∙ ap (λ (w : Values). values_after w n i) seen ∙ whole
-  where
-    by_parts : (lits : List ℤ) (end last : Option ℕ) → lits ≡ literals_in (before ++ (n, i) ∷ []) → end ≡ end_line (before ++ (n, i) ∷ []) → last ≡ last_of (before ++ (n, i) ∷ [])
-        → ◌≡◌ {A = Values} (record { set = record { vars = p.vars; members = lits }; end = end; last = last }) (values_seen p (before ++ (n, i) ∷ []))
-    by_parts lits end last e f g = rw (e, f, g) refl
-
-    whole : values_after (values_seen p before) n i ≡ values_seen p (before ++ (n, i) ∷ [])
-    whole = by_parts (literals_in before ++ lits_in i) (option_or (end_line before) (if ends_in i then Some n else None)) (Some n) (literals_more before n i) (end_more before n i) (last_more before n i)
-
-pub values_go_on : (p : Instance) (lits : List ℤ) (ended : Bool) (i : Option Item) → None ≡ value_fault p lits ended i → IsTrue (are_values p (lits ++ lits_in i))
-values_go_on p lits ended None h = absurd cc
-values_go_on p lits ended (Some (item.Status k)) h = absurd cc
-values_go_on p lits ended (Some (item.Chain c)) h = absurd cc
-values_go_on p lits ended (Some item.Lemma) h = absurd cc
-values_go_on p lits ended (Some (item.Values ls ends)) h = by_tests (ended && (not (is_nil ls) || ends)) (are_values p (lits ++ ls)) (ends && nat_lt (length (lits ++ ls)) p.vars) h
-  where
-    by_tests : (a b c : Bool) → None ≡ (if a then Some reason.BadLine else if not b || c then Some reason.ModelVariables else None) → IsTrue b
-    by_tests true b c e = absurd cc
-    by_tests false true c e = refl
-    by_tests false false c e = absurd cc
+pub values_more : (p : Instance) (v after : Values) (before : List (ℕ × Option Item)) (n : ℕ) (i : Option Item) → AreValuesSeen p before v → AreValuesAfter p (literals_in before) v n i after → AreValuesSeen p (before ++ (n, i) ∷ []) after
+values_more p v after before n i seen h = record {
+  set = subst (λ (ls : List ℤ). AreMembers p ls after.set) (literals_more before n i) h.set;
+  end = h.end ∙ ap (λ (o : Option ℕ). option_or o (if ends_in i then Some n else None)) seen.end ∙ end_more before n i;
+  last = h.last ∙ last_more before n i;
+}
 
 -- ---- the lines of steps
 
@@ -88,11 +77,19 @@ ends_push [] s = refl
 ends_push (r ∷ []) s = refl
 ends_push (r ∷ t ∷ ss) s = ends_push (t ∷ ss) s
 
-steps_push : (before : List (ℕ × Option Item)) (n : ℕ) (c : Chain) → steps_in (before ++ (n, Some (item.Chain c)) ∷ []) ≡ steps_in before ++ step.Chain c ∷ []
-steps_push before n c = filter_map-append (λ (l : ℕ × Option Item). step_in l.1) before ((n, Some (item.Chain c)) ∷ [])
+steps_push : (before : List (ℕ × Option Item)) (n : ℕ) (s : Step) → steps_in (before ++ (n, Some (says.Step s)) ∷ []) ≡ steps_in before ++ s ∷ []
+steps_push before n s = filter_map-append (λ (l : ℕ × Option Item). step_in l.1) before ((n, Some (says.Step s)) ∷ [])
 
-pub clauses_push : (before : List (ℕ × Option Item)) (n : ℕ) (c : Chain) → clauses_in (before ++ (n, Some (item.Chain c)) ∷ []) ≡ clauses_in before ++ c.clause ∷ []
-clauses_push before n c = ap (map clause_of) (steps_push before n c) ∙ map-append clause_of (steps_in before) (step.Chain c ∷ [])
+pub clauses_push : (before : List (ℕ × Option Item)) (n : ℕ) (s : Step) → clauses_in (before ++ (n, Some (says.Step s)) ∷ []) ≡ clauses_in before ++ clause_of s ∷ []
+clauses_push before n s = ap (map clause_of) (steps_push before n s) ∙ map-append clause_of (steps_in before) (s ∷ [])
+
+count_push : (ss : List Step) (s : Step) → (if is_chain s then chain_count ss + 1 else chain_count ss) ≡ chain_count (ss ++ s ∷ [])
+count_push ss (step.Lemma l) = sym (ap length (filter-append is_chain ss (step.Lemma l ∷ []) ∙ append-nil (filter is_chain ss)))
+count_push ss (step.Chain c) = sym (ap length (filter-append is_chain ss (step.Chain c ∷ [])) ∙ length-append (filter is_chain ss) (step.Chain c ∷ []))
+
+few_more : (b : Bool) (k n : ℕ) → k ≤ n → (if b then k + 1 else k) ≤ n + 1
+few_more true k n h = omega arith
+few_more false k n h = omega arith
 
 all_within : (p : Instance) (c : List ℤ) → IsTrue (names_vars p c) → All (IsLitWithin p.vars) c
 all_within p [] h = All-nil (IsLitWithin p.vars)
@@ -101,22 +98,40 @@ all_within p (l ∷ c) h =
     let b = and_parts (nat_le 1 (var_of l)) (nat_le (var_of l) p.vars) a.0 in
     All-cons (IsLitWithin p.vars) l c (leb-true 1 (var_of l) b.0, leb-true (var_of l) p.vars b.1) (all_within p c a.1)
 
-no_fault_names : (p : Instance) (earlier : List (List ℤ)) (c : Chain) → None ≡ option_map reason_of (chain_fault p earlier c) → IsTrue (names_vars p c.clause)
-no_fault_names p earlier c h =
-    let justified = (no_fault_in p earlier c).0 (unmapped reason_of (chain_fault p earlier c) (sym h)) in
+second_passes : (a v k c d : Bool) → first_failed ((a, fault.WrongKind) ∷ (not v || not k, fault.UnknownNumber) ∷ (c, fault.WitnessFails) ∷ (d, fault.MissingLiteral) ∷ []) ≡ None → IsTrue v
+second_passes true v k c d h = absurd cc
+second_passes false true k c d h = refl
+second_passes false false k c d h = absurd cc
+
+lemma_names : (p : Instance) (l : Lemma) → lemma_fault p l ≡ None → IsTrue (names_vars p l.clause)
+lemma_names p l h = by_atom (numbered p.atoms l.atom) h
+  where
+    by_atom : (o : Option Atom) → ◌≡◌ {A = Option StepFault} (elim o [ None ↦ Some fault.UnknownAtom | Some x ↦ lemma_fault_by p x l ]) None → IsTrue (names_vars p l.clause)
+    by_atom None e = absurd cc
+    by_atom (Some x) e =
+        let g = graph_at p x.graph in
+        second_passes (not (serves l.witness x.predicate)) (names_vars p l.clause) (names_known_by g l.witness) (not (passes g (easiest_part g l.witness) x.predicate l.witness)) (not (shows_clause g x l.clause l.witness)) e
+
+names_known : (p : Instance) (earlier : List (List ℤ)) (s : Step) → step_fault p earlier s ≡ None → IsTrue (names_vars p (clause_of s))
+names_known p earlier (step.Lemma l) h = lemma_names p l h
+names_known p earlier (step.Chain c) h =
+    let justified = (no_fault_in p earlier c).0 h in
     let a = and_parts (names_vars p c.clause && names_clauses earlier c.used) (covers c.clause (chain_end (clauses_named earlier c.used))) justified in
     (and_parts (names_vars p c.clause) (names_clauses earlier c.used) a.0).0
 
-pub steps_more : (p : Instance) (before : List (ℕ × Option Item)) (s s' : StepLines) (n : ℕ) (i : Option Item) → AreStepsSeen p before s → None ≡ step_line_fault p s.earlier.items i → AreStepsAfter s n i s' → AreStepsSeen p (before ++ (n, i) ∷ []) s'
-steps_more p before s s' n None seen h after = absurd cc
-steps_more p before s s' n (Some (item.Status k)) seen h after = absurd cc
-steps_more p before s s' n (Some (item.Values ls ends)) seen h after = absurd cc
-steps_more p before s s' n (Some item.Lemma) seen h after = absurd cc
-steps_more p before s s' n (Some (item.Chain c)) seen h after =
+pub steps_more : (p : Instance) (before : List (ℕ × Option Item)) (s after : StepLines) (n : ℕ) (i : Option Item) → AreStepsSeen p before s → None ≡ step_line_fault p s.earlier.items i → IsStepAfter s n i after → AreStepsSeen p (before ++ (n, i) ∷ []) after
+steps_more p before s after n None seen h k = absurd cc
+steps_more p before s after n (Some (says.Status q)) seen h k = absurd cc
+steps_more p before s after n (Some (says.Values zs)) seen h k = absurd cc
+steps_more p before s after n (Some (says.Step r)) seen h k =
+    let none : step_fault p (p.clauses ++ s.earlier.items) r ≡ None = unmapped reason_of (step_fault p (p.clauses ++ s.earlier.items) r) (sym h) in
+    let longer : length after.earlier.items ≡ length s.earlier.items + 1 = ap length k.earlier ∙ length-append s.earlier.items (clause_of r ∷ []) in
     record {
-      vars = after.0 ∙ seen.vars;
-      clauses = after.1 ∙ ap (λ (cs : List (List ℤ)). cs ++ c.clause ∷ []) seen.clauses ∙ sym (clauses_push before n c);
-      known = subst (λ (cs : List (List ℤ)). All (All (IsLitWithin p.vars)) cs) (sym after.1) (All-push (All (IsLitWithin p.vars)) s.earlier.items c.clause seen.known (all_within p c.clause (no_fault_names p (p.clauses ++ s.earlier.items) c h)));
-      last = after.2 ∙ last_more before n (Some (item.Chain c));
-      ends = after.3 ∙ sym (ap ends_empty (steps_push before n c) ∙ ends_push (steps_in before) (step.Chain c));
+      size = k.checker ∙ seen.size;
+      clauses = k.earlier ∙ ap (λ (cs : List (List ℤ)). cs ++ clause_of r ∷ []) seen.clauses ∙ sym (clauses_push before n r);
+      known = subst (λ (cs : List (List ℤ)). All (All (IsLitWithin p.vars)) cs) (sym k.earlier) (All-push (All (IsLitWithin p.vars)) s.earlier.items (clause_of r) seen.known (all_within p (clause_of r) (names_known p (p.clauses ++ s.earlier.items) r none)));
+      chains = k.chains ∙ ap (λ (m : ℕ). if is_chain r then m + 1 else m) seen.chains ∙ count_push (steps_in before) r ∙ sym (ap chain_count (steps_push before n r));
+      few = (let f = few_more (is_chain r) s.chains (length s.earlier.items) seen.few in omega (arith, f, longer, k.chains));
+      last = k.last ∙ last_more before n (Some (says.Step r));
+      ends = k.ends ∙ sym (ap ends_empty (steps_push before n r) ∙ ends_push (steps_in before) r);
     }

@@ -1,9 +1,10 @@
-pub mod Items
 pub mod Lines
 pub mod Names
 pub mod Values
 pub mod StepLines
+pub mod Atoms
 pub mod Verdicts
 pub mod Seen
+pub mod Enabled
 pub mod Worked
 pub mod Answers

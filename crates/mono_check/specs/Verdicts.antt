@@ -1,60 +1,86 @@
--- The verdict on an answer.
-use Rattle.std.specs.Prelude.{ℕ, List, [], ◌∷◌, length, if◌then◌else◌, Option, Some, None}
+-- The verdict on an answer. Whether a predicate holds isn't computed, so what a text comes to is a verdict, or values that the predicates decide on.
+use Rattle.std.specs.Prelude.{◌≡◌, ℕ, Bool, true, false, List, [], ◌∷◌, if◌then◌else◌, Option, Some, None}
+use Rattle.mono_base.specs.Literal.{value_in}
 use Rattle.mono_problem.specs.Instance.{Instance}
-use Rattle.mono_problem.specs.declared.atom.Atom.{Atom}
-use Rattle.mono_steps.specs.ChainSteps.{ends_empty}
-use Rattle.mono_check.specs.declared.item.Claim.{Claim}
-use Rattle.mono_check.specs.declared.item.Claim.TheVariants as claim
-use Rattle.mono_check.specs.declared.item.Kind.{Kind}
-use Rattle.mono_check.specs.declared.item.Kind.TheVariants as kind
-use Rattle.mono_check.specs.declared.item.Item.{Item}
-use Rattle.mono_check.specs.declared.item.Item.TheVariants as item
+use Rattle.mono_problem.specs.Holds.{Agrees}
+use Rattle.mono_steps.specs.Steps.{ends_empty}
+use Rattle.mono_answer.specs.declared.kind.Kind.TheVariants as kind
+use Rattle.mono_answer.specs.declared.item.Item.{Item}
+use Rattle.mono_answer.specs.declared.item.Item.TheVariants as says
+use Rattle.mono_answer.specs.Items.{items_of}
 use Rattle.mono_check.specs.declared.reason.Reason.{Reason}
 use Rattle.mono_check.specs.declared.reason.Reason.TheVariants as reason
 use Rattle.mono_check.specs.declared.verdict.Verdict.{Verdict}
 use Rattle.mono_check.specs.declared.verdict.Verdict.TheVariants as verdict
-use Rattle.mono_check.specs.Items.{items_of}
 use Rattle.mono_check.specs.Lines.{first_fault, last_line}
-use Rattle.mono_check.specs.Values.{value_fault, literals_in, has_ended, end_line, false_clause}
-use Rattle.mono_check.specs.StepLines.{step_line_fault, clauses_in, steps_in}
+use Rattle.mono_check.specs.Values.{model_line_fault, literals_in, end_line, model_of, false_clause}
+use Rattle.mono_check.specs.StepLines.{steps_line_fault, steps_in, chain_count}
+use Rattle.mono_check.specs.Atoms.{IsFirstWrong}
 
--- the fault of a line of an answer of this kind, over the lines before it
-abbrev pub line_fault : Instance → Kind → List (ℕ × Option Item) → Option Item → Option Reason
-line_fault p kind.Model before i = value_fault p (literals_in before) (has_ended before) i
-line_fault p (kind.Steps c) before i = step_line_fault p (clauses_in before) i
+-- a verdict, or values without a false clause whose ending 0 stands in this line
+pub data Outcome : Type 0 where
+  Decided : Verdict → Outcome
+  ValuesIn : ℕ → List Bool → Outcome
 
--- values whose ending 0 stands in line n: a false clause is told first; whether a predicate holds isn't judged yet
-abbrev pub values_verdict : ℕ → Option ℕ → List Atom → Verdict
-values_verdict n (Some k) atoms = verdict.Rejected n (reason.ClauseFalse k)
-values_verdict n None (x ∷ xs) = verdict.Rejected n reason.NotBuilt
-values_verdict n None [] = verdict.Model
+abbrev pub or_rejected : Option (ℕ × Reason) → Outcome → Outcome
+or_rejected None o = o
+or_rejected (Some (n, r)) o = Decided (verdict.Rejected n r)
 
-abbrev pub model_verdict : Instance → ℕ → List (ℕ × Option Item) → Verdict
-model_verdict p n ls = elim (end_line ls) [ None ↦ verdict.Rejected (last_line n ls) reason.BadLine | Some k ↦ values_verdict k (false_clause p (literals_in ls)) p.atoms ]
+-- ---- models
+
+-- values whose ending 0 stands in line n: a false clause is told first
+abbrev pub values_outcome : ℕ → Option ℕ → List Bool → Outcome
+values_outcome n (Some k) values = Decided (verdict.Rejected n (reason.ClauseFalse k))
+values_outcome n None values = ValuesIn n values
+
+-- where no line behind the status line, line n, is at fault
+abbrev pub ended_outcome : Instance → Option ℕ → ℕ → List Bool → Outcome
+ended_outcome p None n values = Decided (verdict.Rejected n reason.BadLine)
+ended_outcome p (Some k) n values = values_outcome k (false_clause p values) values
+
+abbrev pub model_end : Instance → ℕ → List (ℕ × Option Item) → Outcome
+model_end p n ls = ended_outcome p (end_line ls) (last_line n ls) (model_of p (literals_in ls))
+
+-- what the lines behind the status line come to
+abbrev pub model_outcome : Instance → ℕ → List (ℕ × Option Item) → Outcome
+model_outcome p n ls = or_rejected (first_fault (model_line_fault p) [] ls) (model_end p n ls)
+
+-- ---- steps
 
 -- justified steps: a refutation ends in a chain with the empty clause
-abbrev pub steps_verdict : Claim → ℕ → List (ℕ × Option Item) → Verdict
-steps_verdict claim.Refutation n ls = if ends_empty (steps_in ls) then verdict.Refutation else verdict.Rejected (last_line n ls) reason.NoEmptyClause
-steps_verdict claim.Progress n ls = verdict.Progress (length (steps_in ls))
+abbrev pub steps_verdict : Bool → ℕ → List (ℕ × Option Item) → Verdict
+steps_verdict true n ls = if ends_empty (steps_in ls) then verdict.Refutation else verdict.Rejected (last_line n ls) reason.NoEmptyClause
+steps_verdict false n ls = verdict.Progress (chain_count (steps_in ls))
 
--- the verdict where no line behind the status line, line n, is at fault
-abbrev pub end_verdict : Instance → Kind → ℕ → List (ℕ × Option Item) → Verdict
-end_verdict p kind.Model n ls = model_verdict p n ls
-end_verdict p (kind.Steps c) n ls = steps_verdict c n ls
+abbrev pub steps_end : Bool → ℕ → List (ℕ × Option Item) → Outcome
+steps_end refutes n ls = Decided (steps_verdict refutes n ls)
 
-abbrev pub or_rejected : Option (ℕ × Reason) → Verdict → Verdict
-or_rejected None v = v
-or_rejected (Some (n, r)) v = verdict.Rejected n r
+-- what the lines behind the status line come to, which says whether they are a refutation
+abbrev pub steps_outcome : Instance → Bool → ℕ → List (ℕ × Option Item) → Outcome
+steps_outcome p refutes n ls = or_rejected (first_fault (steps_line_fault p) [] ls) (steps_end refutes n ls)
 
--- the verdict on the lines behind the status line
-abbrev pub lines_verdict : Instance → Kind → ℕ → List (ℕ × Option Item) → Verdict
-lines_verdict p k n ls = or_rejected (first_fault (line_fault p k) [] ls) (end_verdict p k n ls)
+-- ---- answers
 
-abbrev pub items_verdict : Instance → List (ℕ × Option Item) → Verdict
-items_verdict p [] = verdict.Rejected 1 reason.NotAnswer
-items_verdict p ((n, Some (item.Status k)) ∷ ls) = lines_verdict p k n ls
-items_verdict p ((n, i) ∷ ls) = verdict.Rejected n reason.NotAnswer
+abbrev pub items_outcome : Instance → List (ℕ × Option Item) → Outcome
+items_outcome p [] = Decided (verdict.Rejected 1 reason.NotAnswer)
+items_outcome p ((n, Some (says.Status kind.Model)) ∷ ls) = model_outcome p n ls
+items_outcome p ((n, Some (says.Status kind.Refutation)) ∷ ls) = steps_outcome p true n ls
+items_outcome p ((n, Some (says.Status kind.Progress)) ∷ ls) = steps_outcome p false n ls
+items_outcome p ((n, i) ∷ ls) = Decided (verdict.Rejected n reason.NotAnswer)
+
+-- what the text of an answer to the problem comes to
+abbrev pub outcome_of : Instance → List ℕ → Outcome
+outcome_of p text = items_outcome p (items_of text)
+
+-- ---- the verdict
+
+-- values are a model where each predicate's variable agrees with its predicate. Otherwise the first that doesn't is named
+abbrev pub IsOutcome : Instance → Outcome → Verdict → Type 0
+IsOutcome p (Decided w) v = v ≡ w
+IsOutcome p (ValuesIn n values) verdict.Model = Agrees p (value_in values)
+IsOutcome p (ValuesIn n values) (verdict.Rejected m (reason.AtomWrong k)) = (m ≡ n) × IsFirstWrong p (value_in values) k
+IsOutcome p (ValuesIn n values) v = ⊥
 
 -- the verdict on the text of an answer to the problem
-abbrev pub verdict_of : Instance → List ℕ → Verdict
-verdict_of p text = items_verdict p (items_of text)
+abbrev pub IsVerdict : Instance → List ℕ → Verdict → Type 0
+IsVerdict p text v = IsOutcome p (outcome_of p text) v

@@ -1,14 +1,22 @@
--- Verdicts over small problems, for rows that are worked out.
-use Rattle.std.specs.Prelude.{ℕ, ℤ, List, [], ◌∷◌}
+-- What answers to small problems come to, for rows that are worked out.
+use Rattle.std.specs.Prelude.{ℕ, ℤ, pos, negsuc, List, [], ◌∷◌}
+use Rattle.mono_problem.specs.Instance.{Instance}
 use Rattle.mono_problem.specs.declared.atom.Predicate.TheVariants as kind
-use Rattle.mono_check.specs.declared.verdict.Verdict.{Verdict}
-use Rattle.mono_check.specs.Verdicts.{verdict_of}
+use Rattle.mono_check.specs.Verdicts.{Outcome, outcome_of}
 
--- the verdict over the problem of these clauses and the variables 1 to `vars`
-abbrev pub judged : ℕ → List (List ℤ) → List ℕ → Verdict
-judged vars cs text = verdict_of (record { vars = vars; graphs = []; atoms = []; clauses = cs }) text
+-- over the problem of these clauses and the variables 1 to `vars`
+abbrev pub judged : ℕ → List (List ℤ) → List ℕ → Outcome
+judged vars cs text = outcome_of (record { vars = vars; graphs = []; atoms = []; clauses = cs }) text
 
--- the same with one graph of one node, and the predicate that the node reaches itself
-abbrev pub judged_with_atom : ℕ → List (List ℤ) → List ℕ → Verdict
-judged_with_atom vars cs text =
-    verdict_of (record { vars = vars; graphs = (0, record { nodes = 1; edges = [] }) ∷ []; atoms = record { number = 1; graph = 0; var = 1; predicate = kind.Reach 0 0 } ∷ []; clauses = cs }) text
+-- edge 1 from node 0 to node 1 where variable 1 is true, edge 2 from node 1 to node 2 where variable 2 is; variable 3 says that node 0 reaches node 2
+abbrev pub two_edges : List (List ℤ) → Instance
+two_edges cs = record {
+  vars = 3;
+  graphs = (0, record { nodes = 3; edges = record { number = 1; from = 0; to = 1; var = 1; weight = 1 } ∷ record { number = 2; from = 1; to = 2; var = 2; weight = 1 } ∷ [] }) ∷ [];
+  atoms = record { number = 1; graph = 0; var = 3; predicate = kind.Reach 0 2 } ∷ [];
+  clauses = cs;
+}
+
+-- over these edges and the clauses {1}, {2} and {-3}, which the predicate contradicts
+abbrev pub reached : List ℕ → Outcome
+reached text = outcome_of (two_edges ((pos 1 ∷ []) ∷ (pos 2 ∷ []) ∷ (negsuc 2 ∷ []) ∷ [])) text

@@ -1,39 +1,46 @@
 //! What verdicts show.
 
-ghost use Rattle.std.specs.Prelude.{◌≡◌, ◌↔◌, ℕ, Bool, List, [], length, IsTrue};
-ghost use Rattle.mono_base.specs.Literal.{all_true, value_in};
+ghost use Rattle.std.specs.Prelude.{◌≡◌, ◌↔◌, ℕ, Bool, List, IsTrue};
+ghost use Rattle.mono_base.specs.Literal.{value_in};
 ghost use Rattle.mono_problem.specs.Instance.{Instance};
+ghost use Rattle.mono_problem.specs.WellFormed.{IsInstance};
 ghost use Rattle.mono_problem.specs.Holds.{HasNoModel, Satisfies};
-ghost use Rattle.mono_steps.specs.ChainSteps.{are_justified, is_refutation};
+ghost use Rattle.mono_steps.specs.Steps.{are_justified, is_refutation};
 ghost use Rattle.mono_steps.specs.declared.step.Step.{Step};
+ghost use Rattle.mono_answer.specs.declared.kind.Kind.TheVariants as kind;
 ghost use Rattle.mono_check.specs.Answers.{HasModel, HasSteps};
-ghost use Rattle.mono_check.specs.Verdicts.{verdict_of};
-ghost use Rattle.mono_check.specs.declared.item.Claim.TheVariants as claim;
+ghost use Rattle.mono_check.specs.StepLines.{chain_count};
+ghost use Rattle.mono_check.specs.Verdicts.{IsVerdict};
+ghost use Rattle.mono_check.specs.declared.verdict.Verdict.{Verdict};
 ghost use Rattle.mono_check.specs.declared.verdict.Verdict.TheVariants as verdict;
+
+/// A text has at most one verdict.
+pub fn one_verdict()
+    ensures { (p : Instance) (text : List ℕ) (v w : Verdict) → IsVerdict p text v → IsVerdict p text w → v ≡ w }
+{}
 
 /// The verdict is a refutation exactly where the text claims one, and its steps are one.
 pub fn accepted_refutations()
-    ensures { (p : Instance) (text : List ℕ) → (verdict_of p text ≡ verdict.Refutation) ↔ ((steps : List Step) × HasSteps claim.Refutation text steps × IsTrue (is_refutation p steps)) }
+    ensures { (p : Instance) (text : List ℕ) → IsVerdict p text verdict.Refutation ↔ ((steps : List Step) × HasSteps kind.Refutation text steps × IsTrue (is_refutation p steps)) }
 {}
 
-/// The verdict is progress exactly where the text claims it, and its steps are justified. The number is that of the steps.
+/// The verdict is progress exactly where the text claims it, and its steps are justified. The number is that of the steps
+/// that are chains.
 pub fn accepted_progress()
-    ensures { (p : Instance) (text : List ℕ) (n : ℕ) → (verdict_of p text ≡ verdict.Progress n) ↔ ((steps : List Step) × HasSteps claim.Progress text steps × IsTrue (are_justified p steps) × (n ≡ length steps)) }
+    ensures { (p : Instance) (text : List ℕ) (n : ℕ) → IsVerdict p text (verdict.Progress n) ↔ ((steps : List Step) × HasSteps kind.Progress text steps × IsTrue (are_justified p steps) × (n ≡ chain_count steps)) }
 {}
 
-/// The verdict is a model exactly where the text gives values to the variables, they make every clause true, and the
-/// problem has no predicate.
+/// The verdict is a model exactly where the text gives values to the variables, and they satisfy the problem.
 pub fn accepted_models()
-    ensures { (p : Instance) (text : List ℕ) → (verdict_of p text ≡ verdict.Model) ↔ ((a : List Bool) × HasModel p text a × IsTrue (all_true (value_in a) p.clauses) × (p.atoms ≡ [])) }
+    ensures { (p : Instance) (text : List ℕ) → IsVerdict p text verdict.Model ↔ ((a : List Bool) × HasModel p text a × Satisfies p (value_in a)) }
 {}
 
 /// Where a model is accepted, some assignment satisfies the problem.
 pub fn accepted_model_satisfies()
-    ensures { (p : Instance) (text : List ℕ) → verdict_of p text ≡ verdict.Model → (a : ℕ → Bool) × Satisfies p a }
+    ensures { (p : Instance) (text : List ℕ) → IsVerdict p text verdict.Model → (a : ℕ → Bool) × Satisfies p a }
 {}
 
-/// Where a refutation is accepted, no assignment makes every clause true, and so none satisfies the problem.
+/// Where a refutation is accepted, no assignment satisfies the problem.
 pub fn accepted_refutation_means_no_model()
-    ensures clauses { (p : Instance) (text : List ℕ) (a : ℕ → Bool) → verdict_of p text ≡ verdict.Refutation → IsTrue (all_true a p.clauses) → ⊥ }
-    ensures problem { (p : Instance) (text : List ℕ) → verdict_of p text ≡ verdict.Refutation → HasNoModel p }
+    ensures { (p : Instance) (text : List ℕ) → IsInstance p → IsVerdict p text verdict.Refutation → HasNoModel p }
 {}

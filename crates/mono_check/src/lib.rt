@@ -5,21 +5,22 @@
 //! literals of the model. `specs/` say what the verdict is; [`judge::verdict`] gives exactly that.
 #![tactic(auto)]
 
-/// What a line of an answer says.
-mod item;
+/// Predicates whose variables have the wrong value.
+mod atoms;
+/// The part of a graph that an assignment enables.
+mod enabled;
 /// The verdict on an answer.
 pub mod judge;
 /// What verdicts show.
 pub mod laws;
+/// Whether a predicate holds in a part.
+mod predicates;
 /// Lines of an answer, read.
 mod reading;
 /// Why an answer is rejected.
 mod reason;
 /// The lines of a refutation and of progress.
 mod step_lines;
-/// Tables that were worked by hand.
-#[cfg(test)]
-mod tests;
 /// The lines of a model.
 mod values;
 /// What the checker says of an answer.
@@ -27,5 +28,6 @@ mod verdict;
 /// Rows that were worked by hand, as the definitions compute them.
 pub mod worked;
 
+pub use atoms::first_wrong_atom;
 pub use reason::Reason;
 pub use verdict::Verdict;

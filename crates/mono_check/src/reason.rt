@@ -10,8 +10,17 @@ pub enum Reason {
     NotAnswer,
     /// The grammar has no such line here.
     BadLine,
-    /// A literal's variable is beyond the problem's, or no earlier clause has a number that a chain names.
+    /// No predicate has the number of a lemma.
+    UnknownAtom,
+    /// The witness of a lemma is not one for its predicate.
+    WrongKind,
+    /// A literal's variable is beyond the problem's, the predicate's graph has no such node or edge, or no earlier clause
+    /// has a number that a chain names.
     UnknownNumber,
+    /// The witness of a lemma passes its test, and the clause lacks a literal that it calls for.
+    MissingLiteral,
+    /// The witness of a lemma passes its test over no part of the graph.
+    WitnessFails,
     /// At some step of a chain not exactly one variable clashes.
     ChainStuck,
     /// The end of a chain isn't within the chain's clause.
@@ -22,8 +31,9 @@ pub enum Reason {
     ModelVariables,
     /// The model makes the clause of this number false, and none before it.
     ClauseFalse(u32),
-    /// The line is a lemma, or the answer is a model of a problem with predicates: these aren't judged yet.
-    NotBuilt,
+    /// The model gives the variable of the predicate of this number a value that differs from what holds in its graph, and
+    /// that of none before it.
+    AtomWrong(u32),
 }
 
 impl Reason {
@@ -34,13 +44,17 @@ impl Reason {
         match self {
             Reason::NotAnswer => "NotAnswer",
             Reason::BadLine => "BadLine",
+            Reason::UnknownAtom => "UnknownAtom",
+            Reason::WrongKind => "WrongKind",
             Reason::UnknownNumber => "UnknownNumber",
+            Reason::MissingLiteral => "MissingLiteral",
+            Reason::WitnessFails => "WitnessFails",
             Reason::ChainStuck => "ChainStuck",
             Reason::NotCovered => "NotCovered",
             Reason::NoEmptyClause => "NoEmptyClause",
             Reason::ModelVariables => "ModelVariables",
             Reason::ClauseFalse(_) => "ClauseFalse",
-            Reason::NotBuilt => "NotBuilt",
+            Reason::AtomWrong(_) => "AtomWrong",
         }
     }
 }

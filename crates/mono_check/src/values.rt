@@ -1,21 +1,23 @@
 //! The lines of a model.
 //!
-//! The literals so far are the members of one set, in the order in which they came. So each literal is judged in
-//! constant time, and the model is read off the set at the end.
+//! The literals so far are the members of one set. So each literal is judged in constant time, and the model is read off
+//! the set at the end.
 
-ghost use Rattle.std.specs.Prelude.{◌≡◌, ◌<◌, ◌≤◌, ◌++◌, [], pos, map, length, is_some, IsTrue, IfOk, IfNone};
-ghost use Rattle.std.specs.Bool.{OnTrue};
+ghost use Rattle.std.specs.Prelude.{◌≡◌, ◌<◌, ◌≤◌, ◌++◌, ◌&&◌, ◌||◌, ℤ, ℕ, List, [], pos, map, not, length, is_some, unwrap_or, IsTrue, IfOk, IfNone};
 ghost use Rattle.std.specs.List.{range_with_len};
+ghost use Rattle.std.specs.Ordering.{int_eq};
 ghost use Rattle.mono_base.specs.Literal.{has_lit};
-ghost use Rattle.mono_check.specs.declared.item.Kind.TheVariants as kind;
-ghost use Rattle.mono_check.specs.Items.{items_in};
-ghost use Rattle.mono_check.specs.Values.{are_values, value_fault, model_of, false_clause};
-ghost use Rattle.mono_check.specs.Seen.{values_seen, values_after, is_new};
-ghost use Rattle.mono_check.specs.Verdicts.{values_verdict, lines_verdict};
+ghost use Rattle.mono_answer.specs.Items.{items_in};
+ghost use Rattle.mono_answer.specs.declared.item.Item.TheVariants as says;
+ghost use Rattle.mono_check.specs.Values.{are_values, literals_among, has_end, goes_on, is_end, passes_end, value_fault, model_of};
+ghost use Rattle.mono_check.specs.Seen.{AreMembers, AreValuesSeen, AreValuesAfter, fits, is_new};
+ghost use Rattle.mono_check.specs.Verdicts.{IsOutcome, model_outcome, ended_outcome};
 
-use crate::item::Item;
+use crate::atoms::first_wrong_atom;
 use crate::reading::next_item;
 use crate::{Reason, Verdict};
+use mono_answer::{Item, ItemReader};
+use mono_base::limits::MAX_VARS;
 use mono_base::{Lit, LitSet};
 use mono_problem::Problem;
 use mono_text::Lines;
@@ -32,6 +34,33 @@ pub(crate) struct Values {
     last: Option<u64>,
 }
 
+/// Whether the line has an ending 0.
+fn has_end(numbers: &[i32]) -> bool
+    ensures { result ≡ has_end numbers.now }
+{
+    numbers.iter().any(|number| *number == 0)
+}
+
+/// Whether a number stands behind a 0.
+fn goes_on(numbers: &[i32]) -> bool
+    ensures { result ≡ goes_on numbers.now }
+{
+    if numbers.is_empty() {
+        return false;
+    }
+    has_end(&numbers[..numbers.len() - 1])
+}
+
+/// Whether a number stands behind the ending 0, which was in an earlier line or is in this one.
+fn passes_end(ended: bool, numbers: &[i32]) -> bool
+    ensures { result ≡ passes_end ended numbers.now }
+{
+    if ended && !numbers.is_empty() {
+        return true;
+    }
+    goes_on(numbers)
+}
+
 /// Whether a literal is over a variable of the problem that has no literal in the set.
 fn is_value(set: &LitSet, problem: &Problem, lit: Lit) -> bool
     requires { set.now.vars ≡ problem.now.vars }
@@ -40,19 +69,39 @@ fn is_value(set: &LitSet, problem: &Problem, lit: Lit) -> bool
     lit.var() <= problem.vars() && !set.has(lit) && !set.has(lit.negated())
 }
 
-/// Puts the literals into the set, as long as each is over a variable of the problem that has no literal there.
-fn add_literals(set: &mut LitSet, problem: &Problem, lits: &[Lit]) -> bool
-    requires vars { set.old.vars ≡ problem.now.vars }
-    requires values { IsTrue (are_values problem.now set.old.members) }
+/// Puts a literal into the set, where it is over a variable of the problem that has no literal there. A 0 is none.
+fn add_number(set: &mut LitSet, problem: &Problem, number: i32) -> bool
+    requires { set.old.vars ≡ problem.now.vars }
     ensures vars { set.new.vars ≡ set.old.vars }
-    ensures values { result ≡ are_values problem.now (set.old.members ++ lits.now) }
-    ensures members { OnTrue result (set.new.members ≡ set.old.members ++ lits.now) }
+    ensures fits { result ≡ fits problem.now set.old.members number }
+    ensures has { IsTrue result → (m : ℤ) → has_lit set.new.members m ≡ (has_lit set.old.members m || (not (is_end number) && int_eq m number)) }
 {
-    for lit in lits {
-        if !is_value(set, problem, *lit) {
+    if number == 0 {
+        return true;
+    }
+    let _ = problem.vars();
+    let Some(lit) = Lit::new(number) else {
+        return false;
+    };
+    if !is_value(set, problem, lit) {
+        return false;
+    }
+    set.insert(lit);
+    true
+}
+
+/// Puts the literals among the numbers into the set, as long as each is over a variable of the problem that has no literal
+/// there.
+fn add_literals(set: &mut LitSet, problem: &Problem, numbers: &[i32]) -> bool
+    requires { set.old.vars ≡ problem.now.vars }
+    ensures vars { set.new.vars ≡ set.old.vars }
+    ensures values { (lits : List ℤ) → AreMembers problem.now lits set.old → result ≡ are_values problem.now (lits ++ literals_among numbers.now) }
+    ensures members { (lits : List ℤ) → AreMembers problem.now lits set.old → IsTrue result → AreMembers problem.now (lits ++ literals_among numbers.now) set.new }
+{
+    for number in numbers {
+        if !add_number(set, problem, *number) {
             return false;
         }
-        set.insert(*lit);
     }
     true
 }
@@ -61,7 +110,7 @@ fn add_literals(set: &mut LitSet, problem: &Problem, lits: &[Lit]) -> bool
 fn is_true(set: &LitSet, var: u32) -> bool
     requires low { 0 < var }
     requires high { var ≤ set.now.vars }
-    requires limit { var ≤ 1000000 }
+    requires limit { var ≤ MAX_VARS }
     ensures { result ≡ has_lit set.now.members (pos var) }
 {
     match Lit::new(var as i32) {
@@ -85,7 +134,7 @@ fn model(alloc: Global, problem: &Problem, set: &LitSet) -> Result<Vec<bool>, Al
 
 impl Values {
     fn new(alloc: Global, problem: &Problem) -> Result<Values, AllocError>
-        ensures { IfOk result (λ values. values ≡ values_seen problem.now []) }
+        ensures { IfOk result (AreValuesSeen problem.now []) }
     {
         Ok(Values {
             set: LitSet::new(alloc, problem.vars())?,
@@ -94,85 +143,96 @@ impl Values {
         })
     }
 
-    /// Judges a line, and adds what it says where it isn't at fault.
-    fn add(&mut self, problem: &Problem, number: u64, item: &Option<Item>) -> Option<Reason>
-        requires vars { self.old.set.vars ≡ problem.now.vars }
-        requires values { IsTrue (are_values problem.now self.old.set.members) }
-        ensures fault { result ≡ value_fault problem.now self.old.set.members (is_some self.old.end) item.now }
-        ensures after { IfNone result (self.new ≡ values_after self.old number item.now) }
+    fn add_values(&mut self, problem: &Problem, number: u64, values: &[i32]) -> Option<Reason>
+        requires { self.old.set.vars ≡ problem.now.vars }
+        ensures fault { (lits : List ℤ) → AreMembers problem.now lits self.old.set → result ≡ value_fault problem.now lits (is_some self.old.end) (Some (says.Values values.now)) }
+        ensures after { (lits : List ℤ) → AreMembers problem.now lits self.old.set → IfNone result (AreValuesAfter problem.now lits self.old number (Some (says.Values values.now)) self.new) }
+    {
+        if passes_end(self.end.is_some(), values) {
+            return Some(Reason::BadLine);
+        }
+        if !add_literals(&mut self.set, problem, values) {
+            return Some(Reason::ModelVariables);
+        }
+        if has_end(values) {
+            if self.set.members().len() < problem.vars() as usize {
+                return Some(Reason::ModelVariables);
+            }
+            self.end = Some(number);
+        }
+        self.last = Some(number);
+        None
+    }
+
+    /// Judges a line, and adds what it says where it isn't at fault. The reader gets its room back.
+    fn add(
+        &mut self,
+        reader: &mut ItemReader,
+        problem: &Problem,
+        number: u64,
+        item: Option<Item>,
+    ) -> Option<Reason>
+        requires { self.old.set.vars ≡ problem.now.vars }
+        ensures fault { (lits : List ℤ) → AreMembers problem.now lits self.old.set → result ≡ value_fault problem.now lits (is_some self.old.end) item }
+        ensures after { (lits : List ℤ) → AreMembers problem.now lits self.old.set → IfNone result (AreValuesAfter problem.now lits self.old number item self.new) }
     {
         match item {
-            Some(Item::Values(lits, ends)) => {
-                let lits = lits.as_slice();
-                if self.end.is_some() && (!lits.is_empty() || *ends) {
-                    return Some(Reason::BadLine);
-                }
-                if !add_literals(&mut self.set, problem, lits) {
-                    return Some(Reason::ModelVariables);
-                }
-                if *ends {
-                    if self.set.members().len() < problem.vars() as usize {
-                        return Some(Reason::ModelVariables);
-                    }
-                    self.end = Some(number);
-                }
-                self.last = Some(number);
-                None
+            Some(Item::Values(values)) => {
+                let reason = self.add_values(problem, number, values.as_slice());
+                reader.reuse_values(values);
+                reason
             }
             _ => Some(Reason::BadLine),
         }
     }
-}
 
-/// The verdict on values whose ending 0 stands in this line.
-fn verdict_on_values(
-    alloc: Global,
-    problem: &Problem,
-    set: &LitSet,
-    line: u64,
-) -> Result<Verdict, AllocError>
-    requires { set.now.vars ≡ problem.now.vars }
-    ensures { IfOk result (λ verdict. verdict ≡ values_verdict line (false_clause problem.now set.now.members) problem.now.atoms) }
-{
-    let model = model(alloc, problem, set)?;
-    if let Some(clause) = problem.first_false_clause(model.as_slice()) {
-        return Ok(Verdict::Rejected {
-            line,
-            reason: Reason::ClauseFalse(clause),
-        });
+    /// The verdict behind the last line, where no line is at fault. `status` is the status line.
+    fn verdict(&self, alloc: Global, problem: &Problem, status: u64) -> Result<Verdict, AllocError>
+        requires { self.now.set.vars ≡ problem.now.vars }
+        ensures { IfOk result (IsOutcome problem.now (ended_outcome problem.now self.now.end (unwrap_or self.now.last status) (model_of problem.now self.now.set.members))) }
+    {
+        let Some(line) = self.end else {
+            return Ok(Verdict::Rejected {
+                line: self.last.unwrap_or(status),
+                reason: Reason::BadLine,
+            });
+        };
+        let model = model(alloc, problem, &self.set)?;
+        let model = model.as_slice();
+        if let Some(clause) = problem.first_false_clause(model) {
+            return Ok(Verdict::Rejected {
+                line,
+                reason: Reason::ClauseFalse(clause),
+            });
+        }
+        match first_wrong_atom(alloc, problem, model)? {
+            Some(atom) => Ok(Verdict::Rejected {
+                line,
+                reason: Reason::AtomWrong(atom),
+            }),
+            None => Ok(Verdict::Model),
+        }
     }
-    if problem.atom_count() > 0 {
-        return Ok(Verdict::Rejected {
-            line,
-            reason: Reason::NotBuilt,
-        });
-    }
-    Ok(Verdict::Model)
 }
 
 /// The verdict on the lines behind the status line of a model, whose number is given.
 pub(crate) fn judge_model(
     alloc: Global,
     problem: &Problem,
+    reader: &mut ItemReader,
     status: u64,
     mut lines: Lines<'_>,
 ) -> Result<Verdict, AllocError>
-    ensures { IfOk result (λ verdict. verdict ≡ lines_verdict problem.now kind.Model status (items_in lines.entry)) }
+    ensures { IfOk result (IsOutcome problem.now (model_outcome problem.now status (items_in lines.entry))) }
 {
     let mut values = Values::new(alloc, problem)?;
-    while let Some((number, item)) = next_item(alloc, &mut lines)? {
-        if let Some(reason) = values.add(problem, number, &item) {
+    while let Some((number, item)) = next_item(reader, &mut lines)? {
+        if let Some(reason) = values.add(reader, problem, number, item) {
             return Ok(Verdict::Rejected {
                 line: number,
                 reason,
             });
         }
     }
-    match values.end {
-        Some(line) => verdict_on_values(alloc, problem, &values.set, line),
-        None => Ok(Verdict::Rejected {
-            line: values.last.unwrap_or(status),
-            reason: Reason::BadLine,
-        }),
-    }
+    values.verdict(alloc, problem, status)
 }

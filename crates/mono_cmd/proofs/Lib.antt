@@ -1,2 +1,5 @@
-pub mod Sound
-pub mod OneEnding
+mod Needs
+mod OneEnding
+mod PlaceLaws
+mod Sound
+mod Stages

@@ -1,159 +1,210 @@
--- One command over the same told files comes to one ending.
-use Rattle.std.proofs.Common.{◌≡◌, ◌≢◌, ℕ, ◌<◌, List, Option, Some, None, length, refl, sym, ap, subst, ◌∙◌, inl, inr, arith}
-use Rattle.std.specs.Prelude.{IsSomeAnd, ◌⊎◌}
+-- Over the same told texts one command comes to one ending.
+use Rattle.std.proofs.Common.{◌≡◌, ◌≢◌, ◌<◌, ◌≤◌, ◌⊎◌, ◌+◌, ℕ, List, Option, Some, None, IsNone, IsTrue, IfSome, length, refl, sym, ap, subst, ◌∙◌, inl, inr, arith}
+use Rattle.std.specs.Prelude.{IsSomeAnd}
+use Rattle.mono_base.specs.declared.limits.TheConstants.{MAX_INPUT_BYTES, MAX_ANSWER_BYTES}
 use Rattle.mono_problem.specs.Instance.{Instance}
-use Rattle.mono_gnf.specs.Stands.{Stands}
 use Rattle.mono_gnf.specs.Faults.{first_fault}
 use Rattle.mono_gnf.specs.Printed.{printed}
+use Rattle.mono_gnf.specs.Stands.{Stands}
 use Rattle.mono_gnf.specs.declared.fault.GnfFault.{GnfFault}
-use Rattle.mono_check.specs.declared.verdict.Verdict.{Verdict}
-use Rattle.mono_check.specs.Verdicts.{verdict_of}
-use Rattle.mono_io.specs.Shelf.{Texts, text_named}
+use Rattle.mono_check.specs.Verdicts.{IsVerdict}
+use Rattle.mono_check.proofs.Accepted.{same_verdict}
+use Rattle.mono_io.specs.Reading.{IsRead, IsTooLong, IsNotRead}
+use Rattle.mono_io.specs.Shelf.{Texts, ShelfView, text_named, Lacks}
 use Rattle.mono_cmd.specs.declared.command.Command.{Command}
 use Rattle.mono_cmd.specs.declared.command.Command.TheVariants as command
 use Rattle.mono_cmd.specs.declared.ending.Ending.{Ending}
 use Rattle.mono_cmd.specs.declared.ending.Ending.TheVariants as ending
-use Rattle.mono_cmd.specs.Commands.{file_of}
-use Rattle.mono_cmd.specs.Runs.{Ends, HasProblem, IsRead, IsLonger, IsRefused, IsJudged, IsPrinted, IsFileTooLong, IsAnswerTooLong, input_limit, answer_limit}
+use Rattle.mono_cmd.specs.Runs.{EndsAtText, EndsAtFile, HasProblem, IsJudged, ComesTo, Ends}
 use Rattle.mono_cmd.proofs.Sound.{same_problem}
+use Rattle.mono_cmd.proofs.Stages.{ends_else}
 
--- a told file has one text, and isn't both read and too long
-same_read : (held : Texts) (file : List ℕ) (limit limit' : ℕ) (a b : List ℕ) → IsRead (Some held) file limit a → IsRead (Some held) file limit' b → a ≡ b
-same_read held file limit limit' a b r s = cc (r.told, s.told)
+-- ---- one text, if there is one
 
-longer_at : (o : Option (List ℕ)) (limit : ℕ) (a : List ℕ) → o ≡ Some a → IsSomeAnd o (λ text. limit < length text) → limit < length a
-longer_at None limit a is longer = absurd longer
-longer_at (Some t) limit a is longer = let same : t ≡ a = cc in subst (λ (u : List ℕ). limit < length u) same longer
+record WasRead (told : Option (List ℕ)) (limit : ℕ) (text : List ℕ) : Type 0 where
+  is : told ≡ Some text
+  within : length text ≤ limit
 
-not_both : (held : Texts) (file : List ℕ) (limit : ℕ) (a : List ℕ) → IsRead (Some held) file limit a → IsLonger (Some held) file limit → ⊥
-not_both held file limit a r longer = absurd (omega (arith, r.within, longer_at (text_named file held) limit a r.told longer))
+abbrev AtText : Option (List ℕ) → ℕ → Ending → Type 0
+AtText told limit e = ((e ≡ ending.ReadFault) × IsNone told) ⊎ ((e ≡ ending.TooLong) × IsSomeAnd told (λ text. limit < length text))
 
--- FILE stands for one problem, and has no first fault then
-one_problem : (held : Texts) (file : List ℕ) (p q : Instance) → HasProblem (Some held) file p → HasProblem (Some held) file q → p ≡ q
-one_problem held file p q a b =
-    let same = same_read held file input_limit input_limit a.text b.text a.read b.read in
-    same_problem b.text p q (subst (λ (t : List ℕ). Stands t p) same a.stands) b.stands
+missing_not_long : (told : Option (List ℕ)) (limit : ℕ) → IsNone told → IsSomeAnd told (λ text. limit < length text) → ⊥
+missing_not_long None limit none longer = longer
+missing_not_long (Some t) limit none longer = absurd cc
 
-no_fault : (held : Texts) (file : List ℕ) (p : Instance) (text : List ℕ) (line : ℕ) (f : GnfFault) → HasProblem (Some held) file p → IsRead (Some held) file input_limit text → first_fault text ≡ Some (line, f) → ⊥
-no_fault held file p text line f a r first =
-    let same = same_read held file input_limit input_limit a.text text a.read r in
-    let stands : Stands text p = subst (λ (t : List ℕ). Stands t p) same a.stands in
-    absurd (cc (stands.0, first))
+read_not_long : (told : Option (List ℕ)) (limit : ℕ) (text : List ℕ) → WasRead told limit text → IsSomeAnd told (λ t. limit < length t) → ⊥
+read_not_long None limit text read longer = longer
+read_not_long (Some t) limit text read longer =
+    let same : t ≡ text = (let is : Some t ≡ Some text = read.is in cc) in
+    absurd (omega (arith, read.within, subst (λ (u : List ℕ). limit < length u) same longer))
 
-same_pair : (x y : ℕ × GnfFault) → Some x ≡ Some y → x ≡ y
-same_pair x y e = cc
+read_not_missing : (told : Option (List ℕ)) (limit : ℕ) (text : List ℕ) → WasRead told limit text → IsNone told → ⊥
+read_not_missing None limit text read none = absurd (let is : ◌≡◌ {A = Option (List ℕ)} None (Some text) = read.is in cc)
+read_not_missing (Some t) limit text read none = absurd cc
 
-module _ (found : Option Command) (held : Texts) where
-  same_command : (c d : Command) → found ≡ Some c → found ≡ Some d → c ≡ d
-  same_command c d a b = cc (a, b)
+text_text : (told : Option (List ℕ)) (limit : ℕ) (e e' : Ending) → AtText told limit e → AtText told limit e' → e ≡ e'
+text_text told limit e e' (inl a) (inl b) = a.0 ∙ sym b.0
+text_text told limit e e' (inl a) (inr b) = absurd (missing_not_long told limit a.1 b.1)
+text_text told limit e e' (inr a) (inl b) = absurd (missing_not_long told limit b.1 a.1)
+text_text told limit e e' (inr a) (inr b) = a.0 ∙ sym b.0
 
-  read_at : (file file' : List ℕ) (limit : ℕ) (a : List ℕ) → file ≡ file' → IsRead (Some held) file limit a → IsRead (Some held) file' limit a
-  read_at file file' limit a same r = subst (λ (f : List ℕ). IsRead (Some held) f limit a) same r
+text_read : (told : Option (List ℕ)) (limit : ℕ) (e : Ending) (text : List ℕ) → AtText told limit e → WasRead told limit text → ⊥
+text_read told limit e text (inl a) read = read_not_missing told limit text read a.1
+text_read told limit e text (inr a) read = read_not_long told limit text read a.1
 
-  problem_at : (file file' : List ℕ) (p : Instance) → file ≡ file' → HasProblem (Some held) file p → HasProblem (Some held) file' p
-  problem_at file file' p same r = subst (λ (f : List ℕ). HasProblem (Some held) f p) same r
+same_text : (told : Option (List ℕ)) (limit : ℕ) (a b : List ℕ) → WasRead told limit a → WasRead told limit b → a ≡ b
+same_text told limit a b r s = let is : Some a ≡ Some b = sym r.is ∙ s.is in cc
 
-  file_long_refused : (line : ℕ) (f : GnfFault) → IsFileTooLong found (Some held) → IsRefused found (Some held) line f → ⊥
-  file_long_refused line f r q =
-      let same = ap file_of (same_command q.command r.command q.is r.is) in
-      not_both held (file_of r.command) input_limit q.text (read_at (file_of q.command) (file_of r.command) input_limit q.text same q.read) r.longer
+-- ---- the verdict
 
-  answer_long_refused : (line : ℕ) (f : GnfFault) → IsAnswerTooLong found (Some held) → IsRefused found (Some held) line f → ⊥
-  answer_long_refused line f r q =
-      let same = ap file_of (same_command q.command (command.Check r.file r.answer) q.is r.is) in
-      no_fault held r.file r.problem q.text line f r.stands (read_at (file_of q.command) r.file input_limit q.text same q.read) q.first
+one_judged : (p : Instance) (text : List ℕ) (e e' : Ending) → IsJudged p text e → IsJudged p text e' → e ≡ e'
+one_judged p text (ending.Judged v) (ending.Judged w) a b = ap ending.Judged (same_verdict p text v w a b)
+one_judged p text (ending.Judged v) ending.Words a b = absurd b
+one_judged p text (ending.Judged v) ending.ReadFault a b = absurd b
+one_judged p text (ending.Judged v) ending.TooLong a b = absurd b
+one_judged p text (ending.Judged v) ending.Memory a b = absurd b
+one_judged p text (ending.Judged v) (ending.Refused line fault) a b = absurd b
+one_judged p text (ending.Judged v) (ending.Printed t) a b = absurd b
+one_judged p text ending.Words e' a b = absurd a
+one_judged p text ending.ReadFault e' a b = absurd a
+one_judged p text ending.TooLong e' a b = absurd a
+one_judged p text ending.Memory e' a b = absurd a
+one_judged p text (ending.Refused line fault) e' a b = absurd a
+one_judged p text (ending.Printed t) e' a b = absurd a
 
-  file_long_judged : (v : Verdict) → IsFileTooLong found (Some held) → IsJudged found (Some held) v → ⊥
-  file_long_judged v r j =
-      let same = ap file_of (same_command (command.Check j.file j.answer) r.command j.is r.is) in
-      not_both held (file_of r.command) input_limit j.stands.text (read_at j.file (file_of r.command) input_limit j.stands.text same j.stands.read) r.longer
+-- ---- FILE
 
-  answer_long_judged : (v : Verdict) → IsAnswerTooLong found (Some held) → IsJudged found (Some held) v → ⊥
-  answer_long_judged v r j =
-      let same : j.answer ≡ r.answer = cc (j.is, r.is) in
-      not_both held r.answer answer_limit j.text (read_at j.answer r.answer answer_limit j.text same j.read) r.longer
+record WasRefused (told : Option (List ℕ)) (e : Ending) : Type 0 where
+  text : List ℕ
+  read : WasRead told MAX_INPUT_BYTES text
+  line : ℕ
+  fault : GnfFault
+  first : first_fault text ≡ Some (line, fault)
+  is : e ≡ ending.Refused line fault
 
-  file_long_printed : (t : List ℕ) → IsFileTooLong found (Some held) → IsPrinted found (Some held) t → ⊥
-  file_long_printed t r j =
-      let same = ap file_of (same_command (command.Print j.file) r.command j.is r.is) in
-      not_both held (file_of r.command) input_limit j.stands.text (read_at j.file (file_of r.command) input_limit j.stands.text same j.stands.read) r.longer
+record StandsFor (told : Option (List ℕ)) (p : Instance) : Type 0 where
+  text : List ℕ
+  read : WasRead told MAX_INPUT_BYTES text
+  stands : Stands text p
 
-  answer_long_printed : (t : List ℕ) → IsAnswerTooLong found (Some held) → IsPrinted found (Some held) t → ⊥
-  answer_long_printed t r j = absurd (cc (r.is, j.is))
+abbrev AtFile : Option (List ℕ) → Ending → Type 0
+AtFile told e = AtText told MAX_INPUT_BYTES e ⊎ WasRefused told e
 
-  long_refused : (line : ℕ) (f : GnfFault) → IsFileTooLong found (Some held) ⊎ IsAnswerTooLong found (Some held) → IsRefused found (Some held) line f → ⊥
-  long_refused line f (inl r) q = file_long_refused line f r q
-  long_refused line f (inr r) q = answer_long_refused line f r q
+refused_refused : (told : Option (List ℕ)) (e e' : Ending) → WasRefused told e → WasRefused told e' → e ≡ e'
+refused_refused told e e' a b =
+    let text = same_text told MAX_INPUT_BYTES a.text b.text a.read b.read in
+    let faults : Some (a.line, a.fault) ≡ Some (b.line, b.fault) = sym a.first ∙ ap first_fault text ∙ b.first in
+    let pairs : ◌≡◌ {A = ℕ × GnfFault} (a.line, a.fault) (b.line, b.fault) = cc in
+    a.is ∙ ap (λ (x : ℕ × GnfFault). ending.Refused x.0 x.1) pairs ∙ sym b.is
 
-  long_judged : (v : Verdict) → IsFileTooLong found (Some held) ⊎ IsAnswerTooLong found (Some held) → IsJudged found (Some held) v → ⊥
-  long_judged v (inl r) j = file_long_judged v r j
-  long_judged v (inr r) j = answer_long_judged v r j
+file_file : (told : Option (List ℕ)) (e e' : Ending) → AtFile told e → AtFile told e' → e ≡ e'
+file_file told e e' (inl a) (inl b) = text_text told MAX_INPUT_BYTES e e' a b
+file_file told e e' (inl a) (inr b) = absurd (text_read told MAX_INPUT_BYTES e b.text a b.read)
+file_file told e e' (inr a) (inl b) = absurd (text_read told MAX_INPUT_BYTES e' a.text b a.read)
+file_file told e e' (inr a) (inr b) = refused_refused told e e' a b
 
-  long_printed : (t : List ℕ) → IsFileTooLong found (Some held) ⊎ IsAnswerTooLong found (Some held) → IsPrinted found (Some held) t → ⊥
-  long_printed t (inl r) j = file_long_printed t r j
-  long_printed t (inr r) j = answer_long_printed t r j
+file_problem : (told : Option (List ℕ)) (e : Ending) (p : Instance) → AtFile told e → StandsFor told p → ⊥
+file_problem told e p (inl a) b = text_read told MAX_INPUT_BYTES e b.text a b.read
+file_problem told e p (inr a) b =
+    let text = same_text told MAX_INPUT_BYTES a.text b.text a.read b.read in
+    let none : ◌≡◌ {A = Option (ℕ × GnfFault)} (Some (a.line, a.fault)) None = sym a.first ∙ ap first_fault text ∙ b.stands.0 in
+    absurd cc
 
-  long_commands : IsFileTooLong found (Some held) ⊎ IsAnswerTooLong found (Some held) → found ≡ None → ⊥
-  long_commands (inl r) none = absurd (cc (r.is, none))
-  long_commands (inr r) none = absurd (cc (r.is, none))
+one_problem : (told : Option (List ℕ)) (p q : Instance) → StandsFor told p → StandsFor told q → p ≡ q
+one_problem told p q a b =
+    let text = same_text told MAX_INPUT_BYTES a.text b.text a.read b.read in
+    same_problem b.text p q (subst (λ (t : List ℕ). Stands t p) text a.stands) b.stands
 
-  refused_judged : (line : ℕ) (f : GnfFault) (v : Verdict) → IsRefused found (Some held) line f → IsJudged found (Some held) v → ⊥
-  refused_judged line f v q j =
-      let same = ap file_of (same_command q.command (command.Check j.file j.answer) q.is j.is) in
-      no_fault held j.file j.problem q.text line f j.stands (read_at (file_of q.command) j.file input_limit q.text same q.read) q.first
+-- ---- over told texts
 
-  refused_printed : (line : ℕ) (f : GnfFault) (t : List ℕ) → IsRefused found (Some held) line f → IsPrinted found (Some held) t → ⊥
-  refused_printed line f t q j =
-      let same = ap file_of (same_command q.command (command.Print j.file) q.is j.is) in
-      no_fault held j.file j.problem q.text line f j.stands (read_at (file_of q.command) j.file input_limit q.text same q.read) q.first
+module _ (held : Texts) where
+  -- the shelf tells these texts, and is steady where the run comes to a read fault
+  record IsOver (shelf : ShelfView) (e : Ending) : Type 0 where
+    texts : shelf.texts ≡ Some held
+    sure : e ≡ ending.ReadFault → IsTrue shelf.steady
 
-  refused_refused : (line line' : ℕ) (f f' : GnfFault) → IsRefused found (Some held) line f → IsRefused found (Some held) line' f' → ending.Refused line f ≡ ending.Refused line' f'
-  refused_refused line line' f f' q r =
-      let same = ap file_of (same_command q.command r.command q.is r.is) in
-      let text = same_read held (file_of r.command) input_limit input_limit q.text r.text (read_at (file_of q.command) (file_of r.command) input_limit q.text same q.read) r.read in
-      let first : first_fault q.text ≡ first_fault r.text = ap first_fault text in
-      ap (λ (p : ℕ × GnfFault). ending.Refused p.0 p.1) (same_pair (line, f) (line', f') (sym q.first ∙ (first ∙ r.first)))
+  was_read : (file : List ℕ) (limit : ℕ) (old new : ShelfView) (text : List ℕ) → old.texts ≡ Some held → IsRead file limit old new text → WasRead (text_named file held) limit text
+  was_read file limit old new text told read =
+      record { is = subst (λ (texts : Option Texts). IfSome texts (λ t. text_named file t ≡ Some text)) told read.whole; within = read.within }
 
-  judged_judged : (v w : Verdict) → IsJudged found (Some held) v → IsJudged found (Some held) w → ending.Judged v ≡ ending.Judged w
-  judged_judged v w j k =
-      let file : j.file ≡ k.file = cc (j.is, k.is) in
-      let answer : j.answer ≡ k.answer = cc (j.is, k.is) in
-      let problem = one_problem held k.file j.problem k.problem (problem_at j.file k.file j.problem file j.stands) k.stands in
-      let text = same_read held k.answer answer_limit answer_limit j.text k.text (read_at j.answer k.answer answer_limit j.text answer j.read) k.read in
-      let verdicts : verdict_of j.problem j.text ≡ verdict_of k.problem k.text = ap (λ (p : Instance). verdict_of p j.text) problem ∙ ap (verdict_of k.problem) text in
-      ap ending.Judged (j.verdict ∙ (verdicts ∙ sym k.verdict))
+  stands_for : (file : List ℕ) (old new : ShelfView) (p : Instance) → old.texts ≡ Some held → HasProblem file old new p → StandsFor (text_named file held) p
+  stands_for file old new p told has = record { text = has.text; read = was_read file MAX_INPUT_BYTES old new has.text told has.read; stands = has.stands }
 
-  printed_printed : (t u : List ℕ) → IsPrinted found (Some held) t → IsPrinted found (Some held) u → ending.Printed t ≡ ending.Printed u
-  printed_printed t u j k =
-      let file : j.file ≡ k.file = cc (j.is, k.is) in
-      let problem = one_problem held k.file j.problem k.problem (problem_at j.file k.file j.problem file j.stands) k.stands in
-      ap ending.Printed (j.form ∙ (ap printed problem ∙ sym k.form))
+  not_read : (file : List ℕ) (limit : ℕ) (old new : ShelfView) → IsOver old ending.ReadFault → IsNotRead file limit old new → AtText (text_named file held) limit ending.ReadFault
+  not_read file limit old new over ends = inl (refl, subst (λ (texts : Option Texts). Lacks texts file) over.texts (ends.lacking (over.sure refl)))
 
-  pub one_ending : (b n b' n' : ℕ) (e e' : Ending) → Ends found (Some held) b n e → Ends found (Some held) b' n' e' → e ≢ ending.ReadFault → e' ≢ ending.ReadFault → e ≡ e'
-  one_ending b n b' n' ending.ReadFault e' x y apart apart' = absurd (apart refl)
-  one_ending b n b' n' e ending.ReadFault x y apart apart' = absurd (apart' refl)
-  one_ending b n b' n' ending.Words ending.Words x y apart apart' = refl
-  one_ending b n b' n' ending.Words ending.TooLong x y apart apart' = absurd (long_commands y.0 x.0)
-  one_ending b n b' n' ending.Words (ending.Refused line f) x y apart apart' = absurd (cc (x.0, y.0.is))
-  one_ending b n b' n' ending.Words (ending.Judged v) x y apart apart' = absurd (cc (x.0, y.0.is))
-  one_ending b n b' n' ending.Words (ending.Printed t) x y apart apart' = absurd (cc (x.0, y.0.is))
-  one_ending b n b' n' ending.TooLong ending.Words x y apart apart' = absurd (long_commands x.0 y.0)
-  one_ending b n b' n' ending.TooLong ending.TooLong x y apart apart' = refl
-  one_ending b n b' n' ending.TooLong (ending.Refused line f) x y apart apart' = absurd (long_refused line f x.0 y.0)
-  one_ending b n b' n' ending.TooLong (ending.Judged v) x y apart apart' = absurd (long_judged v x.0 y.0)
-  one_ending b n b' n' ending.TooLong (ending.Printed t) x y apart apart' = absurd (long_printed t x.0 y.0)
-  one_ending b n b' n' (ending.Refused line f) ending.Words x y apart apart' = absurd (cc (y.0, x.0.is))
-  one_ending b n b' n' (ending.Refused line f) ending.TooLong x y apart apart' = absurd (long_refused line f y.0 x.0)
-  one_ending b n b' n' (ending.Refused line f) (ending.Refused line' f') x y apart apart' = refused_refused line line' f f' x.0 y.0
-  one_ending b n b' n' (ending.Refused line f) (ending.Judged v) x y apart apart' = absurd (refused_judged line f v x.0 y.0)
-  one_ending b n b' n' (ending.Refused line f) (ending.Printed t) x y apart apart' = absurd (refused_printed line f t x.0 y.0)
-  one_ending b n b' n' (ending.Judged v) ending.Words x y apart apart' = absurd (cc (y.0, x.0.is))
-  one_ending b n b' n' (ending.Judged v) ending.TooLong x y apart apart' = absurd (long_judged v y.0 x.0)
-  one_ending b n b' n' (ending.Judged v) (ending.Refused line f) x y apart apart' = absurd (refused_judged line f v y.0 x.0)
-  one_ending b n b' n' (ending.Judged v) (ending.Judged w) x y apart apart' = judged_judged v w x.0 y.0
-  one_ending b n b' n' (ending.Judged v) (ending.Printed t) x y apart apart' = absurd (cc (x.0.is, y.0.is))
-  one_ending b n b' n' (ending.Printed t) ending.Words x y apart apart' = absurd (cc (y.0, x.0.is))
-  one_ending b n b' n' (ending.Printed t) ending.TooLong x y apart apart' = absurd (long_printed t y.0 x.0)
-  one_ending b n b' n' (ending.Printed t) (ending.Refused line f) x y apart apart' = absurd (refused_printed line f t y.0 x.0)
-  one_ending b n b' n' (ending.Printed t) (ending.Judged w) x y apart apart' = absurd (cc (x.0.is, y.0.is))
-  one_ending b n b' n' (ending.Printed t) (ending.Printed u) x y apart apart' = printed_printed t u x.0 y.0
+  too_long : (file : List ℕ) (limit : ℕ) (old new : ShelfView) → IsOver old ending.TooLong → IsTooLong file limit old new → AtText (text_named file held) limit ending.TooLong
+  too_long file limit old new over ends =
+      inr (refl, subst (λ (texts : Option Texts). IfSome texts (λ t. IsSomeAnd (text_named file t) (λ text. limit < length text))) over.texts ends.longer)
+
+  at_text : (file : List ℕ) (limit : ℕ) (old new : ShelfView) (e : Ending) → e ≢ ending.Memory → IsOver old e → EndsAtText file limit old new e → AtText (text_named file held) limit e
+  at_text file limit old new ending.ReadFault else over ends = not_read file limit old new over ends
+  at_text file limit old new ending.TooLong else over ends = too_long file limit old new over ends
+  at_text file limit old new ending.Memory else over ends = absurd (else refl)
+  at_text file limit old new ending.Words else over ends = absurd ends
+  at_text file limit old new (ending.Refused line fault) else over ends = absurd ends
+  at_text file limit old new (ending.Judged v) else over ends = absurd ends
+  at_text file limit old new (ending.Printed text) else over ends = absurd ends
+
+  at_file : (file : List ℕ) (old new : ShelfView) (e : Ending) → e ≢ ending.Memory → IsOver old e → EndsAtFile file old new e → AtFile (text_named file held) e
+  at_file file old new (ending.Refused line fault) else over ends =
+      inr (record { text = ends.text; read = was_read file MAX_INPUT_BYTES old new ends.text over.texts ends.read; line = line; fault = fault; first = ends.first; is = refl })
+  at_file file old new ending.ReadFault else over ends = inl (not_read file MAX_INPUT_BYTES old new over ends)
+  at_file file old new ending.TooLong else over ends = inl (too_long file MAX_INPUT_BYTES old new over ends)
+  at_file file old new ending.Memory else over ends = absurd (else refl)
+  at_file file old new ending.Words else over ends = absurd ends
+  at_file file old new (ending.Judged v) else over ends = absurd ends
+  at_file file old new (ending.Printed text) else over ends = absurd ends
+
+  -- behind FILE the same texts are told, and a steady shelf is steady
+  over_next : (file : List ℕ) (old read : ShelfView) (p : Instance) (e : Ending) → IsOver old e → HasProblem file old read p → IsOver read e
+  over_next file old read p e over has = record { texts = has.read.once.texts ∙ over.texts; sure = λ same. has.read.once.steady (over.sure same) }
+
+  comes_once : (found : Option Command) (old new old' new' : ShelfView) (e e' : Ending) → e ≢ ending.Memory → e' ≢ ending.Memory → IsOver old e → IsOver old' e'
+      → ComesTo found old new e → ComesTo found old' new' e' → e ≡ e'
+  comes_once None old new old' new' e e' else else' over over' a b = a.0 ∙ sym b.0
+  comes_once (Some (command.Print file)) old new old' new' e e' else else' over over' (inl a) (inl b) =
+      file_file (text_named file held) e e' (at_file file old new e else over a) (at_file file old' new' e' else' over' b)
+  comes_once (Some (command.Print file)) old new old' new' e e' else else' over over' (inl a) (inr (q, shelf', has', end')) =
+      absurd (file_problem (text_named file held) e q (at_file file old new e else over a) (stands_for file old' shelf' q over'.texts has'))
+  comes_once (Some (command.Print file)) old new old' new' e e' else else' over over' (inr (p, shelf, has, end)) (inl b) =
+      absurd (file_problem (text_named file held) e' p (at_file file old' new' e' else' over' b) (stands_for file old shelf p over.texts has))
+  comes_once (Some (command.Print file)) old new old' new' e e' else else' over over' (inr (p, shelf, has, end)) (inr (q, shelf', has', end')) =
+      let same = one_problem (text_named file held) p q (stands_for file old shelf p over.texts has) (stands_for file old' shelf' q over'.texts has') in
+      end.0 ∙ ap (λ (r : Instance). ending.Printed (printed r)) same ∙ sym end'.0
+  comes_once (Some (command.Check file answer)) old new old' new' e e' else else' over over' (inl a) (inl b) =
+      file_file (text_named file held) e e' (at_file file old new e else over a) (at_file file old' new' e' else' over' b)
+  comes_once (Some (command.Check file answer)) old new old' new' e e' else else' over over' (inl a) (inr (q, read', has', rest')) =
+      absurd (file_problem (text_named file held) e q (at_file file old new e else over a) (stands_for file old' read' q over'.texts has'))
+  comes_once (Some (command.Check file answer)) old new old' new' e e' else else' over over' (inr (p, read, has, rest)) (inl b) =
+      absurd (file_problem (text_named file held) e' p (at_file file old' new' e' else' over' b) (stands_for file old read p over.texts has))
+  comes_once (Some (command.Check file answer)) old new old' new' e e' else else' over over' (inr (p, read, has, rest)) (inr (q, read', has', rest')) =
+      by_rest rest rest'
+    where
+      same : p ≡ q
+      same = one_problem (text_named file held) p q (stands_for file old read p over.texts has) (stands_for file old' read' q over'.texts has')
+
+      next : IsOver read e
+      next = over_next file old read p e over has
+
+      next' : IsOver read' e'
+      next' = over_next file old' read' q e' over' has'
+
+      by_rest : (EndsAtText answer MAX_ANSWER_BYTES read new e ⊎ ((text : List ℕ) × (shelf : ShelfView) × IsRead answer MAX_ANSWER_BYTES read shelf text × (IsJudged p text e × (new ≡ shelf))))
+          → (EndsAtText answer MAX_ANSWER_BYTES read' new' e' ⊎ ((text : List ℕ) × (shelf : ShelfView) × IsRead answer MAX_ANSWER_BYTES read' shelf text × (IsJudged q text e' × (new' ≡ shelf))))
+          → e ≡ e'
+      by_rest (inl a) (inl b) =
+          text_text (text_named answer held) MAX_ANSWER_BYTES e e' (at_text answer MAX_ANSWER_BYTES read new e else next a) (at_text answer MAX_ANSWER_BYTES read' new' e' else' next' b)
+      by_rest (inl a) (inr (text', shelf', given', end')) =
+          absurd (text_read (text_named answer held) MAX_ANSWER_BYTES e text' (at_text answer MAX_ANSWER_BYTES read new e else next a) (was_read answer MAX_ANSWER_BYTES read' shelf' text' next'.texts given'))
+      by_rest (inr (text, shelf, given, end)) (inl b) =
+          absurd (text_read (text_named answer held) MAX_ANSWER_BYTES e' text (at_text answer MAX_ANSWER_BYTES read' new' e' else' next' b) (was_read answer MAX_ANSWER_BYTES read shelf text next.texts given))
+      by_rest (inr (text, shelf, given, end)) (inr (text', shelf', given', end')) =
+          let texts = same_text (text_named answer held) MAX_ANSWER_BYTES text text' (was_read answer MAX_ANSWER_BYTES read shelf text next.texts given) (was_read answer MAX_ANSWER_BYTES read' shelf' text' next'.texts given') in
+          one_judged q text' e e' (subst (λ (t : List ℕ). IsJudged q t e) texts (subst (λ (r : Instance). IsJudged r text e) same end.0)) end'.0
+
+  pub one_ending : (found : Option Command) (old new old' new' : ShelfView) (e e' : Ending) → old.texts ≡ Some held → old'.texts ≡ Some held
+      → (e ≡ ending.ReadFault → IsTrue old.steady) → (e' ≡ ending.ReadFault → IsTrue old'.steady)
+      → Ends found old new e → Ends found old' new' e' → e ≢ ending.Memory → e' ≢ ending.Memory → e ≡ e'
+  one_ending found old new old' new' e e' told told' sure sure' a b else else' =
+      comes_once found old new old' new' e e' else else' (record { texts = told; sure = sure }) (record { texts = told'; sure = sure' }) (ends_else found old new e else a) (ends_else found old' new' e' else' b)

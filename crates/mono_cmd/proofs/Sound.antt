@@ -1,16 +1,21 @@
--- An accepted refutation is one of the problem that FILE stands for.
-use Rattle.std.proofs.Common.{◌≡◌, ℕ, List, ◌++◌, Option, Some, None, IfSome, refl, sym, ap, subst, ◌∙◌, codes}
+-- What the texts that `check` writes show of the problem that FILE stands for.
+use Rattle.std.proofs.Common.{◌≡◌, ◌<◌, ◌≤◌, ◌⊎◌, ℕ, Bool, false, List, [], ◌++◌, Option, Some, None, IfSome, length, take, refl, sym, ap, subst, ◌∙◌, codes, inl, inr, arith}
 use Rattle.std.specs.Prelude.{slice_index}
+use Rattle.std.proofs.Math.Dec.{eqb}
+use Rattle.std.proofs.Math.Seq.{take-length}
 use Rattle.std.proofs.lemmas.Bool.{eqb-false}
-use Rattle.std.proofs.lemmas.List.{append_cancel_left}
+use Rattle.std.proofs.lemmas.List.{append_cancel_left, append-nil, get_or-take, length-take}
 use Rattle.std.specs.Io.KnownBytes.{append_known}
+use Rattle.mono_base.specs.declared.limits.TheConstants.{MAX_INPUT_BYTES, MAX_ANSWER_BYTES}
 use Rattle.mono_problem.specs.Instance.{Instance}
-use Rattle.mono_problem.specs.Holds.{HasNoModel}
+use Rattle.mono_problem.specs.Holds.{HasNoModel, Satisfies}
 use Rattle.mono_gnf.specs.Stands.{Stands}
+use Rattle.mono_gnf.proofs.WellFormedReading.{stands_well_formed}
 use Rattle.mono_check.specs.declared.verdict.Verdict.{Verdict}
 use Rattle.mono_check.specs.declared.verdict.Verdict.TheVariants as verdict
-use Rattle.mono_check.proofs.Accepted.{refutation_has_no_model}
-use Rattle.mono_io.specs.Shelf.{Texts, text_named, told_text}
+use Rattle.mono_check.specs.Verdicts.{IsVerdict}
+use Rattle.mono_check.proofs.Accepted.{refutation_has_no_model, model_satisfies}
+use Rattle.mono_io.specs.Shelf.{Texts, ShelfView, text_named, told_text}
 use Rattle.mono_cmd.specs.declared.command.Command.{Command}
 use Rattle.mono_cmd.specs.declared.command.Command.TheVariants as command
 use Rattle.mono_cmd.specs.declared.status.Status.{Status}
@@ -18,14 +23,97 @@ use Rattle.mono_cmd.specs.declared.status.Status.TheVariants as status
 use Rattle.mono_cmd.specs.declared.ending.Ending.{Ending}
 use Rattle.mono_cmd.specs.declared.ending.Ending.TheVariants as ending
 use Rattle.mono_cmd.specs.Endings.{status_of, text_of, verdict_text}
-use Rattle.mono_cmd.specs.Runs.{Writes, Ends, IsJudged, RefutesSoundly}
+use Rattle.mono_cmd.specs.Runs.{ComesTo, Ends, Writes, Runs, HasProblem, CheckWrote, IsJudged}
+use Rattle.mono_cmd.proofs.Stages.{ends_cases}
 
--- only one verdict is written so
-only_refutation : (v : Verdict) → verdict_text v ≡ codes "accepted refutation\n" → v ≡ verdict.Refutation
-only_refutation verdict.Model same = absurd (eqb-false 109 114 refl (ap (λ (t : List ℕ). slice_index t 9) same))
-only_refutation verdict.Refutation same = refl
-only_refutation (verdict.Progress n) same = absurd (eqb-false 112 114 refl (ap (λ (t : List ℕ). slice_index t 9) same))
-only_refutation (verdict.Rejected line r) same = absurd (eqb-false 114 97 refl (ap (λ (t : List ℕ). slice_index t 0) same))
+-- ---- the front of a text
+
+-- a text with this front has its bytes at the same places
+same_byte : (text front : List ℕ) (count i : ℕ) → take count text ≡ front → i < length front → slice_index text i ≡ slice_index front i
+same_byte text front count i is within =
+    let long : i < count = omega (arith, ap (λ (l : List ℕ). length l) is, length-take count text) in
+    sym (get_or-take count text i 0 long) ∙ ap (λ (l : List ℕ). slice_index l i) is
+
+differs : (text front : List ℕ) (count i a b : ℕ) → take count text ≡ front → i < length front → slice_index text i ≡ a → slice_index front i ≡ b → (eqb a b ≡ false) → ⊥
+differs text front count i a b is within has wants other =
+    eqb-false a b other (sym has ∙ same_byte text front count i is within ∙ wants)
+
+-- a text that was written behind another is the front of the text that is due
+front_written : (e : Ending) (s : Status) (before now : Option (List ℕ)) (there written : List ℕ) → 0 < length written → Writes e s before now
+    → before ≡ Some there → now ≡ Some (there ++ written) → (count : ℕ) × (take count (text_of e) ≡ written)
+front_written e s before now there written some writes held wrote = by_status s writes
+  where
+    appended : (t : List ℕ) → now ≡ append_known before t → t ≡ written
+    appended t is = append_cancel_left there t written (let b : Some (there ++ t) ≡ Some (there ++ written) = sym (is ∙ ap (λ (o : Option (List ℕ)). append_known o t) held) ∙ wrote in cc)
+
+    whole : now ≡ append_known before (text_of e) → (count : ℕ) × (take count (text_of e) ≡ written)
+    whole is = (length (text_of e), take-length (text_of e) ∙ appended (text_of e) is)
+
+    nothing : now ≡ before → (count : ℕ) × (take count (text_of e) ≡ written)
+    nothing is =
+        let none : [] ≡ written = appended [] (is ∙ held ∙ ap (λ (l : List ℕ). Some l) (sym (append-nil there)) ∙ sym (ap (λ (o : Option (List ℕ)). append_known o []) held)) in
+        absurd (omega (arith, ap (λ (l : List ℕ). length l) none))
+
+    by_status : (t : Status) → Writes e t before now → (count : ℕ) × (take count (text_of e) ≡ written)
+    by_status status.WriteFault w = (w.count, appended (take w.count (text_of e)) w.appended)
+    by_status status.Memory w = nothing w.0
+    by_status status.Accepted w = whole w.1
+    by_status status.Printed w = whole w.1
+    by_status status.Rejected w = whole w.1
+    by_status status.Words w = whole w.1
+    by_status status.Refused w = whole w.1
+    by_status status.ReadFault w = whole w.1
+    by_status status.TooLong w = whole w.1
+
+-- ---- which verdict it was
+
+abbrev refutation_text : List ℕ
+refutation_text = codes "accepted refutation\n"
+
+abbrev model_text : List ℕ
+model_text = codes "accepted model\n"
+
+only_refutation : (v : Verdict) (count : ℕ) → take count (verdict_text v) ≡ refutation_text → v ≡ verdict.Refutation
+only_refutation verdict.Model count is = absurd (differs (verdict_text verdict.Model) refutation_text count 9 109 114 is (omega arith) refl refl refl)
+only_refutation verdict.Refutation count is = refl
+only_refutation (verdict.Progress n) count is = absurd (differs (verdict_text (verdict.Progress n)) refutation_text count 9 112 114 is (omega arith) refl refl refl)
+only_refutation (verdict.Rejected line r) count is = absurd (differs (verdict_text (verdict.Rejected line r)) refutation_text count 0 114 97 is (omega arith) refl refl refl)
+
+only_model : (v : Verdict) (count : ℕ) → take count (verdict_text v) ≡ model_text → v ≡ verdict.Model
+only_model verdict.Model count is = refl
+only_model verdict.Refutation count is = absurd (differs (verdict_text verdict.Refutation) model_text count 9 114 109 is (omega arith) refl refl refl)
+only_model (verdict.Progress n) count is = absurd (differs (verdict_text (verdict.Progress n)) model_text count 9 112 109 is (omega arith) refl refl refl)
+only_model (verdict.Rejected line r) count is = absurd (differs (verdict_text (verdict.Rejected line r)) model_text count 0 114 97 is (omega arith) refl refl refl)
+
+-- FILE stood for this problem, and the verdict on an answer was this
+record WasJudged (file : List ℕ) (old : ShelfView) (p : Instance) (v : Verdict) : Type 0 where
+  read : ShelfView
+  has : HasProblem file old read p
+  answer : List ℕ
+  is : IsVerdict p answer v
+
+judged : (file answer : List ℕ) (old new : ShelfView) (v : Verdict) → ComesTo (Some (command.Check file answer)) old new (ending.Judged v) → (p : Instance) × WasJudged file old p v
+judged file answer old new v (inl ends) = absurd ends
+judged file answer old new v (inr (p, read, has, inl ends)) = absurd ends
+judged file answer old new v (inr (p, read, has, inr (text, shelf, given, end))) = (p, record { read = read; has = has; answer = text; is = end.0 })
+
+never_printed : (file answer : List ℕ) (old new : ShelfView) (text : List ℕ) → ComesTo (Some (command.Check file answer)) old new (ending.Printed text) → ⊥
+never_printed file answer old new text (inl ends) = ends
+never_printed file answer old new text (inr (p, read, has, inl ends)) = ends
+never_printed file answer old new text (inr (p, read, has, inr (t, shelf, given, end))) = end.0
+
+-- `check` writes a text that begins with `accepted` for a verdict alone
+only_verdicts : (e : Ending) (file answer : List ℕ) (old new : ShelfView) (front : List ℕ) (count : ℕ) → Ends (Some (command.Check file answer)) old new e → take count (text_of e) ≡ front → 0 < length front → slice_index front 0 ≡ 97
+    → (v : Verdict) × (e ≡ ending.Judged v) × ComesTo (Some (command.Check file answer)) old new (ending.Judged v)
+only_verdicts ending.Words file answer old new front count ends is some a = absurd (differs (text_of ending.Words) front count 0 117 97 is some refl a refl)
+only_verdicts ending.ReadFault file answer old new front count ends is some a = absurd (differs (text_of ending.ReadFault) front count 0 114 97 is some refl a refl)
+only_verdicts ending.Memory file answer old new front count ends is some a = absurd (differs (text_of ending.Memory) front count 0 0 97 is some refl a refl)
+only_verdicts ending.TooLong file answer old new front count ends is some a = absurd (differs (text_of ending.TooLong) front count 0 116 97 is some refl a refl)
+only_verdicts (ending.Refused line fault) file answer old new front count ends is some a = absurd (differs (text_of (ending.Refused line fault)) front count 0 114 97 is some refl a refl)
+only_verdicts (ending.Printed text) file answer old new front count ends is some a = absurd (never_printed file answer old new text ends)
+only_verdicts (ending.Judged v) file answer old new front count ends is some a = (v, refl, ends)
+
+-- ---- the problem that FILE stands for
 
 -- the text that was read is the one that the shelf tells
 same_text : (texts : Option Texts) (file text read : List ℕ) → told_text texts file ≡ Some text → IfSome texts (λ held. text_named file held ≡ Some read) → read ≡ text
@@ -35,25 +123,32 @@ same_text (Some held) file text read told is = cc
 pub same_problem : (text : List ℕ) (p q : Instance) → Stands text p → Stands text q → p ≡ q
 same_problem text p q a b = a.1 ∙ sym b.1
 
-judged : (found : Option Command) (texts : Option Texts) (v : Verdict) (file answer text : List ℕ) (p : Instance) → IsJudged found texts v → found ≡ Some (command.Check file answer) → told_text texts file ≡ Some text → Stands text p → v ≡ verdict.Refutation → HasNoModel p
-judged found texts v file answer text p j is told stands refutation =
-    let same_file : j.file ≡ file = cc (j.is, is) in
-    let read : IfSome texts (λ held. text_named file held ≡ Some j.stands.text) = subst (λ (f : List ℕ). IfSome texts (λ held. text_named f held ≡ Some j.stands.text)) same_file j.stands.read.told in
-    let same : j.stands.text ≡ text = same_text texts file text j.stands.text told read in
-    let there : Stands text j.problem = subst (λ (t : List ℕ). Stands t j.problem) same j.stands.stands in
-    subst HasNoModel (same_problem text j.problem p there stands) (refutation_has_no_model j.problem j.text (sym j.verdict ∙ refutation))
+its_problem : (file text : List ℕ) (old read : ShelfView) (p q : Instance) → told_text old.texts file ≡ Some text → Stands text p → HasProblem file old read q → q ≡ p
+its_problem file text old read p q told stands has =
+    let same = same_text old.texts file text has.text told has.read.whole in
+    same_problem text q p (subst (λ (t : List ℕ). Stands t q) same has.stands) stands
 
-sound_at : (found : Option Command) (texts : Option Texts) (before now : ℕ) (e : Ending) (file answer text : List ℕ) (p : Instance) → Ends found texts before now e → status_of e ≡ status.Accepted → text_of e ≡ codes "accepted refutation\n" → found ≡ Some (command.Check file answer) → told_text texts file ≡ Some text → Stands text p → HasNoModel p
-sound_at found texts before now ending.Words file answer text p ends accepted written is told stands = absurd cc
-sound_at found texts before now ending.ReadFault file answer text p ends accepted written is told stands = absurd cc
-sound_at found texts before now ending.TooLong file answer text p ends accepted written is told stands = absurd cc
-sound_at found texts before now (ending.Refused line fault) file answer text p ends accepted written is told stands = absurd cc
-sound_at found texts before now (ending.Printed printed) file answer text p ends accepted written is told stands = absurd cc
-sound_at found texts before now (ending.Judged v) file answer text p ends accepted written is told stands =
-    judged found texts v file answer text p ends.0 is told stands (only_refutation v written)
+-- ---- what was written shows this
 
-pub sound : (found : Option Command) (texts : Option Texts) (before now : ℕ) (s : Status) (old new : Option (List ℕ)) → Writes found texts before now s old new → RefutesSoundly found texts s old new
-sound found texts before now s old new w file answer text held p is told stands old_is accepted new_is =
-    let whole : new ≡ Some (held ++ text_of w.ending) = w.written ∙ ap (λ (o : Option (List ℕ)). append_known o (text_of w.ending)) old_is in
-    let bytes : held ++ text_of w.ending ≡ held ++ codes "accepted refutation\n" = cc (whole, new_is) in
-    sound_at found texts before now w.ending file answer text p w.ends (w.status_is ∙ accepted) (append_cancel_left held (text_of w.ending) (codes "accepted refutation\n") bytes) is told stands
+verdict_written : (found : Option Command) (old new : ShelfView) (s : Status) (before now : Option (List ℕ)) (p : Instance) (written : List ℕ) → 0 < length written → slice_index written 0 ≡ 97
+    → Runs found old new s before now → CheckWrote found old.texts before now p written
+    → (v : Verdict) × (answer : List ℕ) × IsVerdict p answer v × ((count : ℕ) × (take count (verdict_text v) ≡ written))
+verdict_written found old new s before now p written some a runs wrote =
+    let ends : Ends (Some (command.Check wrote.file wrote.answer)) old new runs.ending = subst (λ (c : Option Command). Ends c old new runs.ending) wrote.is runs.ends in
+    let front = front_written runs.ending s before now wrote.there written some runs.writes wrote.held wrote.wrote in
+    let only = only_verdicts runs.ending wrote.file wrote.answer old new written front.0 ends front.1 some a in
+    let j = judged wrote.file wrote.answer old new only.0 only.2 in
+    let same = its_problem wrote.file wrote.text old j.1.read p j.0 wrote.told wrote.stands j.1.has in
+    (only.0, j.1.answer, subst (λ (q : Instance). IsVerdict q j.1.answer only.0) same j.1.is, (front.0, subst (λ (e : Ending). take front.0 (text_of e) ≡ written) only.1 front.1))
+
+pub refutes : (found : Option Command) (old new : ShelfView) (s : Status) (before now : Option (List ℕ)) → Runs found old new s before now
+    → (p : Instance) → CheckWrote found old.texts before now p (codes "accepted refutation\n") → HasNoModel p
+refutes found old new s before now runs p wrote =
+    let v = verdict_written found old new s before now p refutation_text (omega arith) refl runs wrote in
+    refutation_has_no_model p v.1 (stands_well_formed wrote.text p wrote.stands) (subst (IsVerdict p v.1) (only_refutation v.0 v.3.0 v.3.1) v.2)
+
+pub models : (found : Option Command) (old new : ShelfView) (s : Status) (before now : Option (List ℕ)) → Runs found old new s before now
+    → (p : Instance) → CheckWrote found old.texts before now p (codes "accepted model\n") → (a : ℕ → Bool) × Satisfies p a
+models found old new s before now runs p wrote =
+    let v = verdict_written found old new s before now p model_text (omega arith) refl runs wrote in
+    model_satisfies p v.1 (subst (IsVerdict p v.1) (only_model v.0 v.3.0 v.3.1) v.2)

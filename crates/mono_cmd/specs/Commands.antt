@@ -16,7 +16,8 @@ command_of (verb ∷ file ∷ []) = if bytes_eq verb (codes "print") && is_file_
 command_of (verb ∷ file ∷ answer ∷ []) = if bytes_eq verb (codes "check") && (is_file_name file && is_file_name answer) then Some (command.Check file answer) else None
 command_of (verb ∷ file ∷ answer ∷ word ∷ words) = None
 
--- the file that a command reads first
-abbrev pub file_of : Command → List ℕ
-file_of (command.Check file answer) = file
-file_of (command.Print file) = file
+-- the files that the words name, in the order in which they are read
+abbrev pub files_of : Option Command → List (List ℕ)
+files_of None = []
+files_of (Some (command.Check file answer)) = file ∷ answer ∷ []
+files_of (Some (command.Print file)) = file ∷ []

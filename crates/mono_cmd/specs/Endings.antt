@@ -1,7 +1,11 @@
 -- What a run came to before it writes: its status, and the text that is due.
 use Rattle.std.specs.Prelude.{ℕ, List, [], ◌∷◌, codes, decimal}
 use Rattle.mono_text.specs.Text.{spaced}
+use Rattle.mono_io.specs.declared.refusal.ReadRefusal.{ReadRefusal}
+use Rattle.mono_io.specs.declared.refusal.ReadRefusal.TheVariants as reading
 use Rattle.mono_gnf.specs.Names.{fault_name}
+use Rattle.mono_gnf.specs.declared.refusal.GnfRefusal.{GnfRefusal}
+use Rattle.mono_gnf.specs.declared.refusal.GnfRefusal.TheVariants as form
 use Rattle.mono_check.specs.Names.{reason_name}
 use Rattle.mono_check.specs.declared.reason.Reason.{Reason}
 use Rattle.mono_check.specs.declared.reason.Reason.TheVariants as reason
@@ -21,6 +25,7 @@ verdict_status (verdict.Rejected line r) = status.Rejected
 abbrev pub status_of : Ending → Status
 status_of ending.Words = status.Words
 status_of ending.ReadFault = status.ReadFault
+status_of ending.Memory = status.Memory
 status_of ending.TooLong = status.TooLong
 status_of (ending.Refused line fault) = status.Refused
 status_of (ending.Judged v) = verdict_status v
@@ -29,6 +34,7 @@ status_of (ending.Printed text) = status.Printed
 -- the name of a reason, and the number that it carries, if it carries one
 abbrev pub reason_words : Reason → List (List ℕ)
 reason_words (reason.ClauseFalse n) = reason_name (reason.ClauseFalse n) ∷ decimal n ∷ []
+reason_words (reason.AtomWrong n) = reason_name (reason.AtomWrong n) ∷ decimal n ∷ []
 reason_words r = reason_name r ∷ []
 
 abbrev pub verdict_text : Verdict → List ℕ
@@ -40,7 +46,19 @@ verdict_text (verdict.Rejected line r) = spaced (codes "rejected" ∷ decimal li
 abbrev pub text_of : Ending → List ℕ
 text_of ending.Words = codes "usage: check FILE ANSWER | print FILE\n"
 text_of ending.ReadFault = codes "read fault\n"
+text_of ending.Memory = []
 text_of ending.TooLong = codes "too long\n"
 text_of (ending.Refused line fault) = spaced (codes "refused" ∷ decimal line ∷ fault_name fault ∷ [])
 text_of (ending.Judged v) = verdict_text v
 text_of (ending.Printed text) = text
+
+-- ---- the ending where a step of the run ends it
+
+abbrev pub unread_ending : ReadRefusal → Ending
+unread_ending reading.Memory = ending.Memory
+unread_ending reading.Fault = ending.ReadFault
+unread_ending reading.TooLong = ending.TooLong
+
+abbrev pub refused_ending : GnfRefusal → Ending
+refused_ending form.Memory = ending.Memory
+refused_ending (form.At line fault) = ending.Refused line fault

@@ -2,3 +2,4 @@ pub mod Commands
 pub mod Statuses
 pub mod Endings
 pub mod Runs
+pub mod Worked

@@ -1,172 +1,136 @@
--- What a run comes to, by its words and the texts of the files that they name.
-use Rattle.std.specs.Prelude.{◌≡◌, ◌≢◌, ℕ, ◌<◌, ◌≤◌, ◌⊎◌, List, length, Option, Some, None, IsSome, IfSome, IsSomeAnd, Bool, true, false, codes, ◌++◌}
+-- What a run comes to, by its command and by what contracts see of the shelf as it begins (`old`) and as it ends (`new`).
+use Rattle.std.specs.Prelude.{◌≡◌, ◌≢◌, ℕ, ◌≤◌, ◌+◌, ◌⊎◌, List, [], ◌∷◌, ◌++◌, length, Option, Some, None, IsSome, IsSomeAnd}
 use Rattle.std.specs.Io.KnownBytes.{append_known}
+use Rattle.mono_base.specs.declared.limits.TheConstants.{MAX_INPUT_BYTES, MAX_ANSWER_BYTES}
+use Rattle.mono_io.specs.Faults.{counted}
+use Rattle.mono_io.specs.Reading.{IsRead, IsTooLong, IsNotRead, IsGivenUp}
+use Rattle.mono_io.specs.Shelf.{Texts, ShelfView, told_text}
+use Rattle.mono_io.specs.Sink.{AppendsPrefix}
 use Rattle.mono_problem.specs.Instance.{Instance}
-use Rattle.mono_problem.specs.Holds.{HasNoModel}
 use Rattle.mono_gnf.specs.Faults.{first_fault}
 use Rattle.mono_gnf.specs.Stands.{Stands}
 use Rattle.mono_gnf.specs.Printed.{printed}
 use Rattle.mono_gnf.specs.declared.fault.GnfFault.{GnfFault}
-use Rattle.mono_check.specs.Verdicts.{verdict_of}
 use Rattle.mono_check.specs.declared.verdict.Verdict.{Verdict}
-use Rattle.mono_io.specs.Shelf.{Texts, text_named, told_text}
-use Rattle.mono_io.specs.Faults.{counted}
-use Rattle.mono_io.specs.Sink.{AppendsPrefix}
+use Rattle.mono_check.specs.Verdicts.{IsVerdict}
 use Rattle.mono_cmd.specs.declared.command.Command.{Command}
 use Rattle.mono_cmd.specs.declared.command.Command.TheVariants as command
 use Rattle.mono_cmd.specs.declared.status.Status.{Status}
 use Rattle.mono_cmd.specs.declared.status.Status.TheVariants as status
 use Rattle.mono_cmd.specs.declared.ending.Ending.{Ending}
 use Rattle.mono_cmd.specs.declared.ending.Ending.TheVariants as ending
-use Rattle.mono_cmd.specs.declared.run.Reading.{Reading}
-use Rattle.mono_cmd.specs.declared.run.Reading.TheVariants as reading
-use Rattle.mono_cmd.specs.Commands.{file_of}
+use Rattle.mono_cmd.specs.Commands.{files_of}
 use Rattle.mono_cmd.specs.Endings.{status_of, text_of}
 
--- the most bytes of an input, 2^28, and of an answer, 2^30
-abbrev pub input_limit : ℕ
-input_limit = 268435456
+-- ---- a file on the way
 
-abbrev pub answer_limit : ℕ
-answer_limit = 1073741824
+-- the run ends at a file: it couldn't be read, it is too long, or memory was wanting
+abbrev pub EndsAtText : List ℕ → ℕ → ShelfView → ShelfView → Ending → Type 0
+EndsAtText file limit old new ending.ReadFault = IsNotRead file limit old new
+EndsAtText file limit old new ending.TooLong = IsTooLong file limit old new
+EndsAtText file limit old new ending.Memory = IsGivenUp limit old new
+EndsAtText file limit old new e = ⊥
 
--- the bytes are the file's, where the shelf tells its texts, and within the limit
-pub record IsRead (texts : Option Texts) (file : List ℕ) (limit : ℕ) (bytes : List ℕ) : Type 0 where
-  pub told : IfSome texts (λ held. text_named file held ≡ Some bytes)
-  pub within : length bytes ≤ limit
-
--- the file has more bytes than the limit, where the shelf tells its texts
-abbrev pub IsLonger : Option Texts → List ℕ → ℕ → Type 0
-IsLonger texts file limit = IfSome texts (λ held. IsSomeAnd (text_named file held) (λ text. limit < length text))
-
--- FILE was read, and has no fault: it stands for the problem
-pub record HasProblem (texts : Option Texts) (file : List ℕ) (p : Instance) : Type 0 where
+-- FILE was read, and this is its first fault
+pub record HasFirstFault (file : List ℕ) (old new : ShelfView) (line : ℕ) (fault : GnfFault) : Type 0 where
   pub text : List ℕ
-  pub read : IsRead texts file input_limit text
-  pub stands : Stands text p
-
--- there is a command, and FILE was read and has a first fault
-pub record IsRefused (found : Option Command) (texts : Option Texts) (line : ℕ) (fault : GnfFault) : Type 0 where
-  pub command : Command
-  pub is : found ≡ Some command
-  pub text : List ℕ
-  pub read : IsRead texts (file_of command) input_limit text
+  pub read : IsRead file MAX_INPUT_BYTES old new text
   pub first : first_fault text ≡ Some (line, fault)
 
--- the command is `check FILE ANSWER`, both were read, and the verdict is that on ANSWER's text for FILE's problem
-pub record IsJudged (found : Option Command) (texts : Option Texts) (v : Verdict) : Type 0 where
-  pub file : List ℕ
-  pub answer : List ℕ
-  pub is : found ≡ Some (command.Check file answer)
-  pub problem : Instance
-  pub stands : HasProblem texts file problem
+-- FILE was read, and stands for this problem
+pub record HasProblem (file : List ℕ) (old new : ShelfView) (p : Instance) : Type 0 where
   pub text : List ℕ
-  pub read : IsRead texts answer answer_limit text
-  pub verdict : v ≡ verdict_of problem text
+  pub read : IsRead file MAX_INPUT_BYTES old new text
+  pub stands : Stands text p
 
--- the command is `print FILE`, FILE was read, and the text is the printed form of its problem
-pub record IsPrinted (found : Option Command) (texts : Option Texts) (text : List ℕ) : Type 0 where
-  pub file : List ℕ
-  pub is : found ≡ Some (command.Print file)
-  pub problem : Instance
-  pub stands : HasProblem texts file problem
-  pub form : text ≡ printed problem
+-- the run ends at FILE: as at any file, or at its first fault
+abbrev pub EndsAtFile : List ℕ → ShelfView → ShelfView → Ending → Type 0
+EndsAtFile file old new (ending.Refused line fault) = HasFirstFault file old new line fault
+EndsAtFile file old new e = EndsAtText file MAX_INPUT_BYTES old new e
 
--- FILE is too long; or FILE stands for a problem and ANSWER is too long
-pub record IsFileTooLong (found : Option Command) (texts : Option Texts) : Type 0 where
-  pub command : Command
-  pub is : found ≡ Some command
-  pub longer : IsLonger texts (file_of command) input_limit
+-- the run ends at a file, or goes on with its text and the shelf as it is then
+abbrev pub WithText : List ℕ → ℕ → ShelfView → ShelfView → Ending → (List ℕ → ShelfView → Type 0) → Type 0
+WithText file limit old new e next =
+    EndsAtText file limit old new e ⊎ ((text : List ℕ) × (shelf : ShelfView) × IsRead file limit old shelf text × next text shelf)
 
-pub record IsAnswerTooLong (found : Option Command) (texts : Option Texts) : Type 0 where
-  pub file : List ℕ
-  pub answer : List ℕ
-  pub is : found ≡ Some (command.Check file answer)
-  pub problem : Instance
-  pub stands : HasProblem texts file problem
-  pub longer : IsLonger texts answer answer_limit
+-- the run ends at FILE, or goes on with its problem and the shelf as it is then
+abbrev pub WithProblem : List ℕ → ShelfView → ShelfView → Ending → (Instance → ShelfView → Type 0) → Type 0
+WithProblem file old new e next =
+    EndsAtFile file old new e ⊎ ((p : Instance) × (shelf : ShelfView) × HasProblem file old shelf p × next p shelf)
 
--- What a run comes to, by the command that its words are. `before` and `now` are the shelf's counts of faults as the run
--- begins and as it ends: a read fault is answered where exactly one call failed, and every other ending where none did.
-abbrev pub Ends : Option Command → Option Texts → ℕ → ℕ → Ending → Type 0
-Ends found texts before now ending.Words = (found ≡ None) × (now ≡ before)
-Ends found texts before now ending.ReadFault = IsSome found × (now ≡ counted before)
-Ends found texts before now ending.TooLong = (IsFileTooLong found texts ⊎ IsAnswerTooLong found texts) × (now ≡ before)
-Ends found texts before now (ending.Refused line fault) = IsRefused found texts line fault × (now ≡ before)
-Ends found texts before now (ending.Judged v) = IsJudged found texts v × (now ≡ before)
-Ends found texts before now (ending.Printed text) = IsPrinted found texts text × (now ≡ before)
+-- the verdict on ANSWER's text for FILE's problem
+abbrev pub IsJudged : Instance → List ℕ → Ending → Type 0
+IsJudged p text (ending.Judged v) = IsVerdict p text v
+IsJudged p text e = ⊥
+
+-- ---- commands
+
+-- What a run with this command comes to, where memory is found.
+abbrev pub ComesTo : Option Command → ShelfView → ShelfView → Ending → Type 0
+ComesTo None old new e = (e ≡ ending.Words) × (new ≡ old)
+ComesTo (Some (command.Print file)) old new e =
+    WithProblem file old new e (λ p shelf. (e ≡ ending.Printed (printed p)) × (new ≡ shelf))
+ComesTo (Some (command.Check file answer)) old new e =
+    WithProblem file old new e (λ p read.
+    WithText answer MAX_ANSWER_BYTES read new e (λ text shelf. IsJudged p text e × (new ≡ shelf)))
+
+-- the count after each of these files was begun once more
+abbrev pub begun_for : List (List ℕ) → ℕ → ℕ
+begun_for [] count = count
+begun_for (file ∷ files) count = begun_for files (counted count)
+
+-- Memory was wanting: no call had failed, and no file that the words name was begun twice.
+pub record IsOutOfMemory (found : Option Command) (old new : ShelfView) : Type 0 where
+  pub faults : new.faults ≡ old.faults
+  pub begun : new.begun ≤ begun_for (files_of found) old.begun
+
+-- What a run comes to.
+abbrev pub Ends : Option Command → ShelfView → ShelfView → Ending → Type 0
+Ends found old new ending.Memory = IsOutOfMemory found old new
+Ends found old new e = ComesTo found old new e
 
 -- ---- what is written
 
--- what was written is what was there before, and the whole text of an ending with this status
-pub record Writes (found : Option Command) (texts : Option Texts) (before now : ℕ) (status : Status) (old new : Option (List ℕ)) : Type 0 where
+-- What a run that comes to this ending writes, by its status: the text whole; a prefix of it where a write failed; nothing
+-- where memory was wanting, and not in place of a read fault.
+abbrev pub Writes : Ending → Status → Option (List ℕ) → Option (List ℕ) → Type 0
+Writes e status.WriteFault before now = AppendsPrefix before now (text_of e)
+Writes e status.Memory before now = (now ≡ before) × (e ≢ ending.ReadFault)
+Writes e s before now = (s ≡ status_of e) × (now ≡ append_known before (text_of e))
+
+-- the run comes to an ending, and writes its text
+pub record Runs (found : Option Command) (old new : ShelfView) (s : Status) (before now : Option (List ℕ)) : Type 0 where
   pub ending : Ending
-  pub ends : Ends found texts before now ending
-  pub status_is : status_of ending ≡ status
-  pub written : new ≡ append_known old (text_of ending)
+  pub ends : Ends found old new ending
+  pub writes : Writes ending s before now
 
--- a write failed: a prefix of the text that was due was written
-pub record WritesPrefix (found : Option Command) (texts : Option Texts) (before now : ℕ) (old new : Option (List ℕ)) : Type 0 where
-  pub ending : Ending
-  pub ends : Ends found texts before now ending
-  pub written : AppendsPrefix old new (text_of ending)
+-- `check` wrote this behind what was there, and FILE is told and stands for the problem
+pub record CheckWrote (found : Option Command) (texts : Option Texts) (before now : Option (List ℕ)) (p : Instance) (written : List ℕ) : Type 0 where
+  pub file : List ℕ
+  pub answer : List ℕ
+  pub is : found ≡ Some (command.Check file answer)
+  pub text : List ℕ
+  pub told : told_text texts file ≡ Some text
+  pub stands : Stands text p
+  pub there : List ℕ
+  pub held : before ≡ Some there
+  pub wrote : now ≡ Some (there ++ written)
 
--- what a run writes, by its status
-abbrev pub WritesFor : Option Command → Option Texts → ℕ → ℕ → Status → Option (List ℕ) → Option (List ℕ) → Type 0
-WritesFor found texts before now status.Memory old new = new ≡ old
-WritesFor found texts before now status.WriteFault old new = WritesPrefix found texts before now old new
-WritesFor found texts before now s old new = Writes found texts before now s old new
+-- ---- what a command needs
 
--- ---- the files that a command names
+-- the shelf tells its texts and holds that file
+abbrev pub IsHeld : Option Texts → List ℕ → ℕ → Type 0
+IsHeld texts file limit = IsSome (told_text texts file)
 
-abbrev pub HoldsText : Option Texts → List ℕ → Type 0
-HoldsText texts file = IsSome (told_text texts file)
+-- and the file isn't beyond its limit
+abbrev pub IsHeldWithin : Option Texts → List ℕ → ℕ → Type 0
+IsHeldWithin texts file limit = IsSomeAnd (told_text texts file) (λ text. length text ≤ limit)
 
--- the shelf tells its texts and holds each file that the command names
-abbrev pub HoldsFiles : Option Texts → Command → Type 0
-HoldsFiles texts (command.Check file answer) = HoldsText texts file × HoldsText texts answer
-HoldsFiles texts (command.Print file) = HoldsText texts file
+-- FILE is read and has no fault, so that the run goes on behind it
+abbrev pub HasNoFault : Option Texts → List ℕ → Type 0
+HasNoFault texts file = IsSomeAnd (told_text texts file) (λ text. (length text ≤ MAX_INPUT_BYTES) × (first_fault text ≡ None))
 
--- none of them is beyond its limit
-abbrev pub IsWithin : Option Texts → List ℕ → ℕ → Type 0
-IsWithin texts file limit = IfSome (told_text texts file) (λ text. length text ≤ limit)
-
-abbrev pub AreWithin : Option Texts → Command → Type 0
-AreWithin texts (command.Check file answer) = IsWithin texts file input_limit × IsWithin texts answer answer_limit
-AreWithin texts (command.Print file) = IsWithin texts file input_limit
-
-abbrev pub IsHeldWithin : Option Texts → Command → Type 0
-IsHeldWithin texts c = HoldsFiles texts c × AreWithin texts c
-
--- the statuses of a run that did what the command asks
-abbrev pub is_answer : Status → Bool
-is_answer status.Accepted = true
-is_answer status.Printed = true
-is_answer status.Rejected = true
-is_answer status.Refused = true
-is_answer s = false
-
--- With `accepted refutation` written, no assignment satisfies the problem that FILE stands for.
-abbrev pub RefutesSoundly : Option Command → Option Texts → Status → Option (List ℕ) → Option (List ℕ) → Type 0
-RefutesSoundly found texts s old new =
-    (file answer text before : List ℕ) (p : Instance)
-    → found ≡ Some (command.Check file answer) → told_text texts file ≡ Some text → Stands text p
-    → old ≡ Some before → s ≡ status.Accepted → new ≡ Some (before ++ codes "accepted refutation\n")
-    → HasNoModel p
-
--- ---- FILE on the way
-
--- FILE was read and stands for a problem, or every command that reads it first ends so
-abbrev pub ReadsProblem : Option Texts → ℕ → ℕ → List ℕ → Reading → Type 0
-ReadsProblem texts before now file (reading.Problem p) = HasProblem texts file p × (now ≡ before)
-ReadsProblem texts before now file (reading.Ends e) = (c : Command) → file_of c ≡ file → Ends (Some c) texts before now e
-
-abbrev pub IsFaultless : Reading → Type 0
-IsFaultless (reading.Problem p) = Unit {0}
-IsFaultless (reading.Ends e) = e ≢ ending.ReadFault
-
--- the text stands for the problem, or the ending names its first fault
-abbrev pub IsReadingOf : List ℕ → Reading → Type 0
-IsReadingOf text (reading.Problem p) = Stands text p
-IsReadingOf text (reading.Ends (ending.Refused line fault)) = first_fault text ≡ Some (line, fault)
-IsReadingOf text (reading.Ends e) = ⊥
+-- each file that the command comes to meets the condition, by its limit: ANSWER only where FILE has no fault
+abbrev pub EachReached : (List ℕ → ℕ → Type 0) → Option Texts → Command → Type 0
+EachReached Holds texts (command.Check file answer) = Holds file MAX_INPUT_BYTES × (HasNoFault texts file → Holds answer MAX_ANSWER_BYTES)
+EachReached Holds texts (command.Print file) = Holds file MAX_INPUT_BYTES

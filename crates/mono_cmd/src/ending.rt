@@ -1,21 +1,31 @@
 //! What a run comes to before it writes, and the text that it writes then.
+//!
+//! It is also the error of each step that may end a run, so that `?` ends it there.
 
-ghost use Rattle.std.specs.Prelude.{◌≡◌, IfOk};
-ghost use Rattle.mono_cmd.specs.Endings.{status_of, text_of, verdict_status as status_of_verdict, verdict_text as text_of_verdict};
+ghost use Rattle.std.specs.Prelude.{◌≡◌, ◌≢◌, ◌∷◌, [], IfOk, OnErr, codes, decimal};
+ghost use Rattle.std.specs.Cow.{cow_slice_items};
+ghost use Rattle.mono_text.specs.Text.{spaced};
+ghost use Rattle.mono_check.specs.Names.{reason_name};
+ghost use Rattle.mono_cmd.specs.Endings.{status_of, text_of, unread_ending, refused_ending, verdict_status as status_of_verdict, verdict_text as text_of_verdict};
+ghost use Rattle.mono_cmd.specs.declared.ending.Ending.TheVariants.{Memory};
 
 use crate::status::Status;
 use mono_base::Row;
 use mono_check::{Reason, Verdict};
-use mono_gnf::GnfFault;
+use mono_gnf::{GnfFault, GnfRefusal};
+use mono_io::ReadRefusal;
 use std::alloc::{AllocError, Global};
+use std::borrow::CowSlice;
 
 /// What a run comes to.
 #[derive(Drop)]
 pub enum Ending {
     /// The words are no command.
     Words,
-    /// A call on the shelf failed.
+    /// A file could not be read.
     ReadFault,
+    /// No memory was found.
+    Memory,
     /// A file has more bytes than its limit.
     TooLong,
     /// The input's first malformed line, and what is wrong with it.
@@ -26,14 +36,46 @@ pub enum Ending {
     Printed(Row<u8>),
 }
 
+impl From<AllocError> for Ending {
+    ghost from_gives = { λ _ ending. ending ≡ Memory };
+
+    fn from(_: AllocError) -> Ending {
+        Ending::Memory
+    }
+}
+
+impl From<ReadRefusal> for Ending {
+    ghost from_gives = { λ refusal ending. ending ≡ unread_ending refusal };
+
+    fn from(refusal: ReadRefusal) -> Ending {
+        match refusal {
+            ReadRefusal::Memory => Ending::Memory,
+            ReadRefusal::Fault => Ending::ReadFault,
+            ReadRefusal::TooLong => Ending::TooLong,
+        }
+    }
+}
+
+impl From<GnfRefusal> for Ending {
+    ghost from_gives = { λ refusal ending. ending ≡ refused_ending refusal };
+
+    fn from(refusal: GnfRefusal) -> Ending {
+        match refusal {
+            GnfRefusal::Memory => Ending::Memory,
+            GnfRefusal::At { line, fault } => Ending::Refused { line, fault },
+        }
+    }
+}
+
 impl Ending {
-    /// The status of a run that comes to this, unless the write fails.
+    /// The status of a run that comes to this, unless memory is wanting for the text or a write fails.
     pub fn status(&self) -> Status
         ensures { result ≡ status_of self.now }
     {
         match self {
             Ending::Words => Status::Words,
             Ending::ReadFault => Status::ReadFault,
+            Ending::Memory => Status::Memory,
             Ending::TooLong => Status::TooLong,
             Ending::Refused { line: _, fault: _ } => Status::Refused,
             Ending::Judged(verdict) => verdict_status(*verdict),
@@ -41,19 +83,28 @@ impl Ending {
         }
     }
 
-    /// The text that is due.
-    pub fn into_text(self, alloc: Global) -> Result<Vec<u8>, AllocError>
-        ensures { IfOk result (λ text. text.items ≡ text_of self) }
+    /// The text that is due. That of a read fault takes no memory, so that none is said to be wanting in its place.
+    pub fn into_text(self, alloc: Global) -> Result<CowSlice<'static, u8>, AllocError>
+        ensures ok { IfOk result (λ text. cow_slice_items text ≡ text_of self) }
+        ensures err { OnErr result (self ≢ Ending.ReadFault) }
     {
-        match self {
-            Ending::Words => b"usage: check FILE ANSWER | print FILE\n".to_vec(alloc),
-            Ending::ReadFault => b"read fault\n".to_vec(alloc),
-            Ending::TooLong => b"too long\n".to_vec(alloc),
-            Ending::Refused { line, fault } => refused_text(alloc, line, fault),
-            Ending::Judged(verdict) => verdict_text(alloc, verdict),
-            Ending::Printed(text) => Ok(text.into_vec()),
-        }
+        let text = match self {
+            Ending::Words => return Ok(fixed(b"usage: check FILE ANSWER | print FILE\n")),
+            Ending::ReadFault => return Ok(fixed(b"read fault\n")),
+            Ending::Memory => return Ok(fixed(b"")),
+            Ending::TooLong => return Ok(fixed(b"too long\n")),
+            Ending::Refused { line, fault } => refused_text(alloc, line, fault)?,
+            Ending::Judged(verdict) => verdict_text(alloc, verdict)?,
+            Ending::Printed(text) => text.into_vec(),
+        };
+        Ok(CowSlice::Owned(text))
     }
+}
+
+fn fixed(text: &'static [u8]) -> CowSlice<'static, u8>
+    ensures { cow_slice_items result ≡ text.now }
+{
+    CowSlice::Borrowed(text)
 }
 
 fn verdict_status(verdict: Verdict) -> Status
@@ -85,14 +136,25 @@ fn verdict_text(alloc: Global, verdict: Verdict) -> Result<Vec<u8>, AllocError>
     }
 }
 
+fn numbered_text(
+    alloc: Global,
+    line: u64,
+    reason: Reason,
+    number: u32,
+) -> Result<Vec<u8>, AllocError>
+    ensures { IfOk result (λ text. text.items ≡ spaced (codes "rejected" ∷ decimal line ∷ reason_name reason ∷ decimal number ∷ [])) }
+{
+    let name = reason.name();
+    Ok(format!(in alloc; "rejected {line} {name} {number}\n")?.into_bytes())
+}
+
 fn rejected_text(alloc: Global, line: u64, reason: Reason) -> Result<Vec<u8>, AllocError>
     ensures { IfOk result (λ text. text.items ≡ text_of_verdict (Verdict.Rejected line reason)) }
 {
     let name = reason.name();
     match reason {
-        Reason::ClauseFalse(number) => {
-            Ok(format!(in alloc; "rejected {line} {name} {number}\n")?.into_bytes())
-        }
+        Reason::ClauseFalse(number) => numbered_text(alloc, line, reason, number),
+        Reason::AtomWrong(number) => numbered_text(alloc, line, reason, number),
         _ => Ok(format!(in alloc; "rejected {line} {name}\n")?.into_bytes()),
     }
 }

@@ -1,14 +1,29 @@
-//! What runs come to, by the definitions alone.
+//! What holds of runs by the definitions alone.
 
-ghost use Rattle.std.specs.Prelude.{◌≡◌, ◌≢◌, ℕ, Option, Some};
-ghost use Rattle.mono_io.specs.Shelf.{Texts};
+ghost use Rattle.std.specs.Prelude.{◌≡◌, ◌≢◌, ◌<◌, ◌+◌, ◌^◌, ◌↔◌, ℕ, List, Option, Some, IsTrue};
+ghost use Rattle.mono_base.specs.declared.limits.TheConstants.{MAX_INPUT_BYTES, MAX_ANSWER_BYTES};
+ghost use Rattle.mono_io.specs.Faults.{counted};
+ghost use Rattle.mono_io.specs.Shelf.{Texts, ShelfView};
 ghost use Rattle.mono_cmd.specs.declared.command.Command.{Command as CommandOf};
+ghost use Rattle.mono_cmd.specs.declared.command.Command.TheVariants as command;
 ghost use Rattle.mono_cmd.specs.declared.ending.Ending.{Ending as EndingOf};
 ghost use Rattle.mono_cmd.specs.declared.ending.Ending.TheVariants as ending;
 ghost use Rattle.mono_cmd.specs.Runs.{Ends};
 
-/// Over the same told files one command comes to one ending, unless a file could not be read. So each status comes
-/// exactly where its row says.
+/// Over the same told texts one command comes to one ending: over steady shelves whatever it is, and over other ones where
+/// neither run met a read fault. Want of memory alone is free. So each ending comes exactly where its definition says.
 pub fn one_ending()
-    ensures { (found : Option CommandOf) (held : Texts) (b n b' n' : ℕ) (e e' : EndingOf) → Ends found (Some held) b n e → Ends found (Some held) b' n' e' → e ≢ ending.ReadFault → e' ≢ ending.ReadFault → e ≡ e' }
+    ensures { (found : Option CommandOf) (held : Texts) (old new old' new' : ShelfView) (e e' : EndingOf) → old.texts ≡ Some held → old'.texts ≡ Some held
+        → (e ≡ ending.ReadFault → IsTrue old.steady) → (e' ≡ ending.ReadFault → IsTrue old'.steady)
+        → Ends found old new e → Ends found old' new' e' → e ≢ ending.Memory → e' ≢ ending.Memory → e ≡ e' }
+{}
+
+/// A run ends too long exactly where the shelf stands one byte behind the limit of the file that was begun last, whether
+/// or not the shelf tells its texts. The count of begins tells which file that is.
+pub fn too_long_by_place()
+    ensures print { (file : List ℕ) (old new : ShelfView) (e : EndingOf) → Ends (Some (command.Print file)) old new e → e ≢ ending.Memory → (e ≡ ending.TooLong) ↔ (new.place ≡ Some (MAX_INPUT_BYTES + 1)) }
+    ensures file { (file answer : List ℕ) (old new : ShelfView) (e : EndingOf) → Ends (Some (command.Check file answer)) old new e → e ≢ ending.Memory
+        → old.begun + 2 < 2 ^ 64 → new.begun ≡ counted old.begun → (e ≡ ending.TooLong) ↔ (new.place ≡ Some (MAX_INPUT_BYTES + 1)) }
+    ensures answer { (file answer : List ℕ) (old new : ShelfView) (e : EndingOf) → Ends (Some (command.Check file answer)) old new e → e ≢ ending.Memory
+        → old.begun + 2 < 2 ^ 64 → new.begun ≡ counted (counted old.begun) → (e ≡ ending.TooLong) ↔ (new.place ≡ Some (MAX_ANSWER_BYTES + 1)) }
 {}

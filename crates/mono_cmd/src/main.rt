@@ -2,6 +2,10 @@
 //! answers. `run` is the whole program; `main` makes the real shelf and sink and calls it.
 #![tactic(auto)]
 
+ghost use Rattle.std.specs.Prelude.{◌≡◌};
+ghost use Rattle.std.specs.Process.{exit_status};
+ghost use Rattle.mono_cmd.specs.Statuses.{code_of};
+
 /// Commands.
 pub mod command;
 /// What a run comes to, and the text that it writes.
@@ -16,8 +20,10 @@ pub mod status;
 mod tests;
 /// The words of a command line.
 pub mod words;
+/// Rows that were worked by hand, as the definitions compute them.
+pub mod worked;
 
-use mono_io::{FileShelf, StdSink};
+use mono_io::{FileShelf, StdSink, SystemFiles};
 use run::run;
 use status::Status;
 use std::process::ExitCode;
@@ -40,11 +46,18 @@ fn ends(rt: &HostRuntime) -> Status {
             _ => Vec::new(rt.alloc()),
         },
     };
-    let mut shelf = FileShelf::new(rt);
-    let mut out = StdSink::new(rt);
+    let mut shelf = FileShelf::new(SystemFiles::new(rt));
+    let mut out = StdSink::new(io::writer(rt));
     run(rt.alloc(), words.as_slice(), &mut shelf, &mut out)
 }
 
+/// What a process that ends with this status is to exit with.
+fn exit_code(status: Status) -> ExitCode
+    ensures { exit_status result ≡ code_of status }
+{
+    ExitCode::from(status.code())
+}
+
 fn main(rt: HostRuntime) -> ExitCode {
-    ExitCode::from(ends(&rt).code())
+    exit_code(ends(&rt))
 }

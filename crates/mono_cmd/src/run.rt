@@ -2,11 +2,15 @@
 //!
 //! The order is: the words; FILE is read, then its form; ANSWER is read; it is judged; the text is written. The first
 //! refusal in this order decides. All text is made before the first write, so with want of memory nothing was written.
+//!
+//! Each step answers what the next one needs, or the ending of the run: `?` ends it there. So a form is a few lines.
 
-ghost use Rattle.std.specs.Prelude.{◌≡◌, ◌≢◌, Some, IfSome, IsSomeAnd, IsTrue, IfOk, map, string_bytes};
-ghost use Rattle.mono_io.specs.Faults.{Rose, counted};
-ghost use Rattle.mono_cmd.specs.Commands.{command_of};
-ghost use Rattle.mono_cmd.specs.Runs.{Ends, HoldsText, HoldsFiles, IsHeldWithin, RefutesSoundly, WritesFor, is_answer, ReadsProblem, IsReadingOf, IsFaultless};
+ghost use Rattle.std.specs.Prelude.{◌≡◌, ◌≢◌, ◌≤◌, ◌+◌, ◌⊎◌, ℕ, Bool, Option, Some, IsTrue, IsSomeAnd, MatchResult, codes, map, string_bytes};
+ghost use Rattle.mono_io.specs.Faults.{counted};
+ghost use Rattle.mono_problem.specs.Instance.{Instance};
+ghost use Rattle.mono_problem.specs.Holds.{HasNoModel, Satisfies};
+ghost use Rattle.mono_cmd.specs.Commands.{command_of, files_of};
+ghost use Rattle.mono_cmd.specs.Runs.{Ends, EndsAtFile, HasProblem, Runs, Writes, CheckWrote, EachReached, IsHeld, IsHeldWithin, begun_for};
 
 use crate::command::Command;
 use crate::ending::Ending;
@@ -15,17 +19,10 @@ use crate::words::command;
 use mono_base::Row;
 use mono_base::limits::{MAX_ANSWER_BYTES, MAX_INPUT_BYTES};
 use mono_check::judge::verdict;
-use mono_gnf::{GnfRefusal, print_gnf, read_gnf};
-use mono_io::{ReadRefusal, Shelf, Sink, read_whole, write_whole};
+use mono_gnf::{print_gnf, read_gnf};
+use mono_io::{Shelf, Sink, read_whole, write_whole};
 use mono_problem::Problem;
 use std::alloc::{AllocError, Global};
-
-/// What reading FILE comes to: the problem that it stands for, or an ending of the run.
-#[derive(Drop)]
-enum Reading {
-    Problem(Problem),
-    Ends(Ending),
-}
 
 /// Runs the program: reads the files that the words name from the shelf, and writes the answer to the sink.
 ///
@@ -33,30 +30,91 @@ enum Reading {
 /// - `Refused` comes exactly where FILE was read whole and has a first fault; its line and name are written.
 /// - `Accepted` and `Rejected` come by the verdict on ANSWER for the problem that FILE stands for, `Printed` with its
 ///   printed form.
-/// - `ReadFault` comes only where the shelf's count of faults rose in this call, by one, and never over a steady shelf
-///   that holds the files. `TooLong` comes only for a file with more bytes than its limit.
-/// - `WriteFault` comes only where the sink's count of faults rose, by one; a prefix of the text that was due was
-///   written.
-/// - With `Memory` nothing was written.
+/// - `ReadFault` comes only where one call of the shelf failed, the last one, at FILE, or at ANSWER where FILE has no
+///   fault. Over a steady shelf it comes only for a file that the shelf lacks.
+/// - `TooLong` comes only for a file with more bytes than its limit: the shelf's place is limit + 1 then.
+/// - `WriteFault` comes only where one write failed, the last one; a prefix of the text that was due was written.
+/// - With `Memory` nothing was written, and no call of the shelf or the sink had failed.
 pub fn run<S: Shelf, K: Sink>(alloc: Global, words: &[String], shelf: &mut S, out: &mut K) -> Status
-    ensures writes { WritesFor (command_of (map string_bytes words.now)) (S.texts shelf.old) (S.faults shelf.old) (S.faults shelf.new) result (K.written out.old) (K.written out.new) }
+    // The run comes to an ending in the order above, and writes its text.
+    ensures runs { Runs (command_of (map string_bytes words.now)) (S.seen shelf.old) (S.seen shelf.new) result (K.written out.old) (K.written out.new) }
 
+    ensures read_fault { result ≡ Status.ReadFault → (S.seen shelf.new).faults ≡ counted (S.seen shelf.old).faults }
+    ensures no_read_fault { result ≢ Status.ReadFault → result ≢ Status.WriteFault → (S.seen shelf.new).faults ≡ (S.seen shelf.old).faults }
     ensures write_fault { result ≡ Status.WriteFault → K.faults out.new ≡ counted (K.faults out.old) }
-    ensures written_whole { result ≢ Status.WriteFault → K.faults out.new ≡ K.faults out.old }
+    ensures no_write_fault { result ≢ Status.WriteFault → K.faults out.new ≡ K.faults out.old }
+    ensures memory { result ≡ Status.Memory → K.written out.new ≡ K.written out.old }
 
-    ensures read_fault { result ≡ Status.ReadFault → S.faults shelf.new ≡ counted (S.faults shelf.old) }
-    ensures steady { S.is_steady shelf.old → IfSome (command_of (map string_bytes words.now)) (HoldsFiles (S.texts shelf.old)) → result ≢ Status.ReadFault }
+    // Each file is begun once at most.
+    ensures begun { (S.seen shelf.new).begun ≤ begun_for (files_of (command_of (map string_bytes words.now))) (S.seen shelf.old).begun }
+    ensures too_long { result ≡ Status.TooLong → ((S.seen shelf.new).place ≡ Some (MAX_INPUT_BYTES + 1)) ⊎ ((S.seen shelf.new).place ≡ Some (MAX_ANSWER_BYTES + 1)) }
 
-    // Over a steady shelf that holds the files, within the limits, with an output that doesn't fail and memory found,
-    // the command is carried out.
-    ensures complete { S.is_steady shelf.old → IsSomeAnd (command_of (map string_bytes words.now)) (IsHeldWithin (S.texts shelf.old)) → ¬ Rose (K.faults out.old) (K.faults out.new) → result ≢ Status.Memory → IsTrue (is_answer result) }
+    // Over a steady shelf that holds the files that the command comes to, no read fault is answered. Where they are within
+    // their limits too, no write failed and memory was found, the command is carried out.
+    ensures steady { IsTrue (S.seen shelf.old).steady → IsSomeAnd (command_of (map string_bytes words.now)) (EachReached (IsHeld (S.seen shelf.old).texts) (S.seen shelf.old).texts) → result ≢ Status.ReadFault }
+    ensures complete { IsTrue (S.seen shelf.old).steady → IsSomeAnd (command_of (map string_bytes words.now)) (EachReached (IsHeldWithin (S.seen shelf.old).texts) (S.seen shelf.old).texts) → result ≢ Status.WriteFault → result ≢ Status.Memory → (result ≡ Status.Accepted) ⊎ (result ≡ Status.Rejected) ⊎ (result ≡ Status.Printed) ⊎ (result ≡ Status.Refused) }
 
-    ensures sound { RefutesSoundly (command_of (map string_bytes words.now)) (S.texts shelf.old) result (K.written out.old) (K.written out.new) }
+    // With this text written, no assignment satisfies the problem that FILE stands for; with the other one, some does.
+    ensures refutes { (p : Instance) → CheckWrote (command_of (map string_bytes words.now)) (S.seen shelf.old).texts (K.written out.old) (K.written out.new) p (codes "accepted refutation\n") → HasNoModel p }
+    ensures models { (p : Instance) → CheckWrote (command_of (map string_bytes words.now)) (S.seen shelf.old).texts (K.written out.old) (K.written out.new) p (codes "accepted model\n") → (a : ℕ → Bool) × Satisfies p a }
 {
-    let ending = match ending_of(alloc, words, shelf) {
+    let ending = ending_of(alloc, words, shelf);
+    write_ending(alloc, ending, out)
+}
+
+/// What the run comes to, with nothing written yet.
+fn ending_of<S: Shelf>(alloc: Global, words: &[String], shelf: &mut S) -> Ending
+    ensures { Ends (command_of (map string_bytes words.now)) (S.seen shelf.old) (S.seen shelf.new) result }
+{
+    match carry_out(alloc, words, shelf) {
         Ok(ending) => ending,
-        Err(AllocError) => return Status::Memory,
-    };
+        Err(ending) => ending,
+    }
+}
+
+fn carry_out<S: Shelf>(alloc: Global, words: &[String], shelf: &mut S) -> Result<Ending, Ending>
+    ensures { let ends = Ends (command_of (map string_bytes words.now)) (S.seen shelf.old) (S.seen shelf.new) in MatchResult result ends ends }
+{
+    match command(alloc, words)? {
+        None => Ok(Ending::Words),
+        Some(Command::Check { file, answer }) => {
+            check(alloc, shelf, file.as_str(), answer.as_str())
+        }
+        Some(Command::Print { file }) => print(alloc, shelf, file.as_str()),
+    }
+}
+
+/// `check FILE ANSWER`.
+fn check<S: Shelf>(alloc: Global, shelf: &mut S, file: &str, answer: &str) -> Result<Ending, Ending>
+    ensures { let ends = Ends (Some (Command.Check file.now answer.now)) (S.seen shelf.old) (S.seen shelf.new) in MatchResult result ends ends }
+{
+    let problem = read_problem(alloc, shelf, file)?;
+    let text = read_whole(alloc, shelf, answer, MAX_ANSWER_BYTES)?;
+    Ok(Ending::Judged(verdict(alloc, &problem, text.as_slice())?))
+}
+
+/// `print FILE`.
+fn print<S: Shelf>(alloc: Global, shelf: &mut S, file: &str) -> Result<Ending, Ending>
+    ensures { let ends = Ends (Some (Command.Print file.now)) (S.seen shelf.old) (S.seen shelf.new) in MatchResult result ends ends }
+{
+    let text = print_gnf(alloc, &read_problem(alloc, shelf, file)?)?;
+    Ok(Ending::Printed(Row::from_vec(text)))
+}
+
+/// The problem that FILE stands for.
+fn read_problem<S: Shelf>(alloc: Global, shelf: &mut S, file: &str) -> Result<Problem, Ending>
+    ensures { MatchResult result (HasProblem file.now (S.seen shelf.old) (S.seen shelf.new)) (EndsAtFile file.now (S.seen shelf.old) (S.seen shelf.new)) }
+{
+    let text = read_whole(alloc, shelf, file, MAX_INPUT_BYTES)?;
+    Ok(read_gnf(alloc, text.as_slice())?)
+}
+
+/// Writes the text of the ending, whole.
+fn write_ending<K: Sink>(alloc: Global, ending: Ending, out: &mut K) -> Status
+    ensures writes { Writes ending result (K.written out.old) (K.written out.new) }
+    ensures write_fault { result ≡ Status.WriteFault → K.faults out.new ≡ counted (K.faults out.old) }
+    ensures no_write_fault { result ≢ Status.WriteFault → K.faults out.new ≡ K.faults out.old }
+{
     let status = ending.status();
     let text = match ending.into_text(alloc) {
         Ok(text) => text,
@@ -65,75 +123,5 @@ pub fn run<S: Shelf, K: Sink>(alloc: Global, words: &[String], shelf: &mut S, ou
     match write_whole(out, text.as_slice()) {
         Ok(()) => status,
         Err(_) => Status::WriteFault,
-    }
-}
-
-fn ending_of<S: Shelf>(alloc: Global, words: &[String], shelf: &mut S) -> Result<Ending, AllocError>
-    ensures ends { IfOk result (Ends (command_of (map string_bytes words.now)) (S.texts shelf.old) (S.faults shelf.old) (S.faults shelf.new)) }
-    ensures steady { S.is_steady shelf.old → IfSome (command_of (map string_bytes words.now)) (HoldsFiles (S.texts shelf.old)) → IfOk result (λ e. e ≢ Ending.ReadFault) }
-{
-    match command(alloc, words)? {
-        None => Ok(Ending::Words),
-        Some(Command::Check { file, answer }) => {
-            check_files(alloc, shelf, file.as_str(), answer.as_str())
-        }
-        Some(Command::Print { file }) => print_file(alloc, shelf, file.as_str()),
-    }
-}
-
-fn check_files<S: Shelf>(
-    alloc: Global,
-    shelf: &mut S,
-    file: &str,
-    answer: &str,
-) -> Result<Ending, AllocError>
-    ensures ends { IfOk result (Ends (Some (Command.Check file.now answer.now)) (S.texts shelf.old) (S.faults shelf.old) (S.faults shelf.new)) }
-    ensures steady { S.is_steady shelf.old → HoldsText (S.texts shelf.old) file.now → HoldsText (S.texts shelf.old) answer.now → IfOk result (λ e. e ≢ Ending.ReadFault) }
-{
-    let problem = match read_problem(alloc, shelf, file)? {
-        Reading::Problem(problem) => problem,
-        Reading::Ends(ending) => return Ok(ending),
-    };
-    match read_whole(alloc, shelf, answer, MAX_ANSWER_BYTES) {
-        Ok(text) => Ok(Ending::Judged(verdict(alloc, &problem, text.as_slice())?)),
-        Err(ReadRefusal::Memory) => Err(AllocError),
-        Err(ReadRefusal::Fault) => Ok(Ending::ReadFault),
-        Err(ReadRefusal::TooLong) => Ok(Ending::TooLong),
-    }
-}
-
-fn print_file<S: Shelf>(alloc: Global, shelf: &mut S, file: &str) -> Result<Ending, AllocError>
-    ensures ends { IfOk result (Ends (Some (Command.Print file.now)) (S.texts shelf.old) (S.faults shelf.old) (S.faults shelf.new)) }
-    ensures steady { S.is_steady shelf.old → HoldsText (S.texts shelf.old) file.now → IfOk result (λ e. e ≢ Ending.ReadFault) }
-{
-    match read_problem(alloc, shelf, file)? {
-        Reading::Problem(problem) => Ok(Ending::Printed(Row::from_vec(print_gnf(
-            alloc, &problem,
-        )?))),
-        Reading::Ends(ending) => Ok(ending),
-    }
-}
-
-fn read_problem<S: Shelf>(alloc: Global, shelf: &mut S, file: &str) -> Result<Reading, AllocError>
-    ensures reads { IfOk result (ReadsProblem (S.texts shelf.old) (S.faults shelf.old) (S.faults shelf.new) file.now) }
-    ensures texts { S.texts shelf.new ≡ S.texts shelf.old }
-    ensures steady { S.is_steady shelf.old → S.is_steady shelf.new }
-    ensures sure { S.is_steady shelf.old → HoldsText (S.texts shelf.old) file.now → IfOk result IsFaultless }
-{
-    match read_whole(alloc, shelf, file, MAX_INPUT_BYTES) {
-        Ok(text) => problem_of(alloc, text.as_slice()),
-        Err(ReadRefusal::Memory) => Err(AllocError),
-        Err(ReadRefusal::Fault) => Ok(Reading::Ends(Ending::ReadFault)),
-        Err(ReadRefusal::TooLong) => Ok(Reading::Ends(Ending::TooLong)),
-    }
-}
-
-fn problem_of(alloc: Global, text: &[u8]) -> Result<Reading, AllocError>
-    ensures { IfOk result (IsReadingOf text.now) }
-{
-    match read_gnf(alloc, text) {
-        Ok(problem) => Ok(Reading::Problem(problem)),
-        Err(GnfRefusal::Memory) => Err(AllocError),
-        Err(GnfRefusal::At { line, fault }) => Ok(Reading::Ends(Ending::Refused { line, fault })),
     }
 }

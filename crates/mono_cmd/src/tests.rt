@@ -9,6 +9,8 @@ use std::test::Fail;
 
 mod faults;
 mod input;
+mod lemmas;
+mod memory;
 mod models;
 mod refutations;
 

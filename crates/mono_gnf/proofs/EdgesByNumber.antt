@@ -1,14 +1,15 @@
 -- The edge of a number stands in the one graph that has the number.
-use Rattle.std.proofs.Common.{◌≡◌, ℕ, zero, suc, ◌+◌, ◌<◌, ◌≤◌, ◌==◌, true, false, cond, not, ltb, List, [], ◌∷◌, ◌++◌, length, map, get_or, find, flat_map, Option, Some, None, refl, sym, ap, ◌∙◌, arith}
+use Rattle.std.proofs.Common.{◌≡◌, ℕ, zero, suc, ◌+◌, ◌<◌, ◌≤◌, ◌==◌, true, false, cond, not, ltb, List, [], ◌∷◌, ◌++◌, length, map, get_or, find, flat_map, Option, Some, None, refl, sym, ap, ◌∙◌, arith, eq-eqb}
 use Rattle.std.specs.Prelude.{IsTrue, count_by, unwrap_or, ◌||◌}
 use Rattle.std.specs.List.{list_any, position_or_len}
+use Rattle.std.proofs.lemmas.List.Elements.{All-get_or}
 use Rattle.std.proofs.lemmas.List.Sums.{sum_by-cons}
 use Rattle.std.proofs.lemmas.Bool.{false≢true}
 use Rattle.std.proofs.lemmas.Bool.Decides.{nat_tests}
 use Rattle.mono_graph.specs.declared.edge.Edge.{Edge}
-use Rattle.mono_graph.specs.Digraph.{Digraph, no_edge, edge_at, place_of}
+use Rattle.mono_graph.specs.Digraph.{Digraph, IsGraph, no_edge, edge_at, place_of}
 use Rattle.mono_problem.specs.Instance.{Instance, no_graph, graph_at, identity_at, has_number, edges_total}
-use Rattle.mono_problem.specs.WellFormed.{IsInstance, count_numbered}
+use Rattle.mono_problem.specs.WellFormed.{IsInstance, IsDeclared, count_numbered}
 use Rattle.mono_gnf.specs.Printed.{edges_beside, edge_numbered}
 use Rattle.mono_gnf.proofs.Numbered.{of_number, IsOnly}
 
@@ -116,3 +117,11 @@ module _ (p : Instance) (h : IsInstance p) (k n : ℕ) (held : k < length p.grap
   found_only e o =
       let is = first_is n e edges_there [] (only_at n e k p.graphs o) in
       edge_known is.0 ∙ ap (λ (e : Edge). (identity_at p k, e)) is.1
+
+-- a graph of the problem is a graph
+pub graph_known : (p : Instance) (k : ℕ) → IsInstance p → k < length p.graphs → IsGraph (graph_at p k)
+graph_known p k h held = (All-get_or (IsDeclared p.vars (edges_total p)) p.graphs k no_graph held h.graphs).graph
+
+-- the one graph that has the number has it
+pub home_has : (p : Instance) (k n : ℕ) → ((j : ℕ) → j < length p.graphs → has_number (graph_at p j) n ≡ (j == k)) → k < length p.graphs → IsTrue (has_number (graph_at p k) n)
+home_has p k n exact held = exact k held ∙ eq-eqb k k refl

@@ -6,7 +6,7 @@ use Rattle.std.proofs.lemmas.Bool.Decides.{nat_tests}
 use Rattle.std.proofs.lemmas.Bool.{cases_lt, lt-ltb}
 use Rattle.std.proofs.lemmas.List.{map-append}
 use Rattle.mono_problem.proofs.Declared.{position_push_found}
-use Rattle.mono_gnf.specs.Declarations.{place_of}
+use Rattle.mono_problem.specs.Instance.{place_named}
 
 -- ---- the first place
 
@@ -70,14 +70,14 @@ none_before : (o : Option ℕ) → option_map (λ k. suc k) o ≡ None → o ≡
 none_before None h = refl
 none_before (Some k) h = absurd cc
 
-pub absent : (id : ℕ) (gs : List (ℕ × ℕ)) → place_of gs id ≡ None → Lacks id gs
+pub absent : (id : ℕ) (gs : List (ℕ × ℕ)) → place_named gs id ≡ None → Lacks id gs
 absent id [] h = tt
 absent id (g ∷ gs) h =
     (elim (eqb id g.0) as (λ b. eqb id g.0 ≡ b → Lacks id (g ∷ gs)) [
       | true ↦ λ e. let here = position-here (λ k. id == k) g.0 (map (λ (g : ℕ × ℕ). g.0) gs) e in absurd cc
       | false ↦ λ e.
           let later = position-later (λ k. id == k) g.0 (map (λ (g : ℕ × ℕ). g.0) gs) e in
-          (apart g.0 id e, absent id gs (none_before (place_of gs id) (sym later ∙ h)))
+          (apart g.0 id e, absent id gs (none_before (place_named gs id) (sym later ∙ h)))
     ]) refl
 
 at_first : (id k : ℕ) (g : ℕ × ℕ) (gs : List (ℕ × ℕ)) → Some 0 ≡ Some k → g.0 ≡ id → Lacks id gs → IsOnlyAt id k (g ∷ gs)
@@ -89,7 +89,7 @@ at_later id k g gs None e apart more = absurd cc
 at_later id zero g gs (Some j) e apart more = absurd cc
 at_later id (suc k) g gs (Some j) e apart more = (apart, more k cc)
 
-pub only_at : (id k : ℕ) (gs : List (ℕ × ℕ)) → AreDistinct gs → place_of gs id ≡ Some k → IsOnlyAt id k gs
+pub only_at : (id k : ℕ) (gs : List (ℕ × ℕ)) → AreDistinct gs → place_named gs id ≡ Some k → IsOnlyAt id k gs
 only_at id k [] h found = absurd cc
 only_at id k (g ∷ gs) h found =
     (elim (eqb id g.0) as (λ b. eqb id g.0 ≡ b → IsOnlyAt id k (g ∷ gs)) [
@@ -99,7 +99,7 @@ only_at id k (g ∷ gs) h found =
           at_first id k g gs (sym here ∙ found) same (Lacks-along g.0 id gs same h.0)
       | false ↦ λ e.
           let later = position-later (λ k. id == k) g.0 (map (λ (g : ℕ × ℕ). g.0) gs) e in
-          at_later id k g gs (place_of gs id) (sym later ∙ found) (apart g.0 id e) (λ j at. only_at id j gs h.1 at)
+          at_later id k g gs (place_named gs id) (sym later ∙ found) (apart g.0 id e) (λ j at. only_at id j gs h.1 at)
     ]) refl
 
 pub IsOnlyAt-held : (id k : ℕ) (gs : List (ℕ × ℕ)) → IsOnlyAt id k gs → k < length gs
@@ -107,19 +107,19 @@ IsOnlyAt-held id k [] h = absurd h
 IsOnlyAt-held id zero (g ∷ gs) h = omega arith
 IsOnlyAt-held id (suc k) (g ∷ gs) h = let rest = IsOnlyAt-held id k gs h.1 in omega arith
 
-pub place_of-push : (gs : List (ℕ × ℕ)) (g : ℕ × ℕ) (id k : ℕ) → place_of gs id ≡ Some k → place_of (gs ++ g ∷ []) id ≡ Some k
-place_of-push gs g id k h =
+pub place_named-push : (gs : List (ℕ × ℕ)) (g : ℕ × ℕ) (id k : ℕ) → place_named gs id ≡ Some k → place_named (gs ++ g ∷ []) id ≡ Some k
+place_named-push gs g id k h =
     ap (position (λ k. id == k)) (map-append (λ (g : ℕ × ℕ). g.0) gs (g ∷ [])) ∙ position_push_found (λ k. id == k) (map (λ (g : ℕ × ℕ). g.0) gs) g.0 k h
 
 -- each of the identities is one of a graph
 abbrev pub AreNamed : List (ℕ × ℕ) → List ℕ → Type 0
 AreNamed gs [] = Unit {0}
-AreNamed gs (id ∷ ids) = ((k : ℕ) × (place_of gs id ≡ Some k)) × AreNamed gs ids
+AreNamed gs (id ∷ ids) = ((k : ℕ) × (place_named gs id ≡ Some k)) × AreNamed gs ids
 
 pub AreNamed-wider : (gs : List (ℕ × ℕ)) (g : ℕ × ℕ) (ids : List ℕ) → AreNamed gs ids → AreNamed (gs ++ g ∷ []) ids
 AreNamed-wider gs g [] h = tt
-AreNamed-wider gs g (id ∷ ids) h = ((h.0.0, place_of-push gs g id h.0.0 h.0.1), AreNamed-wider gs g ids h.1)
+AreNamed-wider gs g (id ∷ ids) h = ((h.0.0, place_named-push gs g id h.0.0 h.0.1), AreNamed-wider gs g ids h.1)
 
-pub AreNamed-push : (gs : List (ℕ × ℕ)) (ids : List ℕ) (id k : ℕ) → AreNamed gs ids → place_of gs id ≡ Some k → AreNamed gs (ids ++ id ∷ [])
+pub AreNamed-push : (gs : List (ℕ × ℕ)) (ids : List ℕ) (id k : ℕ) → AreNamed gs ids → place_named gs id ≡ Some k → AreNamed gs (ids ++ id ∷ [])
 AreNamed-push gs [] id k h found = ((k, found), tt)
 AreNamed-push gs (i ∷ is) id k h found = (h.0, AreNamed-push gs is id k h.1 found)

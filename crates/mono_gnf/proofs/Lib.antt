@@ -1,4 +1,8 @@
+pub mod GraphWith
 pub mod Steps
+pub mod EdgeForms
+pub mod FieldLimits
+pub mod WellFormedReading
 pub mod ClauseSplits
 pub mod Identities
 pub mod Problems

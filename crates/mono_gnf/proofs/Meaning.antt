@@ -19,7 +19,7 @@ use Rattle.mono_gnf.specs.Faults.{number_fault, statement_fault, or_unread, word
 use Rattle.mono_gnf.specs.Stands.{Stands, instance_of}
 use Rattle.mono_gnf.specs.Reading.{Seen, nothing_seen, put, is_comment, read_tokens, read_numbers, at_line, read_lines, reading, outcome, ◌>>=◌}
 use Rattle.mono_gnf.proofs.Problems.{enumerate_from-push}
-use Rattle.mono_gnf.proofs.Agreement.{Agrees, Agrees-along, Agrees-weaker, one_check}
+use Rattle.mono_gnf.proofs.Agreement.{SameOutcome, SameOutcome-along, SameOutcome-weaker, one_check}
 use Rattle.mono_gnf.proofs.Statements.{seen, IsSound, nothing_sound, header-said, graph-said, edge-said, atom-said}
 use Rattle.mono_gnf.proofs.Numbers.{numbers-read}
 
@@ -47,28 +47,28 @@ said_moved said st zs last s h =
     (filter_map-append header_in said (st ∷ [])) (filter_map-append graph_in said (st ∷ [])) (filter_map-append edge_in said (st ∷ [])) (filter_map-append atom_in said (st ∷ [])) s h
 
 -- a statement is put on what was said
-statement_put : (said : List Statement) (zs : List ℤ) (last : ℕ) (st : Statement) → IsSoundSaid said → Agrees (Shows (said ++ st ∷ []) zs last) (statement_fault said st) (put (seen_said said zs last) st)
+statement_put : (said : List Statement) (zs : List ℤ) (last : ℕ) (st : Statement) → IsSoundSaid said → SameOutcome (Shows (said ++ st ∷ []) zs last) (statement_fault said st) (put (seen_said said zs last) st)
 statement_put said zs last (says.Header v) sound =
-    Agrees-weaker (λ s. s ≡ seen (headers said ++ v ∷ []) (graphs said) (edges said) (atoms said) zs last) (Shows (said ++ says.Header v ∷ []) zs last) (statement_fault said (says.Header v)) (put (seen_said said zs last) (says.Header v))
+    SameOutcome-weaker (λ s. s ≡ seen (headers said ++ v ∷ []) (graphs said) (edges said) (atoms said) zs last) (Shows (said ++ says.Header v ∷ []) zs last) (statement_fault said (says.Header v)) (put (seen_said said zs last) (says.Header v))
     (λ s h. said_moved said (says.Header v) zs last s
     (moved _ _ _ _ _ _ _ _ zs last refl (append-nil (graphs said)) (append-nil (edges said)) (append-nil (atoms said)) s (h, sound)))
     (header-said (headers said) (graphs said) (edges said) (atoms said) zs last v)
 statement_put said zs last (says.Graph id nodes) sound =
-    Agrees-weaker (λ s. (s ≡ seen (headers said) (graphs said ++ (id, nodes) ∷ []) (edges said) (atoms said) zs last) × IsSound (graphs said ++ (id, nodes) ∷ []) (edges said) (atoms said))
+    SameOutcome-weaker (λ s. (s ≡ seen (headers said) (graphs said ++ (id, nodes) ∷ []) (edges said) (atoms said) zs last) × IsSound (graphs said ++ (id, nodes) ∷ []) (edges said) (atoms said))
     (Shows (said ++ says.Graph id nodes ∷ []) zs last) (statement_fault said (says.Graph id nodes)) (put (seen_said said zs last) (says.Graph id nodes))
     (λ s h. said_moved said (says.Graph id nodes) zs last s
     (moved _ _ _ _ _ _ _ _ zs last (append-nil (headers said)) refl (append-nil (edges said)) (append-nil (atoms said)) s h))
     (graph-said (headers said) (graphs said) (edges said) (atoms said) zs last sound id nodes)
 statement_put said zs last (says.Edge id from to var weight) sound =
     let e : EdgeLine = record { graph = id; from = from; to = to; var = var; weight = weight } in
-    Agrees-weaker (λ s. (s ≡ seen (headers said) (graphs said) (edges said ++ e ∷ []) (atoms said) zs last) × IsSound (graphs said) (edges said ++ e ∷ []) (atoms said))
+    SameOutcome-weaker (λ s. (s ≡ seen (headers said) (graphs said) (edges said ++ e ∷ []) (atoms said) zs last) × IsSound (graphs said) (edges said ++ e ∷ []) (atoms said))
     (Shows (said ++ says.Edge id from to var weight ∷ []) zs last) (statement_fault said (says.Edge id from to var weight)) (put (seen_said said zs last) (says.Edge id from to var weight))
     (λ s h. said_moved said (says.Edge id from to var weight) zs last s
     (moved _ _ _ _ _ _ _ _ zs last (append-nil (headers said)) (append-nil (graphs said)) refl (append-nil (atoms said)) s h))
     (edge-said (headers said) (graphs said) (edges said) (atoms said) zs last sound e)
 statement_put said zs last (says.Atom id var predicate) sound =
     let x : AtomLine = record { graph = id; var = var; predicate = predicate } in
-    Agrees-weaker (λ s. (s ≡ seen (headers said) (graphs said) (edges said) (atoms said ++ x ∷ []) zs last) × IsSound (graphs said) (edges said) (atoms said ++ x ∷ []))
+    SameOutcome-weaker (λ s. (s ≡ seen (headers said) (graphs said) (edges said) (atoms said ++ x ∷ []) zs last) × IsSound (graphs said) (edges said) (atoms said ++ x ∷ []))
     (Shows (said ++ says.Atom id var predicate ∷ []) zs last) (statement_fault said (says.Atom id var predicate)) (put (seen_said said zs last) (says.Atom id var predicate))
     (λ s h. said_moved said (says.Atom id var predicate) zs last s
     (moved _ _ _ _ _ _ _ _ zs last (append-nil (headers said)) (append-nil (graphs said)) (append-nil (edges said)) refl s h))
@@ -108,12 +108,12 @@ skipped before line sound e k =
 -- ---- one line
 
 abbrev Reads : List (List (List ℕ)) → List (List ℕ) → Type 0
-Reads before line = Agrees (Next before line) (line_fault before line) (read_tokens (length before + 1) (seen_of before) line)
+Reads before line = SameOutcome (Next before line) (line_fault before line) (read_tokens (length before + 1) (seen_of before) line)
 
 module _ (before : List (List (List ℕ))) (t : List ℕ) (ts : List (List ℕ)) (sound : IsSoundOf before) where
   reads_comment : is_comment t ≡ true → Reads before (t ∷ ts)
   reads_comment h =
-      Agrees-along (Next before (t ∷ ts)) (line_fault before (t ∷ ts)) None (read_tokens (length before + 1) (seen_of before) (t ∷ ts)) (Ok (seen_of before))
+      SameOutcome-along (Next before (t ∷ ts)) (line_fault before (t ∷ ts)) None (read_tokens (length before + 1) (seen_of before) (t ∷ ts)) (Ok (seen_of before))
       (rw h refl) (rw h refl)
       (skipped before (t ∷ ts) sound (rw h refl) (rw h refl))
 
@@ -122,25 +122,25 @@ module _ (before : List (List (List ℕ))) (t : List ℕ) (ts : List (List ℕ))
       let read = numbers-read (headers (statements_of before)) (graphs (statements_of before)) (edges (statements_of before)) (atoms (statements_of before)) (length before + 1) (numbers_of before) (last_literal_line before) (t ∷ ts) in
       let fault : Option GnfFault = number_fault (numbers_of before) (t ∷ ts) in
       let step : Result Seen GnfFault = read_numbers (length before + 1) (seen_of before) (t ∷ ts) in
-      Agrees-along (Next before (t ∷ ts)) (line_fault before (t ∷ ts)) fault (read_tokens (length before + 1) (seen_of before) (t ∷ ts)) step
+      SameOutcome-along (Next before (t ∷ ts)) (line_fault before (t ∷ ts)) fault (read_tokens (length before + 1) (seen_of before) (t ∷ ts)) step
       (rw (h, k) refl) (rw (h, k) refl)
-      (Agrees-weaker _ (Next before (t ∷ ts)) fault step
+      (SameOutcome-weaker _ (Next before (t ∷ ts)) fault step
       (λ s seen. shown before (t ∷ ts) None (filter_map signed (t ∷ ts)) (rw (h, k) refl) (rw (h, k) refl) s
       (rw (append-nil (statements_of before)) (seen, sound)))
       read)
 
   -- what a word line says, by how its text is read
   reads_statement : (r : Result Statement GnfFault) → statement_of (t ∷ ts) ≡ r → is_comment t ≡ false → is_number_token t ≡ false
-      → Agrees (Next before (t ∷ ts)) (or_unread r (statement_fault (statements_of before))) (r >>= put (seen_of before))
+      → SameOutcome (Next before (t ∷ ts)) (or_unread r (statement_fault (statements_of before))) (r >>= put (seen_of before))
   reads_statement (Err f) e h k = refl
   reads_statement (Ok st) e h k =
-      Agrees-weaker (Shows (statements_of before ++ st ∷ []) (numbers_of before) (last_literal_line before)) (Next before (t ∷ ts)) (statement_fault (statements_of before) st) (put (seen_of before) st)
+      SameOutcome-weaker (Shows (statements_of before ++ st ∷ []) (numbers_of before) (last_literal_line before)) (Next before (t ∷ ts)) (statement_fault (statements_of before) st) (put (seen_of before) st)
       (λ s seen. shown before (t ∷ ts) (Some st) [] (rw (h, k, e) refl) (rw (h, k) refl) s (rw (append-nil (numbers_of before)) seen))
       (statement_put (statements_of before) (numbers_of before) (last_literal_line before) st sound)
 
   reads_word : is_comment t ≡ false → is_number_token t ≡ false → Reads before (t ∷ ts)
   reads_word h k =
-      Agrees-along (Next before (t ∷ ts)) (line_fault before (t ∷ ts)) (word_fault before (t ∷ ts)) (read_tokens (length before + 1) (seen_of before) (t ∷ ts))
+      SameOutcome-along (Next before (t ∷ ts)) (line_fault before (t ∷ ts)) (word_fault before (t ∷ ts)) (read_tokens (length before + 1) (seen_of before) (t ∷ ts))
       (cond (is_within_clause (numbers_of before)) (Err fault.OpenClause) (statement_of (t ∷ ts) >>= put (seen_of before)))
       (rw (h, k) refl) (rw (h, k) refl)
       (one_check (Next before (t ∷ ts)) (is_within_clause (numbers_of before)) fault.OpenClause (or_unread (statement_of (t ∷ ts)) (statement_fault (statements_of before))) (statement_of (t ∷ ts) >>= put (seen_of before))
@@ -173,7 +173,7 @@ read_lines-all n s [] = refl
 read_lines-all n s (l ∷ ls) = at_line-same n (read_tokens n s (tokens_of l)) _ _ (λ next. read_lines-all (n + 1) next ls)
 
 and_later : (Q : Seen → Type 0) (n : ℕ) (o : Option GnfFault) (r : Result Seen GnfFault) (later : Option (ℕ × GnfFault)) (more : Seen → Result Instance (ℕ × GnfFault)) (p : Instance)
-    → Agrees Q o r → ((s : Seen) → Q s → more s ≡ outcome later p) → at_line n r more ≡ outcome (option_or (option_map (λ f. (n, f)) o) later) p
+    → SameOutcome Q o r → ((s : Seen) → Q s → more s ≡ outcome later p) → at_line n r more ≡ outcome (option_or (option_map (λ f. (n, f)) o) later) p
 and_later Q n None (Ok s) later more p h k = k s h
 and_later Q n None (Err g) later more p h k = absurd h
 and_later Q n (Some f) (Ok s) later more p h k = absurd h

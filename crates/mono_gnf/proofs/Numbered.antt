@@ -6,6 +6,8 @@ use Rattle.std.proofs.lemmas.List.Sums.{sum_by-cons, length-filter}
 use Rattle.mono_graph.specs.declared.edge.Edge.{Edge}
 use Rattle.mono_graph.specs.Digraph.{Digraph, no_edge}
 use Rattle.mono_problem.specs.WellFormed.{IsDeclared, count_numbered}
+use Rattle.mono_base.specs.declared.limits.TheConstants.{MAX_NODES, MAX_EDGES, MAX_WEIGHT}
+use Rattle.mono_gnf.specs.Statements.{MAX_WIDE}
 
 abbrev pub of_number : ℕ → List Edge → List Edge
 of_number n es = filter (λ (e : Edge). e.number == n) es
@@ -25,12 +27,12 @@ IsOnly n e (suc k) (g ∷ gs) = (of_number n g.1.edges ≡ []) × IsOnly n e k g
 abbrev pub AreEdges : ℕ → ℕ → ℕ → ℕ → List Edge → Type 0
 AreEdges vars nodes last low [] = Unit {0}
 AreEdges vars nodes last low (e ∷ es) =
-    (low < e.number) × (e.number ≤ last) × (e.from < nodes) × (e.to < nodes) × (0 < e.var) × (e.var ≤ vars) × (e.weight ≤ 4294967295) × AreEdges vars nodes last e.number es
+    (low < e.number) × (e.number ≤ last) × (e.from < nodes) × (e.to < nodes) × (0 < e.var) × (e.var ≤ vars) × (e.weight ≤ MAX_WEIGHT) × AreEdges vars nodes last e.number es
 
 abbrev pub AreGraphs : ℕ → ℕ → List (ℕ × Digraph) → Type 0
 AreGraphs vars last [] = Unit {0}
 AreGraphs vars last (g ∷ gs) =
-    (g.0 ≤ 4294967295) × (0 < g.1.nodes) × (g.1.nodes ≤ 1000000) × (length g.1.edges ≤ 1000000) × AreEdges vars g.1.nodes last 0 g.1.edges × AreGraphs vars last gs
+    (g.0 ≤ MAX_WIDE) × (0 < g.1.nodes) × (g.1.nodes ≤ MAX_NODES) × (length g.1.edges ≤ MAX_EDGES) × AreEdges vars g.1.nodes last 0 g.1.edges × AreGraphs vars last gs
 
 -- ---- the graphs of a problem
 
@@ -40,7 +42,7 @@ record IsEdgeIn (vars nodes last : ℕ) (e : Edge) : Type 0 where
   pub to : e.to < nodes
   pub some : 0 < e.var
   pub var : e.var ≤ vars
-  pub weight : e.weight ≤ 4294967295
+  pub weight : e.weight ≤ MAX_WEIGHT
 
 abbrev Rising : List Edge → Type 0
 Rising es = (i j : ℕ) → i < j → j < length es → (get_or es i no_edge).number < (get_or es j no_edge).number
@@ -69,7 +71,7 @@ edges_of_graph vars last g h =
       var = range.0;
       weight = omega (arith, light);
     } in
-    are_edges vars g.1.nodes last 0 g.1.edges parts h.graph.rising (λ some. omega (arith, (h.graph.numbers 0 no_edge some).0))
+    are_edges vars g.1.nodes last 0 g.1.edges parts h.graph.rising (λ some. omega (arith, h.graph.numbers 0 no_edge some))
 
 pub are_graphs : (vars last : ℕ) (gs : List (ℕ × Digraph)) → All (IsDeclared vars last) gs → AreGraphs vars last gs
 are_graphs vars last [] h = tt

@@ -14,8 +14,9 @@ use Rattle.mono_gnf.specs.Reading.{Seen, put_number, read_number, read_numbers, 
 use Rattle.std.specs.Option.{option_or}
 use Rattle.mono_gnf.proofs.ClauseSplits.{clauses-zero, open-zero, clauses-literal, open-literal, literals_in}
 use Rattle.mono_gnf.proofs.Problems.{greatest-clause}
-use Rattle.mono_gnf.proofs.Agreement.{Agrees, Agrees-along, Agrees-weaker, Agrees-then, Agrees-checks, run}
+use Rattle.mono_gnf.proofs.Agreement.{SameOutcome, SameOutcome-along, SameOutcome-weaker, SameOutcome-then, SameOutcome-checks, run}
 use Rattle.mono_gnf.proofs.Statements.{seen, vars_of, vars-split}
+use Rattle.mono_base.specs.declared.limits.TheConstants.{MAX_VARS, MAX_CLAUSES, MAX_LITERALS}
 
 module _ (hs : List ℕ) (gs : List (ℕ × ℕ)) (es : List EdgeLine) (xs : List AtomLine) (n : ℕ) where
   abbrev state : ℕ → List (List ℤ) → List ℤ → ℕ → Seen
@@ -48,30 +49,30 @@ module _ (hs : List ℕ) (gs : List (ℕ × ℕ)) (es : List EdgeLine) (xs : Lis
       ∙ ap (λ (row : List ℤ). state (vars_of hs es xs (clauses_of (zs ++ z ∷ []))) (clauses_of (zs ++ z ∷ [])) row n) (sym (open-literal zs z h))
 
   number-zero : (zs : List ℤ) (last : ℕ) (z : ℤ) → is_zero z ≡ true
-      → Agrees (Counted (zs ++ z ∷ []) last) (first_failed ((is_too_many zs z, fault.TooMany) ∷ [])) (put_number n (seen hs gs es xs zs last) z)
+      → SameOutcome (Counted (zs ++ z ∷ []) last) (first_failed ((is_too_many zs z, fault.TooMany) ∷ [])) (put_number n (seen hs gs es xs zs last) z)
   number-zero zs last z h =
-      let checks : List (Bool × GnfFault) = (nat_le 8000000 (length (clauses_of zs)), fault.TooMany) ∷ [] in
+      let checks : List (Bool × GnfFault) = (nat_le MAX_CLAUSES (length (clauses_of zs)), fault.TooMany) ∷ [] in
       let next = state (greatest_var (vars_of hs es xs (clauses_of zs)) (open_clause zs)) (clauses_of zs ++ open_clause zs ∷ []) [] last in
-      Agrees-along (Counted (zs ++ z ∷ []) last) (first_failed ((is_too_many zs z, fault.TooMany) ∷ [])) (first_failed checks) (put_number n (seen hs gs es xs zs last) z) (run checks next)
+      SameOutcome-along (Counted (zs ++ z ∷ []) last) (first_failed ((is_too_many zs z, fault.TooMany) ∷ [])) (first_failed checks) (put_number n (seen hs gs es xs zs last) z) (run checks next)
       (rw h refl) (rw h refl)
-      (Agrees-checks (Counted (zs ++ z ∷ []) last) checks next (λ passed. ended zs last z h))
+      (SameOutcome-checks (Counted (zs ++ z ∷ []) last) checks next (λ passed. ended zs last z h))
 
   number-literal : (zs : List ℤ) (last : ℕ) (z : ℤ) → is_zero z ≡ false
-      → Agrees (Counted (zs ++ z ∷ []) n) (first_failed ((is_too_many zs z, fault.TooMany) ∷ [])) (put_number n (seen hs gs es xs zs last) z)
+      → SameOutcome (Counted (zs ++ z ∷ []) n) (first_failed ((is_too_many zs z, fault.TooMany) ∷ [])) (put_number n (seen hs gs es xs zs last) z)
   number-literal zs last z h =
-      let checks : List (Bool × GnfFault) = (nat_le 16000000 (literal_count zs), fault.TooMany) ∷ [] in
+      let checks : List (Bool × GnfFault) = (nat_le MAX_LITERALS (literal_count zs), fault.TooMany) ∷ [] in
       let next = state (vars_of hs es xs (clauses_of zs)) (clauses_of zs) (open_clause zs ++ z ∷ []) n in
-      Agrees-along (Counted (zs ++ z ∷ []) n) (first_failed ((is_too_many zs z, fault.TooMany) ∷ [])) (first_failed checks) (put_number n (seen hs gs es xs zs last) z) (run checks next)
+      SameOutcome-along (Counted (zs ++ z ∷ []) n) (first_failed ((is_too_many zs z, fault.TooMany) ∷ [])) (first_failed checks) (put_number n (seen hs gs es xs zs last) z) (run checks next)
       (rw h refl) (rw (h, literals_in zs) refl)
-      (Agrees-checks (Counted (zs ++ z ∷ []) n) checks next (λ passed. longer zs z h))
+      (SameOutcome-checks (Counted (zs ++ z ∷ []) n) checks next (λ passed. longer zs z h))
 
   abbrev last_of_two : Bool → ℕ → ℕ
   last_of_two has last = cond has n last
 
   one_number : (zs : List ℤ) (last : ℕ) (z : ℤ)
-      → Agrees (Counted (zs ++ z ∷ []) (last_of_two (is_literal z) last)) (first_failed ((is_too_many zs z, fault.TooMany) ∷ [])) (put_number n (seen hs gs es xs zs last) z)
+      → SameOutcome (Counted (zs ++ z ∷ []) (last_of_two (is_literal z) last)) (first_failed ((is_too_many zs z, fault.TooMany) ∷ [])) (put_number n (seen hs gs es xs zs last) z)
   one_number zs last z =
-      (elim (is_zero z) as (λ b. is_zero z ≡ b → Agrees (Counted (zs ++ z ∷ []) (last_of_two (not b) last)) (first_failed ((is_too_many zs z, fault.TooMany) ∷ [])) (put_number n (seen hs gs es xs zs last) z)) [
+      (elim (is_zero z) as (λ b. is_zero z ≡ b → SameOutcome (Counted (zs ++ z ∷ []) (last_of_two (not b) last)) (first_failed ((is_too_many zs z, fault.TooMany) ∷ [])) (put_number n (seen hs gs es xs zs last) z)) [
         | true ↦ λ h. number-zero zs last z h
         | false ↦ λ h. number-literal zs last z h
       ]) refl
@@ -92,35 +93,35 @@ module _ (hs : List ℕ) (gs : List (ℕ × ℕ)) (es : List EdgeLine) (xs : Lis
 
   -- what holds of every start behind a number holds of the start at it
   read_on : (zs : List ℤ) (last : ℕ) (ts : List (List ℕ)) (z : ℤ)
-      → ((zs' : List ℤ) (last' : ℕ) → Agrees (Through zs' last' ts) (number_fault zs' ts) (read_numbers n (seen hs gs es xs zs' last') ts))
-      → Agrees (Counted (zs ++ z ∷ filter_map signed ts) (last_of_two (list_any is_literal (z ∷ filter_map signed ts)) last))
+      → ((zs' : List ℤ) (last' : ℕ) → SameOutcome (Through zs' last' ts) (number_fault zs' ts) (read_numbers n (seen hs gs es xs zs' last') ts))
+      → SameOutcome (Counted (zs ++ z ∷ filter_map signed ts) (last_of_two (list_any is_literal (z ∷ filter_map signed ts)) last))
       (option_or (first_failed ((is_too_many zs z, fault.TooMany) ∷ [])) (number_fault (zs ++ z ∷ []) ts))
       (put_number n (seen hs gs es xs zs last) z >>= (λ next. read_numbers n next ts))
   read_on zs last ts z more =
       let here = last_of_two (is_literal z) last in
       let Q : Seen → Type 0 = Counted (zs ++ z ∷ filter_map signed ts) (last_of_two (list_any is_literal (z ∷ filter_map signed ts)) last) in
-      Agrees-then (Counted (zs ++ z ∷ []) here) Q (first_failed ((is_too_many zs z, fault.TooMany) ∷ [])) (number_fault (zs ++ z ∷ []) ts) (put_number n (seen hs gs es xs zs last) z) (λ next. read_numbers n next ts)
+      SameOutcome-then (Counted (zs ++ z ∷ []) here) Q (first_failed ((is_too_many zs z, fault.TooMany) ∷ [])) (number_fault (zs ++ z ∷ []) ts) (put_number n (seen hs gs es xs zs last) z) (λ next. read_numbers n next ts)
       (one_number zs last z)
       (λ s h.
-      let P : Seen → Type 0 = λ s. Agrees Q (number_fault (zs ++ z ∷ []) ts) (read_numbers n s ts) in
+      let P : Seen → Type 0 = λ s. SameOutcome Q (number_fault (zs ++ z ∷ []) ts) (read_numbers n s ts) in
       subst P (sym h)
-      (Agrees-weaker (Through (zs ++ z ∷ []) here ts) Q (number_fault (zs ++ z ∷ []) ts) (read_numbers n (seen hs gs es xs (zs ++ z ∷ []) here) ts) (numbers_after zs last z (filter_map signed ts)) (more (zs ++ z ∷ []) here)))
+      (SameOutcome-weaker (Through (zs ++ z ∷ []) here ts) Q (number_fault (zs ++ z ∷ []) ts) (read_numbers n (seen hs gs es xs (zs ++ z ∷ []) here) ts) (numbers_after zs last z (filter_map signed ts)) (more (zs ++ z ∷ []) here)))
 
   token_read : (zs : List ℤ) (last : ℕ) (ts : List (List ℕ)) (o : Option ℤ)
-      → ((zs' : List ℤ) (last' : ℕ) → Agrees (Through zs' last' ts) (number_fault zs' ts) (read_numbers n (seen hs gs es xs zs' last') ts))
-      → Agrees (Counted (zs ++ cons_option o (filter_map signed ts)) (last_of_two (list_any is_literal (cons_option o (filter_map signed ts))) last))
-      (or_refused (signed_within 1000000 o) (λ z. option_or (first_failed ((is_too_many zs z, fault.TooMany) ∷ [])) (number_fault (zs ++ z ∷ []) ts)))
-      (number_of (signed_within 1000000 o) >>= put_number n (seen hs gs es xs zs last) >>= (λ next. read_numbers n next ts))
+      → ((zs' : List ℤ) (last' : ℕ) → SameOutcome (Through zs' last' ts) (number_fault zs' ts) (read_numbers n (seen hs gs es xs zs' last') ts))
+      → SameOutcome (Counted (zs ++ cons_option o (filter_map signed ts)) (last_of_two (list_any is_literal (cons_option o (filter_map signed ts))) last))
+      (or_refused (signed_within MAX_VARS o) (λ z. option_or (first_failed ((is_too_many zs z, fault.TooMany) ∷ [])) (number_fault (zs ++ z ∷ []) ts)))
+      (number_of (signed_within MAX_VARS o) >>= put_number n (seen hs gs es xs zs last) >>= (λ next. read_numbers n next ts))
   token_read zs last ts None more = refl
   token_read zs last ts (Some z) more =
-      elim (nat_lt 1000000 (nat_abs z)) as (λ b. Agrees (Counted (zs ++ z ∷ filter_map signed ts) (last_of_two (list_any is_literal (z ∷ filter_map signed ts)) last))
+      elim (nat_lt MAX_VARS (nat_abs z)) as (λ b. SameOutcome (Counted (zs ++ z ∷ filter_map signed ts) (last_of_two (list_any is_literal (z ∷ filter_map signed ts)) last))
       (or_refused (cond b (Err refusal.TooLarge) (Ok z)) (λ z. option_or (first_failed ((is_too_many zs z, fault.TooMany) ∷ [])) (number_fault (zs ++ z ∷ []) ts)))
       (number_of (cond b (Err refusal.TooLarge) (Ok z)) >>= put_number n (seen hs gs es xs zs last) >>= (λ next. read_numbers n next ts))) [
         | true ↦ refl
         | false ↦ read_on zs last ts z more
       ]
 
-  pub numbers-read : (zs : List ℤ) (last : ℕ) (ts : List (List ℕ)) → Agrees (Through zs last ts) (number_fault zs ts) (read_numbers n (seen hs gs es xs zs last) ts)
+  pub numbers-read : (zs : List ℤ) (last : ℕ) (ts : List (List ℕ)) → SameOutcome (Through zs last ts) (number_fault zs ts) (read_numbers n (seen hs gs es xs zs last) ts)
   unfolding read_number
   numbers-read zs last [] = ap (λ (all : List ℤ). seen hs gs es xs all last) (sym (append-nil zs))
   numbers-read zs last (t ∷ ts) = token_read zs last ts (signed t) (λ zs' last'. numbers-read zs' last' ts)

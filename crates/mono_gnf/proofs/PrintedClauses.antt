@@ -9,13 +9,14 @@ use Rattle.std.specs.Prelude.{All}
 use Rattle.std.proofs.lemmas.List.Elements.{All-head, All-tail}
 use Rattle.mono_text.proofs.Decimals.{signed_within-decimal, decimal_is, AreDigits, fields_of-decimal}
 use Rattle.mono_problem.specs.Instance.{Instance, literals_total}
-use Rattle.mono_problem.specs.WellFormed.{IsLitWithin}
+use Rattle.mono_base.specs.Literal.{IsLitWithin}
 use Rattle.mono_problem.specs.Growth.{nothing, with_clause, greatest_var}
 use Rattle.mono_gnf.specs.declared.statement.Statement.TheVariants as says
-use Rattle.mono_gnf.specs.Statements.{statement_of, with_fields}
+use Rattle.mono_gnf.specs.Statements.{MAX_WIDE, statement_of, with_fields}
 use Rattle.mono_gnf.specs.Reading.{Seen, nothing_seen, read_tokens, read_number, read_numbers, put, put_number, number_of, is_comment, is_number_token, ◌>>=◌}
 use Rattle.mono_gnf.specs.Printed.{clause_line, header_line}
 use Rattle.mono_gnf.proofs.LineRuns.{Leads}
+use Rattle.mono_base.specs.declared.limits.TheConstants.{MAX_VARS, MAX_CLAUSES, MAX_LITERALS}
 
 -- literals over the first variables
 abbrev pub AreLits : ℕ → List ℤ → Type 0
@@ -40,26 +41,26 @@ state p row last = record { problem = p; row = row; last = last; header = true }
 
 -- ---- the numbers of a clause
 
-read_number-signed : (n : ℕ) (s : Seen) (z : ℤ) → nat_abs z ≤ 1000000 → read_number n s (signed_decimal z) ≡ put_number n s z
+read_number-signed : (n : ℕ) (s : Seen) (z : ℤ) → nat_abs z ≤ MAX_VARS → read_number n s (signed_decimal z) ≡ put_number n s z
 unfolding read_number
-read_number-signed n s z h = ap (λ r. number_of r >>= put_number n s) (signed_within-decimal 1000000 z h (omega (arith, h)))
+read_number-signed n s z h = ap (λ r. number_of r >>= put_number n s) (signed_within-decimal MAX_VARS z h (omega (arith, h)))
 
 read_number-zero : (n : ℕ) (s : Seen) → read_number n s (codes "0") ≡ put_number n s (pos 0)
 unfolding read_number
 read_number-zero n s = refl
 
-put_literal : (n : ℕ) (p : Instance) (row : List ℤ) (last : ℕ) (z : ℤ) → 0 < nat_abs z → literals_total p + length row < 16000000 → put_number n (state p row last) z ≡ Ok (state p (row ++ z ∷ []) n)
+put_literal : (n : ℕ) (p : Instance) (row : List ℤ) (last : ℕ) (z : ℤ) → 0 < nat_abs z → literals_total p + length row < MAX_LITERALS → put_number n (state p row last) z ≡ Ok (state p (row ++ z ∷ []) n)
 put_literal n p row last (pos zero) h few = absurd (omega (arith, h))
 put_literal n p row last (pos (suc m)) h few =
-    let test : leb 16000000 (literals_total p + length row) ≡ false = grind (arith, nat_tests) in
+    let test : leb MAX_LITERALS (literals_total p + length row) ≡ false = grind (arith, nat_tests) in
     let literal : int_eq (pos (suc m)) (pos 0) ≡ false = grind (arith, nat_tests) in
     rw (literal, test) refl
-put_literal n p row last (negsuc m) h few = let test : leb 16000000 (literals_total p + length row) ≡ false = grind (arith, nat_tests) in rw test refl
+put_literal n p row last (negsuc m) h few = let test : leb MAX_LITERALS (literals_total p + length row) ≡ false = grind (arith, nat_tests) in rw test refl
 
-put_zero : (n : ℕ) (p : Instance) (row : List ℤ) (last : ℕ) → length p.clauses < 8000000 → put_number n (state p row last) (pos 0) ≡ Ok (state (with_clause p row) [] last)
-put_zero n p row last few = let test : leb 8000000 (length p.clauses) ≡ false = grind (arith, nat_tests) in rw test refl
+put_zero : (n : ℕ) (p : Instance) (row : List ℤ) (last : ℕ) → length p.clauses < MAX_CLAUSES → put_number n (state p row last) (pos 0) ≡ Ok (state (with_clause p row) [] last)
+put_zero n p row last few = let test : leb MAX_CLAUSES (length p.clauses) ≡ false = grind (arith, nat_tests) in rw test refl
 
-numbers-clause : (n vars : ℕ) (p : Instance) (row : List ℤ) (last : ℕ) (c : List ℤ) → AreLits vars c → vars ≤ 1000000 → length p.clauses < 8000000 → literals_total p + length row + length c ≤ 16000000
+numbers-clause : (n vars : ℕ) (p : Instance) (row : List ℤ) (last : ℕ) (c : List ℤ) → AreLits vars c → vars ≤ MAX_VARS → length p.clauses < MAX_CLAUSES → literals_total p + length row + length c ≤ MAX_LITERALS
     → (k : ℕ) × (read_numbers n (state p row last) (clause_line c) ≡ Ok (state (with_clause p (row ++ c)) [] k))
 numbers-clause n vars p row last [] lits small few room =
     (last, ap (λ r. r >>= (λ next. read_numbers n next [])) (read_number-zero n (state p row last) ∙ put_zero n p row last few) ∙ ap (λ c. Ok (state (with_clause p c) [] last)) (sym (append-nil row)))
@@ -84,7 +85,7 @@ first_signed (negsuc n) h = (refl, refl)
 number_line : (n : ℕ) (s : Seen) (t : List ℕ) (ts : List (List ℕ)) → is_comment t ≡ false → is_number_token t ≡ true → read_tokens n s (t ∷ ts) ≡ read_numbers n s (t ∷ ts)
 number_line n s t ts h k = rw (h, k) refl
 
-read_clause : (n vars : ℕ) (s : Seen) (c : List ℤ) → AreLits vars c → vars ≤ 1000000 → read_tokens n s (clause_line c) ≡ read_numbers n s (clause_line c)
+read_clause : (n vars : ℕ) (s : Seen) (c : List ℤ) → AreLits vars c → vars ≤ MAX_VARS → read_tokens n s (clause_line c) ≡ read_numbers n s (clause_line c)
 read_clause n vars s [] lits small = refl
 read_clause n vars s (z ∷ zs) lits small =
     let first = first_signed z (omega (arith, lits.1)) in
@@ -104,7 +105,7 @@ with_clauses p cs = record p { clauses = p.clauses ++ cs }
 with_clause-within : (p : Instance) (c : List ℤ) → AreLits p.vars c → with_clause p c ≡ with_clauses p (c ∷ [])
 with_clause-within p c h = ap (λ v. record p { vars = v; clauses = p.clauses ++ c ∷ [] }) (greatest_var-within p.vars c h)
 
-pub Leads-clauses : (n : ℕ) (p : Instance) (last : ℕ) (cs : List (List ℤ)) → AreClauses p.vars cs → p.vars ≤ 1000000 → length p.clauses + length cs ≤ 8000000 → literals_total p + sum_by (λ (c : List ℤ). length c) cs ≤ 16000000
+pub Leads-clauses : (n : ℕ) (p : Instance) (last : ℕ) (cs : List (List ℤ)) → AreClauses p.vars cs → p.vars ≤ MAX_VARS → length p.clauses + length cs ≤ MAX_CLAUSES → literals_total p + sum_by (λ (c : List ℤ). length c) cs ≤ MAX_LITERALS
     → (k : ℕ) × Leads n (state p [] last) (map clause_line cs) (state (with_clauses p cs) [] k)
 Leads-clauses n p last [] lits small few room = (last, ap (λ cs. state (record p { clauses = cs }) [] last) (sym (append-nil p.clauses)))
 Leads-clauses n p last (c ∷ cs) lits small few room =
@@ -119,12 +120,12 @@ Leads-clauses n p last (c ∷ cs) lits small few room =
 
 -- ---- the header
 
-header_says : (vars count : ℕ) → vars ≤ 1000000 → count ≤ 4294967295 → statement_of (codes "p" ∷ codes "gnf" ∷ decimal vars ∷ decimal count ∷ []) ≡ Ok (says.Header vars)
+header_says : (vars count : ℕ) → vars ≤ MAX_VARS → count ≤ MAX_WIDE → statement_of (codes "p" ∷ codes "gnf" ∷ decimal vars ∷ decimal count ∷ []) ≡ Ok (says.Header vars)
 unfolding statement_of
 header_says vars count h k =
-    ap (λ r. with_fields r (λ fs. says.Header (slice_index fs 0))) (fields_of-decimal (codes "p" ∷ codes "gnf" ∷ []) (1000000 ∷ 4294967295 ∷ []) (vars ∷ count ∷ []) (h, omega arith, (k, omega arith, tt)))
+    ap (λ r. with_fields r (λ fs. says.Header (slice_index fs 0))) (fields_of-decimal (MAX_VARS ∷ MAX_WIDE ∷ []) (vars ∷ count ∷ []) (h, omega arith, (k, omega arith, tt)))
 
-pub read_header : (p : Instance) → p.vars ≤ 1000000 → length p.clauses ≤ 4294967295 → read_tokens 1 nothing_seen (header_line p) ≡ Ok (state (record nothing { vars = p.vars }) [] 0)
+pub read_header : (p : Instance) → p.vars ≤ MAX_VARS → length p.clauses ≤ MAX_WIDE → read_tokens 1 nothing_seen (header_line p) ≡ Ok (state (record nothing { vars = p.vars }) [] 0)
 read_header p h k =
     let zero_max : max 0 p.vars ≡ p.vars = omega arith in
     ap (λ r. r >>= put nothing_seen) (header_says p.vars (length p.clauses) h k) ∙ ap (λ v. Ok (state (record nothing { vars = v }) [] 0)) zero_max

@@ -1,5 +1,5 @@
 -- A printed form is made of tokens.
-use Rattle.std.proofs.Common.{◌≡◌, ℕ, ◌-◌, ◌<◌, ◌≤◌, ◌^◌, Bool, true, false, cond, not, ◌&&◌, List, [], ◌∷◌, ◌++◌, length, map, refl, arith, ℤ, pos, negsuc, ltb, codes, decimal}
+use Rattle.std.proofs.Common.{◌≡◌, ◌+◌, ℕ, ◌-◌, ◌<◌, ◌≤◌, ◌^◌, Bool, true, false, cond, not, ◌&&◌, List, [], ◌∷◌, ◌++◌, length, map, refl, arith, ℤ, pos, negsuc, ltb, codes, decimal}
 use Rattle.mono_text.proofs.Spaced.{IsWord, IsToken, AreTokens, AreTokenLines}
 use Rattle.mono_text.specs.Text.{is_blank, is_line_feed}
 use Rattle.std.proofs.lemmas.Bool.{false≢true}
@@ -14,6 +14,8 @@ use Rattle.mono_problem.specs.Growth.{with_graph, with_edge, with_atom}
 use Rattle.mono_gnf.specs.Printed.{header_line, graph_line, edge_line, atom_line, predicate_line, clause_line}
 use Rattle.mono_gnf.proofs.PrintedClauses.{AreLits, AreClauses}
 use Rattle.mono_gnf.proofs.PrintedForms.{AddsGraphs, AddsEdges, AddsAtoms, IsFitting, most_within, least_within, least_positive}
+use Rattle.mono_base.specs.declared.limits.TheConstants.{MAX_VARS, MAX_BOUND}
+use Rattle.mono_gnf.specs.Statements.{MAX_WIDE}
 
 pub lines-append : (xs ys : List (List (List ℕ))) → AreTokenLines xs → AreTokenLines ys → AreTokenLines (xs ++ ys)
 lines-append [] ys h k = k
@@ -28,11 +30,11 @@ unfolding AreSmall
 decimals [] h = tt
 decimals (n ∷ ns) h = (token_decimal n h.0, decimals ns h.1)
 
-clause_tokens : (vars : ℕ) (c : List ℤ) → vars ≤ 1000000 → AreLits vars c → AreTokens (clause_line c)
+clause_tokens : (vars : ℕ) (c : List ℤ) → vars ≤ MAX_VARS → AreLits vars c → AreTokens (clause_line c)
 clause_tokens vars [] h lits = ((refl, refl, tt), tt)
 clause_tokens vars (z ∷ zs) h lits = (token_signed z (omega (arith, lits.1)), clause_tokens vars zs h lits.2)
 
-pub clause_lines : (vars : ℕ) (cs : List (List ℤ)) → vars ≤ 1000000 → AreClauses vars cs → AreTokenLines (map clause_line cs)
+pub clause_lines : (vars : ℕ) (cs : List (List ℤ)) → vars ≤ MAX_VARS → AreClauses vars cs → AreTokenLines (map clause_line cs)
 clause_lines vars [] h k = tt
 clause_lines vars (c ∷ cs) h k = (clause_tokens vars c h k.0, clause_lines vars cs h k.1)
 
@@ -86,22 +88,22 @@ edge_lines p q (e ∷ es) h =
     let weight : e.1.weight < 2 ^ 64 = omega (arith, can.weight) in
     ((token_from (codes "edge") refl, decimals (e.0 ∷ e.1.from ∷ e.1.to ∷ e.1.var ∷ e.1.weight ∷ []) (id, (from, (to, (var, (weight, tt)))))), edge_lines (with_edge p h.0 e.1) q es h.2)
 
-walk_numbers : (a b c d : ℕ) → a ≤ 4294967295 → b ≤ 4294967295 → c ≤ 4294967295 → d ≤ 1000000 → (e : ℕ) → e ≤ 9007199254740993 → AreTokens (map decimal (a ∷ b ∷ c ∷ d ∷ e ∷ []))
+walk_numbers : (a b c d : ℕ) → a ≤ MAX_WIDE → b ≤ MAX_WIDE → c ≤ MAX_WIDE → d ≤ MAX_VARS → (e : ℕ) → e ≤ MAX_BOUND + 1 → AreTokens (map decimal (a ∷ b ∷ c ∷ d ∷ e ∷ []))
 unfolding AreSmall
 walk_numbers a b c d ha hb hc hd e he = decimals (a ∷ b ∷ c ∷ d ∷ e ∷ []) (omega arith, (omega arith, (omega arith, (omega arith, (omega arith, tt)))))
 
-flow_tokens : (id s t x f : ℕ) (b : Bool) → id ≤ 4294967295 → s ≤ 4294967295 → t ≤ 4294967295 → x ≤ 1000000 → f ≤ 9007199254740993 → AreTokens (cond b (codes "maximum_flow_gt") (codes "maximum_flow_geq") ∷ decimal id ∷ decimal s ∷ decimal t ∷ decimal x ∷ decimal (cond b (f - 1) f) ∷ [])
+flow_tokens : (id s t x f : ℕ) (b : Bool) → id ≤ MAX_WIDE → s ≤ MAX_WIDE → t ≤ MAX_WIDE → x ≤ MAX_VARS → f ≤ MAX_BOUND + 1 → AreTokens (cond b (codes "maximum_flow_gt") (codes "maximum_flow_geq") ∷ decimal id ∷ decimal s ∷ decimal t ∷ decimal x ∷ decimal (cond b (f - 1) f) ∷ [])
 flow_tokens id s t x f true a b c d e = (token_from (codes "maximum_flow_gt") refl, walk_numbers id s t x a b c d (f - 1) (omega arith))
 flow_tokens id s t x f false a b c d e = (token_from (codes "maximum_flow_geq") refl, walk_numbers id s t x a b c d f e)
 
-predicate_tokens : (id x : ℕ) (k : Predicate) → id ≤ 4294967295 → x ≤ 1000000 → IsFitting k → AreTokens (predicate_line id x k)
+predicate_tokens : (id x : ℕ) (k : Predicate) → id ≤ MAX_WIDE → x ≤ MAX_VARS → IsFitting k → AreTokens (predicate_line id x k)
 unfolding AreSmall
 predicate_tokens id x (kind.Reach u v) a d h = (token_from (codes "reach") refl, decimals (id ∷ u ∷ v ∷ x ∷ []) (omega arith, (omega (arith, h.0), (omega (arith, h.1), (omega arith, tt)))))
 predicate_tokens id x (kind.Steps u v (pos k)) a d h = (token_from (codes "distance_leq") refl, walk_numbers id u v x a h.0 h.1 d k (omega (arith, most_within k h.2)))
 predicate_tokens id x (kind.Steps u v (negsuc k)) a d h = (token_from (codes "distance_lt") refl, walk_numbers id u v x a h.0 h.1 d 0 (omega arith))
 predicate_tokens id x (kind.Distance u v (pos k)) a d h = (token_from (codes "weighted_distance_leq") refl, walk_numbers id u v x a h.0 h.1 d k (omega (arith, most_within k h.2)))
 predicate_tokens id x (kind.Distance u v (negsuc k)) a d h = (token_from (codes "weighted_distance_lt") refl, walk_numbers id u v x a h.0 h.1 d 0 (omega arith))
-predicate_tokens id x (kind.Flow s t (pos f)) a d h = flow_tokens id s t x f (ltb 9007199254740992 f) a h.0 h.1 d (least_within f h.2)
+predicate_tokens id x (kind.Flow s t (pos f)) a d h = flow_tokens id s t x f (ltb MAX_BOUND f) a h.0 h.1 d (least_within f h.2)
 predicate_tokens id x (kind.Flow s t (negsuc f)) a d h = absurd (least_positive f h.2)
 predicate_tokens id x (kind.Tree (pos k)) a d h = (token_from (codes "mst_weight_leq") refl, decimals (id ∷ x ∷ k ∷ []) (omega arith, (omega arith, (omega (arith, most_within k h), tt))))
 predicate_tokens id x (kind.Tree (negsuc k)) a d h = (token_from (codes "mst_weight_lt") refl, decimals (id ∷ x ∷ 0 ∷ []) (omega arith, (omega arith, (omega arith, tt))))

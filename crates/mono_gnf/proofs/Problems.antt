@@ -10,11 +10,12 @@ use Rattle.std.proofs.lemmas.List.Sums.{fold-append, sum_by-cons}
 use Rattle.mono_graph.specs.declared.edge.Edge.{Edge}
 use Rattle.mono_graph.specs.Digraph.{Digraph}
 use Rattle.mono_problem.specs.declared.atom.Atom.{Atom}
-use Rattle.mono_problem.specs.Instance.{no_graph}
-use Rattle.mono_problem.specs.Growth.{graph_with, greatest_var}
-use Rattle.mono_gnf.specs.Declarations.{EdgeLine, AtomLine, place_of, nodes_at}
+use Rattle.mono_problem.specs.Instance.{place_named, no_graph}
+use Rattle.mono_gnf.proofs.GraphWith.{graph_with}
+use Rattle.mono_problem.specs.Growth.{greatest_var}
+use Rattle.mono_gnf.specs.Declarations.{EdgeLine, AtomLine, nodes_at}
 use Rattle.mono_gnf.specs.Stands.{numbered_edge, numbered_atom, edges_named, declared_graph, greatest}
-use Rattle.mono_gnf.proofs.Identities.{Lacks, IsOnlyAt, AreNamed, place_of-push}
+use Rattle.mono_gnf.proofs.Identities.{Lacks, IsOnlyAt, AreNamed, place_named-push}
 
 pub enumerate_from-push : {A : Type 0} (n : ℕ) (xs : List A) (x : A) → enumerate_from n (xs ++ x ∷ []) ≡ enumerate_from n xs ++ (n + length xs, x) ∷ []
 enumerate_from-push {A} n [] x = let e : n ≡ n + 0 = omega arith in ap (λ (k : ℕ). (k, x) ∷ []) e
@@ -114,13 +115,13 @@ graphs-edge es e (g ∷ gs) (suc k) at =
 
 -- ---- one graph more
 
-none_named : (n : ℕ) (gs : List (ℕ × ℕ)) (id : ℕ) (es : List EdgeLine) → place_of gs id ≡ None → AreNamed gs (map (λ (e : EdgeLine). e.graph) es) → filter (λ (l : ℕ × EdgeLine). l.1.graph == id) (enumerate_from n es) ≡ []
+none_named : (n : ℕ) (gs : List (ℕ × ℕ)) (id : ℕ) (es : List EdgeLine) → place_named gs id ≡ None → AreNamed gs (map (λ (e : EdgeLine). e.graph) es) → filter (λ (l : ℕ × EdgeLine). l.1.graph == id) (enumerate_from n es) ≡ []
 none_named n gs id [] absent h = refl
 none_named n gs id (e ∷ es) absent h =
-    let other : (e.graph == id) ≡ false = ne_eqb e.graph id (λ same. let here = sym (ap (place_of gs) same) ∙ h.0.1 in absurd (cc)) in
+    let other : (e.graph == id) ≡ false = ne_eqb e.graph id (λ same. let here = sym (ap (place_named gs) same) ∙ h.0.1 in absurd (cc)) in
     rw other (none_named (n + 1) gs id es absent h.1)
 
-pub graphs-graph : (es : List EdgeLine) (gs : List (ℕ × ℕ)) (id nodes : ℕ) → place_of gs id ≡ None → AreNamed gs (map (λ (e : EdgeLine). e.graph) es)
+pub graphs-graph : (es : List EdgeLine) (gs : List (ℕ × ℕ)) (id nodes : ℕ) → place_named gs id ≡ None → AreNamed gs (map (λ (e : EdgeLine). e.graph) es)
     → map (declared_graph es) (gs ++ (id, nodes) ∷ []) ≡ map (declared_graph es) gs ++ (id, record { nodes = nodes; edges = [] }) ∷ []
 graphs-graph es gs id nodes absent named =
     map-append (declared_graph es) gs ((id, nodes) ∷ [])
@@ -130,7 +131,7 @@ pub atoms-graph : (n : ℕ) (gs : List (ℕ × ℕ)) (g : ℕ × ℕ) (xs : List
     → map (numbered_atom (gs ++ g ∷ [])) (enumerate_from n xs) ≡ map (numbered_atom gs) (enumerate_from n xs)
 atoms-graph n gs g [] h = refl
 atoms-graph n gs g (x ∷ xs) h =
-    let same : place_of (gs ++ g ∷ []) x.graph ≡ place_of gs x.graph = place_of-push gs g x.graph h.0.0 h.0.1 ∙ sym h.0.1 in
+    let same : place_named (gs ++ g ∷ []) x.graph ≡ place_named gs x.graph = place_named-push gs g x.graph h.0.0 h.0.1 ∙ sym h.0.1 in
     ap (λ (o : Option ℕ). record { number = n; graph = unwrap_or o 0; var = x.var; predicate = x.predicate } ∷ map (numbered_atom (gs ++ g ∷ [])) (enumerate_from (n + 1) xs)) same
     ∙ ap (λ (l : List Atom). numbered_atom gs (n, x) ∷ l) (atoms-graph (n + 1) gs g xs h.1)
 
@@ -140,7 +141,7 @@ pub length-atoms : (n : ℕ) (gs : List (ℕ × ℕ)) (xs : List AtomLine) → l
 length-atoms n gs [] = refl
 length-atoms n gs (x ∷ xs) = ap suc (length-atoms (n + 1) gs xs)
 
-pub atoms-atom : (gs : List (ℕ × ℕ)) (xs : List AtomLine) (x : AtomLine) (k : ℕ) → place_of gs x.graph ≡ Some k
+pub atoms-atom : (gs : List (ℕ × ℕ)) (xs : List AtomLine) (x : AtomLine) (k : ℕ) → place_named gs x.graph ≡ Some k
     → map (numbered_atom gs) (enumerate_from 1 (xs ++ x ∷ [])) ≡ map (numbered_atom gs) (enumerate_from 1 xs) ++ record { number = 1 + length xs; graph = k; var = x.var; predicate = x.predicate } ∷ []
 atoms-atom gs xs x k found =
     ap (map (numbered_atom gs)) (enumerate_from-push 1 xs x)

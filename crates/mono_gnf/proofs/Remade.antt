@@ -11,7 +11,8 @@ use Rattle.mono_problem.specs.declared.atom.Predicate.{Predicate}
 use Rattle.mono_problem.specs.declared.atom.Predicate.TheVariants as kind
 use Rattle.mono_problem.specs.Instance.{Instance, no_graph, graph_at, identity_at, place_named, edges_total}
 use Rattle.mono_problem.specs.WellFormed.{IsInstance, IsOver, IsAtomAt}
-use Rattle.mono_problem.specs.Growth.{graph_with, with_edge, with_atom}
+use Rattle.mono_gnf.proofs.GraphWith.{graph_with}
+use Rattle.mono_problem.specs.Growth.{with_edge, with_atom}
 use Rattle.mono_problem.specs.Read.{no_atom}
 use Rattle.mono_problem.proofs.Entries.{edges-grown}
 use Rattle.mono_gnf.specs.Reading.{has_ends, has_same_ends}
@@ -21,6 +22,8 @@ use Rattle.mono_gnf.proofs.Identified.{AreDistinct, are_distinct}
 use Rattle.mono_gnf.proofs.EdgesInOrder.{graph_up_to, one_more, up_to_zero, up_to_last}
 use Rattle.mono_gnf.proofs.EdgesByNumber.{found_only}
 use Rattle.mono_gnf.proofs.PrintedForms.{CanAddEdge, AddsGraphs, AddsEdges, AddsAtoms, IsFitting}
+use Rattle.mono_base.specs.declared.limits.TheConstants.{MAX_NODES, MAX_GRAPHS, MAX_ATOMS, MAX_WEIGHT}
+use Rattle.mono_gnf.specs.Statements.{MAX_WIDE}
 
 -- ---- what is known of the one edge with a number
 
@@ -30,7 +33,7 @@ record IsEdgeOf (vars n : ℕ) (e : Edge) (nodes : ℕ) : Type 0 where
   pub to : e.to < nodes
   pub some : 0 < e.var
   pub var : e.var ≤ vars
-  pub weight : e.weight ≤ 4294967295
+  pub weight : e.weight ≤ MAX_WEIGHT
 
 in_edges : (vars nodes last low n : ℕ) (e : Edge) (es : List Edge) → AreEdges vars nodes last low es → of_number n es ≡ e ∷ [] → IsEdgeOf vars n e nodes
 in_edges vars nodes last low n e [] h k = absurd (cc)
@@ -46,8 +49,8 @@ in_edges vars nodes last low n e (x ∷ xs) h k =
 record IsEdgeAt (vars n : ℕ) (e : Edge) (k : ℕ) (gs : List (ℕ × Digraph)) : Type 0 where
   pub held : k < length gs
   pub edge : IsEdgeOf vars n e (get_or gs k no_graph).1.nodes
-  pub identity : (get_or gs k no_graph).0 ≤ 4294967295
-  pub nodes : (get_or gs k no_graph).1.nodes ≤ 1000000
+  pub identity : (get_or gs k no_graph).0 ≤ MAX_WIDE
+  pub nodes : (get_or gs k no_graph).1.nodes ≤ MAX_NODES
 
 at_place : (vars last n : ℕ) (e : Edge) (k : ℕ) (gs : List (ℕ × Digraph)) → AreGraphs vars last gs → IsOnly n e k gs → IsEdgeAt vars n e k gs
 at_place vars last n e k [] h o = absurd o
@@ -136,8 +139,8 @@ ids-bared : (gs : List (ℕ × Digraph)) (g : ℕ × Digraph) → map (λ (x : �
 ids-bared [] g = refl
 ids-bared (x ∷ xs) g = ap (λ is. x.0 ∷ is) (ids-bared xs g)
 
-adds_graphs : (vars last : ℕ) (done gs : List (ℕ × Digraph)) → AreGraphs vars last gs → AreDistinct (map (λ (g : ℕ × Digraph). g.0) done) gs → length done + length gs ≤ 1024
-    → sum_by (λ (g : ℕ × Digraph). g.1.nodes) done + sum_by (λ (g : ℕ × Digraph). g.1.nodes) gs ≤ 1000000 → AddsGraphs (bare vars done) gs (bare vars (done ++ map bared gs))
+adds_graphs : (vars last : ℕ) (done gs : List (ℕ × Digraph)) → AreGraphs vars last gs → AreDistinct (map (λ (g : ℕ × Digraph). g.0) done) gs → length done + length gs ≤ MAX_GRAPHS
+    → sum_by (λ (g : ℕ × Digraph). g.1.nodes) done + sum_by (λ (g : ℕ × Digraph). g.1.nodes) gs ≤ MAX_NODES → AddsGraphs (bare vars done) gs (bare vars (done ++ map bared gs))
 adds_graphs vars last done [] h new few room = ap (bare vars) (sym (append-nil done))
 adds_graphs vars last done (g ∷ gs) h new few room =
     let split = sum_by-cons (λ (g : ℕ × Digraph). g.1.nodes) g gs in
@@ -165,7 +168,7 @@ apart_of g (kind.Distance u v most) o = refl
 apart_of g (kind.Flow s t least) o = ne_eqb s t o.2
 apart_of g (kind.Tree most) o = refl
 
-fitting : (g : Digraph) (q : Predicate) → g.nodes ≤ 1000000 → IsOver g q → IsFitting q
+fitting : (g : Digraph) (q : Predicate) → g.nodes ≤ MAX_NODES → IsOver g q → IsFitting q
 fitting g (kind.Reach u v) few o = (omega (arith, o.0), omega (arith, o.1))
 fitting g (kind.Steps u v most) few o = (omega (arith, o.0), omega (arith, o.1), o.2)
 fitting g (kind.Distance u v most) few o = (omega (arith, o.0), omega (arith, o.1), o.2)
@@ -199,7 +202,7 @@ pub record IsMade (p : Instance) : Type 0 where
   pub atoms : AddsAtoms p (with_done p []) p.atoms (with_done p p.atoms)
 
 module _ (p : Instance) (h : IsInstance p) where
-  adds_atoms : (done xs : List Atom) → AreAtoms p (length done) xs → length done + length xs ≤ 100000 → AddsAtoms p (with_done p done) xs (with_done p (done ++ xs))
+  adds_atoms : (done xs : List Atom) → AreAtoms p (length done) xs → length done + length xs ≤ MAX_ATOMS → AddsAtoms p (with_done p done) xs (with_done p (done ++ xs))
   adds_atoms done [] are few = ap (with_done p) (sym (append-nil done))
   adds_atoms done (x ∷ xs) are few =
       let at = are.0 in
@@ -235,7 +238,7 @@ module _ (p : Instance) (h : IsInstance p) where
       let counted : edges_total (state_at p 0) ≡ 0 = ap edges_total (sym none) ∙ edges-none p.graphs in
       let all : state_at p (edges_total p) ≡ with_done p [] = ap (bare p.vars) (up_to_last p.vars (edges_total p) p.graphs are) in
       let from_none : (k : ℕ) → k ≡ 0 + k = λ k. omega arith in
-      let named : (k : ℕ) → k < length p.graphs → place_named p (identity_at p k) ≡ Some (0 + k) = λ k lt. h.identities k lt ∙ ap (λ (k : ℕ). Some k) (from_none k) in
+      let named : (k : ℕ) → k < length p.graphs → place_named p.graphs (identity_at p k) ≡ Some (0 + k) = λ k lt. h.identities k lt ∙ ap (λ (k : ℕ). Some k) (from_none k) in
       let atoms : (k : ℕ) → k < length p.atoms → IsAtomAt p (0 + k) (get_or p.atoms k no_atom) = λ k lt.
       let A : ℕ → Type 0 = λ n. IsAtomAt p n (get_or p.atoms k no_atom) in subst A (from_none k) (h.atoms k no_atom lt) in
       let es = edges_after p 0 (edges_total p) in

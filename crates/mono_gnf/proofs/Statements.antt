@@ -8,19 +8,20 @@ use Rattle.std.proofs.lemmas.List.Sums.{sum_by_push}
 use Rattle.mono_graph.specs.Digraph.{Digraph}
 use Rattle.mono_problem.specs.declared.atom.Atom.{Atom}
 use Rattle.mono_problem.specs.Instance.{no_graph, place_named}
-use Rattle.mono_problem.specs.Growth.{graph_with}
+use Rattle.mono_gnf.proofs.GraphWith.{graph_with}
 use Rattle.mono_problem.proofs.Entries.{edges-grown}
 use Rattle.mono_gnf.specs.declared.fault.GnfFault.{GnfFault}
 use Rattle.mono_gnf.specs.declared.fault.GnfFault.TheVariants as fault
 use Rattle.mono_gnf.specs.Statements.{has_ends, has_same_ends}
 use Rattle.mono_gnf.specs.Lines.{clauses_of, open_clause}
-use Rattle.mono_gnf.specs.Declarations.{EdgeLine, AtomLine, place_of, nodes_at, nodes_named}
+use Rattle.mono_gnf.specs.Declarations.{EdgeLine, AtomLine, nodes_at, nodes_named}
 use Rattle.mono_gnf.specs.Faults.{first_failed, over_graph}
 use Rattle.mono_gnf.specs.Stands.{numbered_edge, numbered_atom, declared_graph, greatest}
 use Rattle.mono_gnf.specs.Reading.{Seen, put_header, put_graph, put_edge, put_edge_at, put_atom, put_atom_at, at_graph}
 use Rattle.mono_gnf.proofs.Identities.{AreDistinct, AreDistinct-push, AreNamed, AreNamed-wider, AreNamed-push, absent, only_at, IsOnlyAt-held}
 use Rattle.mono_gnf.proofs.Problems.{greatest-four, greatest-push, names-graphs, length-graphs, nodes-graphs, nodes_at-graphs, graphs-edge, graphs-graph, atoms-graph, length-atoms, atoms-atom}
-use Rattle.mono_gnf.proofs.Agreement.{Agrees, Agrees-along, Agrees-checks, run}
+use Rattle.mono_gnf.proofs.Agreement.{SameOutcome, SameOutcome-along, SameOutcome-checks, run}
+use Rattle.mono_base.specs.declared.limits.TheConstants.{MAX_NODES, MAX_EDGES, MAX_GRAPHS, MAX_ATOMS}
 
 -- ---- what is seen of headers, graphs, edges, predicates and numbers
 
@@ -93,11 +94,11 @@ some_header : (hs : List ℕ) (v : ℕ) → true ≡ nat_lt 0 (length (hs ++ v �
 some_header hs v = let counted = length-append hs (v ∷ []) in sym (lt-ltb 0 (length (hs ++ v ∷ [])) (omega arith))
 
 pub header-said : (hs : List ℕ) (gs : List (ℕ × ℕ)) (es : List EdgeLine) (xs : List AtomLine) (zs : List ℤ) (last v : ℕ)
-    → Agrees (λ s. s ≡ seen (hs ++ v ∷ []) gs es xs zs last) (first_failed ((nat_lt 0 (length hs), fault.SecondHeader) ∷ [])) (put_header (seen hs gs es xs zs last) v)
+    → SameOutcome (λ s. s ≡ seen (hs ++ v ∷ []) gs es xs zs last) (first_failed ((nat_lt 0 (length hs), fault.SecondHeader) ∷ [])) (put_header (seen hs gs es xs zs last) v)
 header-said hs gs es xs zs last v =
     let some : true ≡ nat_lt 0 (length (hs ++ v ∷ [])) = some_header hs v in
     let more = vars-header hs es xs (clauses_of zs) v in
-    Agrees-checks (λ s. s ≡ seen (hs ++ v ∷ []) gs es xs zs last) ((nat_lt 0 (length hs), fault.SecondHeader) ∷ [])
+    SameOutcome-checks (λ s. s ≡ seen (hs ++ v ∷ []) gs es xs zs last) ((nat_lt 0 (length hs), fault.SecondHeader) ∷ [])
     (seen_as (max (vars_of hs es xs (clauses_of zs)) v) (map (declared_graph es) gs) (map (numbered_atom gs) (enumerate_from 1 xs)) zs last true)
     (λ passed.
     ap (λ (n : ℕ). seen_as n (map (declared_graph es) gs) (map (numbered_atom gs) (enumerate_from 1 xs)) zs last true) more
@@ -106,13 +107,13 @@ header-said hs gs es xs zs last v =
 -- ---- graphs
 
 module _ (hs : List ℕ) (gs : List (ℕ × ℕ)) (es : List EdgeLine) (xs : List AtomLine) (zs : List ℤ) (last : ℕ) (sound : IsSound gs es xs) where
-  named : (id : ℕ) → place_named (seen hs gs es xs zs last).problem id ≡ place_of gs id
+  named : (id : ℕ) → place_named (seen hs gs es xs zs last).problem.graphs id ≡ place_named gs id
   named id = ap (position (λ k. id == k)) (names-graphs es gs)
 
   abbrev pub Grown : ℕ × ℕ → Seen → Type 0
   Grown g s = (s ≡ seen hs (gs ++ g ∷ []) es xs zs last) × IsSound (gs ++ g ∷ []) es xs
 
-  graph-grown : (id nodes : ℕ) → place_of gs id ≡ None
+  graph-grown : (id nodes : ℕ) → place_named gs id ≡ None
       → Grown (id, nodes) (seen_as (vars_of hs es xs (clauses_of zs)) (map (declared_graph es) gs ++ (id, record { nodes = nodes; edges = [] }) ∷ []) (map (numbered_atom gs) (enumerate_from 1 xs)) zs last (nat_lt 0 (length hs)))
   graph-grown id nodes none =
       let graphs = graphs-graph es gs id nodes none sound.edges in
@@ -133,31 +134,31 @@ module _ (hs : List ℕ) (gs : List (ℕ × ℕ)) (es : List EdgeLine) (xs : Lis
   graph_checks a b c = (a, fault.DuplicateGraph) ∷ (b, fault.NodeOutOfRange) ∷ (c, fault.TooMany) ∷ []
 
   pub graph-said : (id nodes : ℕ)
-      → Agrees (Grown (id, nodes)) (first_failed ((is_some (nodes_named gs id), fault.DuplicateGraph) ∷ (nodes == 0, fault.NodeOutOfRange) ∷ (nat_le 1024 (length gs) || nat_lt 1000000 (sum_by (λ (g : ℕ × ℕ). g.1) gs + nodes), fault.TooMany) ∷ [])) (put_graph (seen hs gs es xs zs last) id nodes)
+      → SameOutcome (Grown (id, nodes)) (first_failed ((is_some (nodes_named gs id), fault.DuplicateGraph) ∷ (nodes == 0, fault.NodeOutOfRange) ∷ (nat_le MAX_GRAPHS (length gs) || nat_lt MAX_NODES (sum_by (λ (g : ℕ × ℕ). g.1) gs + nodes), fault.TooMany) ∷ [])) (put_graph (seen hs gs es xs zs last) id nodes)
   graph-said id nodes =
-      let known : is_some (nodes_named gs id) ≡ is_some (place_named (seen hs gs es xs zs last).problem id) = is_some-mapped (nodes_at gs) (place_of gs id) ∙ ap is_some (sym (named id)) in
-      let many : nat_le 1024 (length gs) || nat_lt 1000000 (sum_by (λ (g : ℕ × ℕ). g.1) gs + nodes) ≡ nat_le 1024 (length (map (declared_graph es) gs)) || nat_lt 1000000 (sum_by (λ (g : ℕ × Digraph). g.1.nodes) (map (declared_graph es) gs) + nodes) = rw (length-graphs es gs, nodes-graphs es gs) refl in
-      let checks = graph_checks (is_some (place_named (seen hs gs es xs zs last).problem id)) (nodes == 0) (nat_le 1024 (length (map (declared_graph es) gs)) || nat_lt 1000000 (sum_by (λ (g : ℕ × Digraph). g.1.nodes) (map (declared_graph es) gs) + nodes)) in
+      let known : is_some (nodes_named gs id) ≡ is_some (place_named (seen hs gs es xs zs last).problem.graphs id) = is_some-mapped (nodes_at gs) (place_named gs id) ∙ ap is_some (sym (named id)) in
+      let many : nat_le MAX_GRAPHS (length gs) || nat_lt MAX_NODES (sum_by (λ (g : ℕ × ℕ). g.1) gs + nodes) ≡ nat_le MAX_GRAPHS (length (map (declared_graph es) gs)) || nat_lt MAX_NODES (sum_by (λ (g : ℕ × Digraph). g.1.nodes) (map (declared_graph es) gs) + nodes) = rw (length-graphs es gs, nodes-graphs es gs) refl in
+      let checks = graph_checks (is_some (place_named (seen hs gs es xs zs last).problem.graphs id)) (nodes == 0) (nat_le MAX_GRAPHS (length (map (declared_graph es) gs)) || nat_lt MAX_NODES (sum_by (λ (g : ℕ × Digraph). g.1.nodes) (map (declared_graph es) gs) + nodes)) in
       let next = seen_as (vars_of hs es xs (clauses_of zs)) (map (declared_graph es) gs ++ (id, record { nodes = nodes; edges = [] }) ∷ []) (map (numbered_atom gs) (enumerate_from 1 xs)) zs last (nat_lt 0 (length hs)) in
-      Agrees-along (Grown (id, nodes)) (first_failed (graph_checks (is_some (nodes_named gs id)) (nodes == 0) (nat_le 1024 (length gs) || nat_lt 1000000 (sum_by (λ (g : ℕ × ℕ). g.1) gs + nodes)))) (first_failed checks) (put_graph (seen hs gs es xs zs last) id nodes) (run checks next)
+      SameOutcome-along (Grown (id, nodes)) (first_failed (graph_checks (is_some (nodes_named gs id)) (nodes == 0) (nat_le MAX_GRAPHS (length gs) || nat_lt MAX_NODES (sum_by (λ (g : ℕ × ℕ). g.1) gs + nodes)))) (first_failed checks) (put_graph (seen hs gs es xs zs last) id nodes) (run checks next)
       (rw (known, many) refl) refl
-      (Agrees-checks (Grown (id, nodes)) checks next (λ passed. graph-grown id nodes (sym (named id) ∙ is_none (place_named (seen hs gs es xs zs last).problem id) passed.0)))
+      (SameOutcome-checks (Grown (id, nodes)) checks next (λ passed. graph-grown id nodes (sym (named id) ∙ is_none (place_named (seen hs gs es xs zs last).problem.graphs id) passed.0)))
 
   -- ---- edges and predicates
 
   -- what names a graph is read over that graph's nodes
   over_named : (Q : Seen → Type 0) (check : ℕ → Option GnfFault) (step : ℕ → Result Seen GnfFault) (o : Option ℕ)
-      → ((k : ℕ) → o ≡ Some k → Agrees Q (check (nodes_at gs k)) (step k)) → Agrees Q (over_graph (option_map (nodes_at gs) o) check) (at_graph o step)
+      → ((k : ℕ) → o ≡ Some k → SameOutcome Q (check (nodes_at gs k)) (step k)) → SameOutcome Q (over_graph (option_map (nodes_at gs) o) check) (at_graph o step)
   over_named Q check step None h = refl
   over_named Q check step (Some k) h = h k refl
 
   named_step : (Q : Seen → Type 0) (id : ℕ) (check : ℕ → Option GnfFault) (step : ℕ → Result Seen GnfFault)
-      → ((k : ℕ) → place_of gs id ≡ Some k → Agrees Q (check (nodes_at gs k)) (step k))
-      → Agrees Q (over_graph (nodes_named gs id) check) (at_graph (place_named (seen hs gs es xs zs last).problem id) step)
+      → ((k : ℕ) → place_named gs id ≡ Some k → SameOutcome Q (check (nodes_at gs k)) (step k))
+      → SameOutcome Q (over_graph (nodes_named gs id) check) (at_graph (place_named (seen hs gs es xs zs last).problem.graphs id) step)
   named_step Q id check step h =
-      Agrees-along Q (over_graph (nodes_named gs id) check) (over_graph (nodes_named gs id) check) (at_graph (place_named (seen hs gs es xs zs last).problem id) step) (at_graph (place_of gs id) step)
+      SameOutcome-along Q (over_graph (nodes_named gs id) check) (over_graph (nodes_named gs id) check) (at_graph (place_named (seen hs gs es xs zs last).problem.graphs id) step) (at_graph (place_named gs id) step)
       refl (ap (λ (o : Option ℕ). at_graph o step) (named id))
-      (over_named Q check step (place_of gs id) h)
+      (over_named Q check step (place_named gs id) h)
 
   abbrev pub Joined : EdgeLine → Seen → Type 0
   Joined e s = (s ≡ seen hs gs (es ++ e ∷ []) xs zs last) × IsSound gs (es ++ e ∷ []) xs
@@ -167,7 +168,7 @@ module _ (hs : List ℕ) (gs : List (ℕ × ℕ)) (es : List EdgeLine) (xs : Lis
       seen_as (max (vars_of hs es xs (clauses_of zs)) e.var) (set (map (declared_graph es) gs) k (graph_with (get_or (map (declared_graph es) gs) k no_graph) (record { number = n; from = e.from; to = e.to; var = e.var; weight = e.weight })))
       (map (numbered_atom gs) (enumerate_from 1 xs)) zs last (nat_lt 0 (length hs))
 
-  edge_joined : (e : EdgeLine) (k : ℕ) → place_of gs e.graph ≡ Some k → Joined e (edge_put k e (sum_by (λ (g : ℕ × Digraph). length g.1.edges) (map (declared_graph es) gs) + 1))
+  edge_joined : (e : EdgeLine) (k : ℕ) → place_named gs e.graph ≡ Some k → Joined e (edge_put k e (sum_by (λ (g : ℕ × Digraph). length g.1.edges) (map (declared_graph es) gs) + 1))
   edge_joined e k found =
       let at = only_at e.graph k gs sound.distinct found in
       let graphs = graphs-edge es e gs k at in
@@ -188,18 +189,18 @@ module _ (hs : List ℕ) (gs : List (ℕ × ℕ)) (es : List EdgeLine) (xs : Lis
       )
 
   abbrev edge_checks : ℕ → EdgeLine → ℕ → List (Bool × GnfFault)
-  edge_checks nodes e n = (nat_le nodes e.from || nat_le nodes e.to, fault.NodeOutOfRange) ∷ (e.var == 0, fault.BadVariable) ∷ (nat_le 1000000 n, fault.TooMany) ∷ []
+  edge_checks nodes e n = (nat_le nodes e.from || nat_le nodes e.to, fault.NodeOutOfRange) ∷ (e.var == 0, fault.BadVariable) ∷ (nat_le MAX_EDGES n, fault.TooMany) ∷ []
 
   pub edge-said : (e : EdgeLine)
-      → Agrees (Joined e) (over_graph (nodes_named gs e.graph) (λ nodes. first_failed (edge_checks nodes e (length es)))) (put_edge (seen hs gs es xs zs last) e.graph e.from e.to e.var e.weight)
+      → SameOutcome (Joined e) (over_graph (nodes_named gs e.graph) (λ nodes. first_failed (edge_checks nodes e (length es)))) (put_edge (seen hs gs es xs zs last) e.graph e.from e.to e.var e.weight)
   edge-said e =
       named_step (Joined e) e.graph (λ nodes. first_failed (edge_checks nodes e (length es))) (λ place. put_edge_at (seen hs gs es xs zs last) place e.from e.to e.var e.weight)
       (λ k found.
       let total = sum_by (λ (g : ℕ × Digraph). length g.1.edges) (map (declared_graph es) gs) in
       let checks = edge_checks (get_or (map (declared_graph es) gs) k no_graph).1.nodes e total in
-      Agrees-along (Joined e) (first_failed (edge_checks (nodes_at gs k) e (length es))) (first_failed checks) (put_edge_at (seen hs gs es xs zs last) k e.from e.to e.var e.weight) (run checks (edge_put k e (total + 1)))
+      SameOutcome-along (Joined e) (first_failed (edge_checks (nodes_at gs k) e (length es))) (first_failed checks) (put_edge_at (seen hs gs es xs zs last) k e.from e.to e.var e.weight) (run checks (edge_put k e (total + 1)))
       (rw (nodes_at-graphs es gs k, sound.total) refl) refl
-      (Agrees-checks (Joined e) checks (edge_put k e (total + 1)) (λ passed. edge_joined e k found)))
+      (SameOutcome-checks (Joined e) checks (edge_put k e (total + 1)) (λ passed. edge_joined e k found)))
 
   abbrev pub Posed : AtomLine → Seen → Type 0
   Posed x s = (s ≡ seen hs gs es (xs ++ x ∷ []) zs last) × IsSound gs es (xs ++ x ∷ [])
@@ -209,7 +210,7 @@ module _ (hs : List ℕ) (gs : List (ℕ × ℕ)) (es : List EdgeLine) (xs : Lis
       seen_as (max (vars_of hs es xs (clauses_of zs)) x.var) (map (declared_graph es) gs)
       (map (numbered_atom gs) (enumerate_from 1 xs) ++ record { number = n; graph = k; var = x.var; predicate = x.predicate } ∷ []) zs last (nat_lt 0 (length hs))
 
-  atom_posed : (x : AtomLine) (k : ℕ) → place_of gs x.graph ≡ Some k → Posed x (atom_put k x (length (map (numbered_atom gs) (enumerate_from 1 xs)) + 1))
+  atom_posed : (x : AtomLine) (k : ℕ) → place_named gs x.graph ≡ Some k → Posed x (atom_put k x (length (map (numbered_atom gs) (enumerate_from 1 xs)) + 1))
   atom_posed x k found =
       let number : length (map (numbered_atom gs) (enumerate_from 1 xs)) + 1 ≡ 1 + length xs = omega (arith, length-atoms 1 gs xs) in
       let names = map-append (λ (x : AtomLine). x.graph) xs (x ∷ []) in (
@@ -225,15 +226,15 @@ module _ (hs : List ℕ) (gs : List (ℕ × ℕ)) (es : List EdgeLine) (xs : Lis
       )
 
   abbrev atom_checks : ℕ → AtomLine → ℕ → List (Bool × GnfFault)
-  atom_checks nodes x n = (not (has_ends nodes x.predicate), fault.NodeOutOfRange) ∷ (x.var == 0, fault.BadVariable) ∷ (has_same_ends x.predicate, fault.SameEnds) ∷ (nat_le 100000 n, fault.TooMany) ∷ []
+  atom_checks nodes x n = (not (has_ends nodes x.predicate), fault.NodeOutOfRange) ∷ (x.var == 0, fault.BadVariable) ∷ (has_same_ends x.predicate, fault.SameEnds) ∷ (nat_le MAX_ATOMS n, fault.TooMany) ∷ []
 
   pub atom-said : (x : AtomLine)
-      → Agrees (Posed x) (over_graph (nodes_named gs x.graph) (λ nodes. first_failed (atom_checks nodes x (length xs)))) (put_atom (seen hs gs es xs zs last) x.graph x.var x.predicate)
+      → SameOutcome (Posed x) (over_graph (nodes_named gs x.graph) (λ nodes. first_failed (atom_checks nodes x (length xs)))) (put_atom (seen hs gs es xs zs last) x.graph x.var x.predicate)
   atom-said x =
       named_step (Posed x) x.graph (λ nodes. first_failed (atom_checks nodes x (length xs))) (λ place. put_atom_at (seen hs gs es xs zs last) place x.var x.predicate)
       (λ k found.
       let count = length (map (numbered_atom gs) (enumerate_from 1 xs)) in
       let checks = atom_checks (get_or (map (declared_graph es) gs) k no_graph).1.nodes x count in
-      Agrees-along (Posed x) (first_failed (atom_checks (nodes_at gs k) x (length xs))) (first_failed checks) (put_atom_at (seen hs gs es xs zs last) k x.var x.predicate) (run checks (atom_put k x (count + 1)))
+      SameOutcome-along (Posed x) (first_failed (atom_checks (nodes_at gs k) x (length xs))) (first_failed checks) (put_atom_at (seen hs gs es xs zs last) k x.var x.predicate) (run checks (atom_put k x (count + 1)))
       (rw (nodes_at-graphs es gs k, length-atoms 1 gs xs) refl) refl
-      (Agrees-checks (Posed x) checks (atom_put k x (count + 1)) (λ passed. atom_posed x k found)))
+      (SameOutcome-checks (Posed x) checks (atom_put k x (count + 1)) (λ passed. atom_posed x k found)))

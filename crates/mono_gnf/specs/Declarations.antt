@@ -1,6 +1,7 @@
 -- What statements declare, in order.
-use Rattle.std.specs.Prelude.{ℕ, ◌==◌, List, map, filter_map, Option, Some, None, option_map, position, slice_index_or}
+use Rattle.std.specs.Prelude.{ℕ, List, filter_map, Option, Some, None, option_map, slice_index_or}
 use Rattle.mono_problem.specs.declared.atom.Predicate.{Predicate}
+use Rattle.mono_problem.specs.Instance.{place_named}
 use Rattle.mono_gnf.specs.declared.statement.Statement.{Statement}
 use Rattle.mono_gnf.specs.declared.statement.Statement.TheVariants as says
 
@@ -54,12 +55,9 @@ edges statements = filter_map edge_in statements
 abbrev pub atoms : List Statement → List AtomLine
 atoms statements = filter_map atom_in statements
 
--- the place, from 0, of the graph with an identity, and its number of nodes
-abbrev pub place_of : List (ℕ × ℕ) → ℕ → Option ℕ
-place_of gs id = position (λ k. id == k) (map (λ g. g.0) gs)
-
+-- the number of nodes of the graph at a place, and of the graph with an identity
 abbrev pub nodes_at : List (ℕ × ℕ) → ℕ → ℕ
 nodes_at gs k = (slice_index_or gs k (0, 0)).1
 
 abbrev pub nodes_named : List (ℕ × ℕ) → ℕ → Option ℕ
-nodes_named gs id = option_map (λ k. nodes_at gs k) (place_of gs id)
+nodes_named gs id = option_map (λ k. nodes_at gs k) (place_named gs id)

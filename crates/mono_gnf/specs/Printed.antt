@@ -1,6 +1,7 @@
 -- The printed form of a problem.
 use Rattle.std.specs.Prelude.{ℕ, ◌-◌, Bool, false, ◌==◌, nat_lt, if◌then◌else◌, ℤ, pos, negsuc, List, [], ◌∷◌, ◌++◌, length, map, flat_map, find, unwrap_or, codes, decimal}
 use Rattle.std.specs.Fmt.{signed_decimal}
+use Rattle.mono_base.specs.declared.limits.TheConstants.{MAX_BOUND}
 use Rattle.std.specs.List.{range_with_len}
 use Rattle.mono_text.specs.Text.{spaced}
 use Rattle.mono_graph.specs.declared.edge.Edge.{Edge}
@@ -50,7 +51,7 @@ most_number (negsuc k) = 0
 
 -- the same of a bound from below: one beyond 2^53 is written as `gt` of one less
 abbrev pub is_beyond : ℤ → Bool
-is_beyond (pos f) = nat_lt 9007199254740992 f
+is_beyond (pos f) = nat_lt MAX_BOUND f
 is_beyond (negsuc n) = false
 
 abbrev pub least_word : List ℕ → List ℕ → ℤ → List ℕ

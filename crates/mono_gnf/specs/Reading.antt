@@ -1,10 +1,10 @@
 -- Reading an input, line after line: the working form of what a text stands for.
-use Rattle.std.specs.Prelude.{ℕ, ◌+◌, Bool, true, false, not, ◌||◌, ◌==◌, nat_le, nat_lt, if◌then◌else◌, ℤ, pos, List, [], ◌∷◌, ◌++◌, length, Option, Some, None, is_some, Result, Ok, Err, codes, bytes_eq}
+use Rattle.std.specs.Prelude.{ℕ, ◌+◌, Bool, true, false, not, ◌||◌, ◌==◌, nat_le, nat_lt, if◌then◌else◌, ℤ, pos, List, [], ◌∷◌, ◌++◌, length, Option, Some, None, is_some, Result, Ok, Err}
 use Rattle.std.specs.Ordering.{int_eq}
+use Rattle.mono_base.specs.declared.limits.TheConstants.{MAX_VARS, MAX_GRAPHS, MAX_NODES, MAX_EDGES, MAX_ATOMS, MAX_CLAUSES, MAX_LITERALS}
 use Rattle.mono_text.specs.Text.{lines_of, tokens_of, numbered_from}
 use Rattle.mono_text.specs.Numbers.{signed, signed_within}
 use Rattle.mono_text.specs.declared.number.NumberRefusal.{NumberRefusal}
-use Rattle.mono_text.specs.declared.number.NumberRefusal.TheVariants as refusal
 use Rattle.mono_problem.specs.declared.atom.Predicate.{Predicate}
 use Rattle.mono_problem.specs.Instance.{Instance, graph_at, place_named, nodes_total, edges_total, literals_total}
 use Rattle.mono_problem.specs.Growth.{nothing, raised, with_graph, with_edge, with_atom, with_clause}
@@ -13,7 +13,8 @@ use Rattle.mono_gnf.specs.declared.fault.GnfFault.TheVariants as fault
 use Rattle.mono_gnf.specs.declared.statement.Statement.{Statement}
 use Rattle.mono_gnf.specs.declared.statement.Statement.TheVariants as says
 use Rattle.mono_gnf.specs.Statements.{statement_of}
-pub use Rattle.mono_gnf.specs.Statements.{has_ends, has_same_ends}
+pub use Rattle.mono_text.specs.Text.{is_comment}
+pub use Rattle.mono_gnf.specs.Statements.{has_ends, has_same_ends, number_of}
 pub use Rattle.mono_gnf.specs.Lines.{is_number_token}
 
 -- what the lines so far say: a problem, the literals of the open clause, the number of the last line that has a literal,
@@ -35,9 +36,9 @@ put_header s vars =
 
 abbrev pub put_graph : Seen → ℕ → ℕ → Result Seen GnfFault
 put_graph s id nodes =
-    if is_some (place_named s.problem id) then Err fault.DuplicateGraph
+    if is_some (place_named s.problem.graphs id) then Err fault.DuplicateGraph
     else if nodes == 0 then Err fault.NodeOutOfRange
-    else if nat_le 1024 (length s.problem.graphs) || nat_lt 1000000 (nodes_total s.problem + nodes) then Err fault.TooMany
+    else if nat_le MAX_GRAPHS (length s.problem.graphs) || nat_lt MAX_NODES (nodes_total s.problem + nodes) then Err fault.TooMany
     else Ok (record s { problem = with_graph s.problem id nodes })
 
 -- a form that names a graph
@@ -49,22 +50,22 @@ abbrev pub put_edge_at : Seen → ℕ → ℕ → ℕ → ℕ → ℕ → Result
 put_edge_at s place from to var weight =
     if nat_le (graph_at s.problem place).nodes from || nat_le (graph_at s.problem place).nodes to then Err fault.NodeOutOfRange
     else if var == 0 then Err fault.BadVariable
-    else if nat_le 1000000 (edges_total s.problem) then Err fault.TooMany
+    else if nat_le MAX_EDGES (edges_total s.problem) then Err fault.TooMany
     else Ok (record s { problem = with_edge s.problem place (record { number = edges_total s.problem + 1; from = from; to = to; var = var; weight = weight }) })
 
 abbrev pub put_edge : Seen → ℕ → ℕ → ℕ → ℕ → ℕ → Result Seen GnfFault
-put_edge s id from to var weight = at_graph (place_named s.problem id) (λ place. put_edge_at s place from to var weight)
+put_edge s id from to var weight = at_graph (place_named s.problem.graphs id) (λ place. put_edge_at s place from to var weight)
 
 abbrev pub put_atom_at : Seen → ℕ → ℕ → Predicate → Result Seen GnfFault
 put_atom_at s place var predicate =
     if not (has_ends (graph_at s.problem place).nodes predicate) then Err fault.NodeOutOfRange
     else if var == 0 then Err fault.BadVariable
     else if has_same_ends predicate then Err fault.SameEnds
-    else if nat_le 100000 (length s.problem.atoms) then Err fault.TooMany
+    else if nat_le MAX_ATOMS (length s.problem.atoms) then Err fault.TooMany
     else Ok (record s { problem = with_atom s.problem (record { number = length s.problem.atoms + 1; graph = place; var = var; predicate = predicate }) })
 
 abbrev pub put_atom : Seen → ℕ → ℕ → Predicate → Result Seen GnfFault
-put_atom s id var predicate = at_graph (place_named s.problem id) (λ place. put_atom_at s place var predicate)
+put_atom s id var predicate = at_graph (place_named s.problem.graphs id) (λ place. put_atom_at s place var predicate)
 
 abbrev pub put : Seen → Statement → Result Seen GnfFault
 put s (says.Header vars) = put_header s vars
@@ -76,15 +77,10 @@ put s (says.Atom id var predicate) = put_atom s id var predicate
 abbrev pub put_number : ℕ → Seen → ℤ → Result Seen GnfFault
 put_number n s z =
     if int_eq z (pos 0) then
-    if nat_le 8000000 (length s.problem.clauses) then Err fault.TooMany
+    if nat_le MAX_CLAUSES (length s.problem.clauses) then Err fault.TooMany
     else Ok (record s { problem = with_clause s.problem s.row; row = [] })
-    else if nat_le 16000000 (literals_total s.problem + length s.row) then Err fault.TooMany
+    else if nat_le MAX_LITERALS (literals_total s.problem + length s.row) then Err fault.TooMany
     else Ok (record s { row = s.row ++ z ∷ []; last = n })
-
-abbrev pub number_of : Result ℤ NumberRefusal → Result ℤ GnfFault
-number_of (Ok z) = Ok z
-number_of (Err refusal.NotNumber) = Err fault.NotNumber
-number_of (Err refusal.TooLarge) = Err fault.TooLarge
 
 -- the step after, where there was no fault
 infixl 10 ◌>>=◌
@@ -92,15 +88,16 @@ abbrev pub ◌>>=◌ : {A B : Type 0} → Result A GnfFault → (A → Result B 
 (Ok x) >>= f = f x
 (Err e) >>= f = Err e
 
+-- a number as it was read
+abbrev pub put_read : ℕ → Seen → Result ℤ NumberRefusal → Result Seen GnfFault
+put_read n s r = number_of r >>= put_number n s
+
 unfoldable pub read_number : ℕ → Seen → List ℕ → Result Seen GnfFault
-read_number n s t = number_of (signed_within 1000000 (signed t)) >>= put_number n s
+read_number n s t = put_read n s (signed_within MAX_VARS (signed t))
 
 abbrev pub read_numbers : ℕ → Seen → List (List ℕ) → Result Seen GnfFault
 read_numbers n s [] = Ok s
 read_numbers n s (t ∷ ts) = read_number n s t >>= (λ next. read_numbers n next ts)
-
-abbrev pub is_comment : List ℕ → Bool
-is_comment t = bytes_eq t (codes "c")
 
 abbrev pub is_open : Seen → Bool
 is_open s = not (length s.row == 0)

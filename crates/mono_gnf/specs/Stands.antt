@@ -5,12 +5,12 @@ use Rattle.mono_text.specs.Text.{token_lines}
 use Rattle.mono_graph.specs.declared.edge.Edge.{Edge}
 use Rattle.mono_graph.specs.Digraph.{Digraph}
 use Rattle.mono_problem.specs.declared.atom.Atom.{Atom}
-use Rattle.mono_problem.specs.Instance.{Instance}
+use Rattle.mono_problem.specs.Instance.{place_named, Instance}
 use Rattle.mono_gnf.specs.declared.refusal.GnfRefusal.{GnfRefusal}
 use Rattle.mono_gnf.specs.declared.refusal.GnfRefusal.TheVariants as refusal
 use Rattle.mono_gnf.specs.declared.statement.Statement.{Statement}
 use Rattle.mono_gnf.specs.Lines.{numbers_of, clauses_of, statements_of}
-use Rattle.mono_gnf.specs.Declarations.{EdgeLine, AtomLine, headers, graphs, edges, atoms, place_of}
+use Rattle.mono_gnf.specs.Declarations.{EdgeLine, AtomLine, headers, graphs, edges, atoms}
 use Rattle.mono_gnf.specs.Faults.{first_fault}
 
 -- edges and predicates are numbered from 1, over the whole file
@@ -18,7 +18,7 @@ abbrev pub numbered_edge : ℕ × EdgeLine → Edge
 numbered_edge (n, l) = record { number = n; from = l.from; to = l.to; var = l.var; weight = l.weight }
 
 abbrev pub numbered_atom : List (ℕ × ℕ) → ℕ × AtomLine → Atom
-numbered_atom gs (n, l) = record { number = n; graph = unwrap_or (place_of gs l.graph) 0; var = l.var; predicate = l.predicate }
+numbered_atom gs (n, l) = record { number = n; graph = unwrap_or (place_named gs l.graph) 0; var = l.var; predicate = l.predicate }
 
 -- a graph has all edges that name it, before and behind
 abbrev pub edges_named : List EdgeLine → ℕ → List Edge
@@ -31,8 +31,8 @@ abbrev pub greatest : List ℕ → ℕ
 greatest xs = fold max 0 xs
 
 -- the problem of statements and numbers. Its variables go up to the greatest that a header announces or that occurs
-abbrev pub problem_of : List Statement → List ℤ → Instance
-problem_of statements numbers = record {
+abbrev pub problem_from : List Statement → List ℤ → Instance
+problem_from statements numbers = record {
   vars = greatest (headers statements ++ map (λ e. e.var) (edges statements) ++ map (λ x. x.var) (atoms statements) ++ flat_map (λ c. map nat_abs c) (clauses_of numbers));
   graphs = map (declared_graph (edges statements)) (graphs statements);
   atoms = map (numbered_atom (graphs statements)) (enumerate_from 1 (atoms statements));
@@ -40,7 +40,7 @@ problem_of statements numbers = record {
 }
 
 abbrev pub instance_of : List (List (List ℕ)) → Instance
-instance_of lines = problem_of (statements_of lines) (numbers_of lines)
+instance_of lines = problem_from (statements_of lines) (numbers_of lines)
 
 -- the text has no fault, and the problem is that of its lines
 abbrev pub Stands : List ℕ → Instance → Type 0

@@ -1,6 +1,10 @@
--- What a word line says, by its tokens alone. The flag of a word's bound says that the bound itself is excluded.
-use Rattle.std.specs.Prelude.{ℕ, ◌+◌, Bool, true, false, not, ◌&&◌, ◌||◌, ◌==◌, if◌then◌else◌, nat_lt, ℤ, pos, ◌-ℤ◌, List, [], ◌∷◌, length, Option, Some, None, Result, Ok, Err, codes, slice_index, bytes_eq, slice_index_or}
+-- What a word line says, by its tokens alone: a word and the fields of its form. The flag of a word's bound says that the
+-- bound itself is excluded.
+use Rattle.std.specs.Prelude.{ℕ, ◌+◌, ◌-◌, ◌^◌, Bool, true, false, not, ◌&&◌, ◌||◌, ◌==◌, if◌then◌else◌, nat_lt, ℤ, pos, ◌-ℤ◌, List, [], ◌∷◌, length, Option, Some, None, Result, Ok, Err, codes, slice_index, bytes_eq, drop}
+use Rattle.mono_base.specs.declared.limits.TheConstants.{MAX_VARS, MAX_NODES, MAX_WEIGHT, MAX_BOUND}
 use Rattle.mono_text.specs.Fields.{fields_of}
+use Rattle.mono_text.specs.declared.number.NumberRefusal.{NumberRefusal}
+use Rattle.mono_text.specs.declared.number.NumberRefusal.TheVariants as number
 use Rattle.mono_text.specs.declared.field.FieldRefusal.{FieldRefusal}
 use Rattle.mono_text.specs.declared.field.FieldRefusal.TheVariants as refusal
 use Rattle.mono_problem.specs.declared.atom.Predicate.{Predicate}
@@ -34,6 +38,16 @@ fault_of refusal.Count = fault.FieldCount
 fault_of (refusal.NotNumber k) = fault.NotNumber
 fault_of (refusal.TooLarge k) = fault.TooLarge
 
+-- a refused number as a fault of the line
+abbrev pub number_fault_of : NumberRefusal → GnfFault
+number_fault_of number.NotNumber = fault.NotNumber
+number_fault_of number.TooLarge = fault.TooLarge
+
+-- a number, or the fault that it is none
+abbrev pub number_of : {A : Type 0} → Result A NumberRefusal → Result A GnfFault
+number_of (Ok n) = Ok n
+number_of (Err e) = Err (number_fault_of e)
+
 -- what the fields say, where they are read
 abbrev pub with_fields : Result (List ℕ) FieldRefusal → (List ℕ → Statement) → Result Statement GnfFault
 with_fields (Ok fs) say = Ok (say fs)
@@ -42,52 +56,45 @@ with_fields (Err e) say = Err (fault_of e)
 abbrev pub field : List ℕ → ℕ → ℕ
 field fs k = slice_index fs k
 
-abbrev pub token : List (List ℕ) → ℕ → List ℕ
-token ts k = slice_index_or ts k []
-
 -- ---- limits of fields
 
--- a variable, a number of variables, a number of nodes
-abbrev pub var_limit : ℕ
-var_limit = 1000000
+-- an identity, a node, a number that is advice: what 32 bits hold
+abbrev pub MAX_WIDE : ℕ
+MAX_WIDE = 2 ^ 32 - 1
 
--- an identity, a node, a weight, a number that is advice
-abbrev pub wide_limit : ℕ
-wide_limit = 4294967295
-
--- a predicate's bound
-abbrev pub bound_limit : ℕ
-bound_limit = 9007199254740992
-
--- ---- the forms
+-- ---- the forms, over the tokens behind the word
 
 -- `p cnf V C`, `p gnf V C`
 abbrev pub names_other_form : List (List ℕ) → Bool
 names_other_form [] = false
-names_other_form (t ∷ []) = false
-names_other_form (t ∷ u ∷ ts) = not (bytes_eq u (codes "cnf") || bytes_eq u (codes "gnf"))
+names_other_form (t ∷ ts) = not (bytes_eq t (codes "cnf") || bytes_eq t (codes "gnf"))
 
 abbrev pub header_of : List (List ℕ) → Result Statement GnfFault
 header_of ts =
     if names_other_form ts then Err fault.UnknownWord
-    else with_fields (fields_of 2 (var_limit ∷ wide_limit ∷ []) ts) (λ fs. says.Header (field fs 0))
+    else with_fields (fields_of (MAX_VARS ∷ MAX_WIDE ∷ []) (drop 1 ts)) (λ fs. says.Header (field fs 0))
 
 -- `digraph N M G`, `digraph int N M G`
 abbrev pub has_int : List (List ℕ) → Bool
 has_int [] = false
-has_int (t ∷ []) = false
-has_int (t ∷ u ∷ ts) = bytes_eq u (codes "int")
+has_int (t ∷ ts) = bytes_eq t (codes "int")
 
 abbrev pub graph_of : List (List ℕ) → Result Statement GnfFault
 graph_of ts =
-    if length ts == 5 && not (has_int ts) then Err fault.WeightWord
-    else with_fields (fields_of (if length ts == 5 then 2 else 1) (var_limit ∷ wide_limit ∷ wide_limit ∷ []) ts) (λ fs. says.Graph (field fs 2) (field fs 0))
+    if length ts == 4 && not (has_int ts) then Err fault.WeightWord
+    else with_fields (fields_of (MAX_NODES ∷ MAX_WIDE ∷ MAX_WIDE ∷ []) (if length ts == 4 then drop 1 ts else ts)) (λ fs. says.Graph (field fs 2) (field fs 0))
 
 -- `edge G u v x`, `edge G u v x w`
 abbrev pub edge_of : List (List ℕ) → Result Statement GnfFault
 edge_of ts =
-    if length ts == 6 then with_fields (fields_of 1 (wide_limit ∷ wide_limit ∷ wide_limit ∷ var_limit ∷ wide_limit ∷ []) ts) (λ fs. says.Edge (field fs 0) (field fs 1) (field fs 2) (field fs 3) (field fs 4))
-    else with_fields (fields_of 1 (wide_limit ∷ wide_limit ∷ wide_limit ∷ var_limit ∷ []) ts) (λ fs. says.Edge (field fs 0) (field fs 1) (field fs 2) (field fs 3) 1)
+    if length ts == 5 then with_fields (fields_of (MAX_WIDE ∷ MAX_WIDE ∷ MAX_WIDE ∷ MAX_VARS ∷ MAX_WEIGHT ∷ []) ts) (λ fs. says.Edge (field fs 0) (field fs 1) (field fs 2) (field fs 3) (field fs 4))
+    else with_fields (fields_of (MAX_WIDE ∷ MAX_WIDE ∷ MAX_WIDE ∷ MAX_VARS ∷ []) ts) (λ fs. says.Edge (field fs 0) (field fs 1) (field fs 2) (field fs 3) 1)
+
+-- an edge by its first four fields and its weight
+abbrev pub edge_from : Result (List ℕ) FieldRefusal → Result ℕ NumberRefusal → Result Statement GnfFault
+edge_from (Err e) weight = Err (fault_of e)
+edge_from (Ok fs) (Err e) = Err (number_fault_of e)
+edge_from (Ok fs) (Ok w) = Ok (says.Edge (field fs 0) (field fs 1) (field fs 2) (field fs 3) w)
 
 -- `lt k` is `leq` k - 1, which is -1 for 0 and never met then; `gt f` is `geq` f + 1
 abbrev pub at_most : Bool → ℕ → ℤ
@@ -98,11 +105,11 @@ at_least strict f = pos (if strict then f + 1 else f)
 
 -- `reach G u v x`: x is true exactly where a walk leads from u to v
 abbrev pub reach_of : List (List ℕ) → Result Statement GnfFault
-reach_of ts = with_fields (fields_of 1 (wide_limit ∷ wide_limit ∷ wide_limit ∷ var_limit ∷ []) ts) (λ fs. says.Atom (field fs 0) (field fs 3) (kind.Reach (field fs 1) (field fs 2)))
+reach_of ts = with_fields (fields_of (MAX_WIDE ∷ MAX_WIDE ∷ MAX_WIDE ∷ MAX_VARS ∷ []) ts) (λ fs. says.Atom (field fs 0) (field fs 3) (kind.Reach (field fs 1) (field fs 2)))
 
 -- the forms with two nodes and a bound: `distance_leq G u v x k`, `maximum_flow_geq G s t x f` and those like them
 abbrev pub bounded_of : List (List ℕ) → (List ℕ → Predicate) → Result Statement GnfFault
-bounded_of ts say = with_fields (fields_of 1 (wide_limit ∷ wide_limit ∷ wide_limit ∷ var_limit ∷ bound_limit ∷ []) ts) (λ fs. says.Atom (field fs 0) (field fs 3) (say fs))
+bounded_of ts say = with_fields (fields_of (MAX_WIDE ∷ MAX_WIDE ∷ MAX_WIDE ∷ MAX_VARS ∷ MAX_BOUND ∷ []) ts) (λ fs. says.Atom (field fs 0) (field fs 3) (say fs))
 
 abbrev pub steps_of : Bool → List (List ℕ) → Result Statement GnfFault
 steps_of strict ts = bounded_of ts (λ fs. kind.Steps (field fs 1) (field fs 2) (at_most strict (field fs 4)))
@@ -115,7 +122,7 @@ flow_of strict ts = bounded_of ts (λ fs. kind.Flow (field fs 1) (field fs 2) (a
 
 -- `mst_weight_leq G x k`, `mst_weight_lt G x k`
 abbrev pub tree_of : Bool → List (List ℕ) → Result Statement GnfFault
-tree_of strict ts = with_fields (fields_of 1 (wide_limit ∷ var_limit ∷ bound_limit ∷ []) ts) (λ fs. says.Atom (field fs 0) (field fs 1) (kind.Tree (at_most strict (field fs 2))))
+tree_of strict ts = with_fields (fields_of (MAX_WIDE ∷ MAX_VARS ∷ MAX_BOUND ∷ []) ts) (λ fs. says.Atom (field fs 0) (field fs 1) (kind.Tree (at_most strict (field fs 2))))
 
 abbrev pub form_of : Word → List (List ℕ) → Result Statement GnfFault
 form_of word.Header ts = header_of ts
@@ -129,7 +136,8 @@ form_of (word.Tree strict) ts = tree_of strict ts
 
 -- what a word line says, or the first of the checks on its text alone that it fails
 unfoldable pub statement_of : List (List ℕ) → Result Statement GnfFault
-statement_of ts = elim (word_of (token ts 0)) [ None ↦ Err fault.UnknownWord | Some w ↦ form_of w ts ]
+statement_of [] = Err fault.UnknownWord
+statement_of (t ∷ ts) = elim (word_of t) [ None ↦ Err fault.UnknownWord | Some w ↦ form_of w ts ]
 
 -- ---- predicates
 

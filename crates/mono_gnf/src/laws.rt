@@ -2,6 +2,7 @@
 
 ghost use Rattle.std.specs.Prelude.{◌≡◌, ◌⊎◌, ℕ, List, None, Some};
 ghost use Rattle.mono_problem.specs.Instance.{Instance};
+ghost use Rattle.mono_problem.specs.WellFormed.{IsInstance};
 ghost use Rattle.mono_text.specs.Text.{token_lines};
 ghost use Rattle.mono_gnf.specs.declared.fault.GnfFault.{GnfFault};
 ghost use Rattle.mono_gnf.specs.Faults.{first_fault};
@@ -24,4 +25,9 @@ pub fn fault_or_problem()
 /// Reading a text line after line finds its first fault, or makes the problem of its lines.
 pub fn line_after_line()
     ensures { (text : List ℕ) → reading text ≡ outcome (first_fault text) (instance_of (token_lines text)) }
+{}
+
+/// What a text stands for is well-formed: it is within the limits, and all that its parts name is there.
+pub fn problem_is_well_formed()
+    ensures { (text : List ℕ) (p : Instance) → Stands text p → IsInstance p }
 {}

@@ -3,17 +3,19 @@
 //! Each kind of line has a function that appends one such line. The order of lines is that of the printed form: the
 //! header, graphs, edges by their numbers, predicates, clauses.
 
-ghost use Rattle.std.specs.Prelude.{◌≡◌, ◌<◌, ◌≤◌, ◌++◌, ◌∷◌, IfOk, OnOk, codes, decimal, length, map, flat_map};
+ghost use Rattle.std.specs.Prelude.{◌≡◌, ◌<◌, ◌≤◌, ◌++◌, ◌∷◌, IfOk, IfSome, OnOk, codes, decimal, length, map, flat_map};
 ghost use Rattle.std.specs.Fmt.{signed_decimal};
 ghost use Rattle.mono_text.specs.Text.{spaced};
+ghost use Rattle.mono_graph.specs.Digraph.{IsGraph, place_of};
 ghost use Rattle.mono_problem.specs.declared.atom.Predicate.TheVariants as kind;
 ghost use Rattle.mono_problem.specs.Instance.{edges_total};
 ghost use Rattle.mono_problem.specs.Read.{atom_numbered};
 ghost use Rattle.mono_problem.specs.WellFormed.{IsInstance};
+ghost use Rattle.mono_gnf.specs.Stands.{Stands};
 ghost use Rattle.mono_gnf.specs.Printed.{printed, header_line, graph_line, edge_line, edge_numbered, edges_up_to, most_word, most_number, least_word, least_number, predicate_line, atom_line, clause_line};
 
 use mono_base::Lit;
-use mono_base::limits::MAX_BOUND;
+use mono_base::limits::{MAX_BOUND, MAX_EDGES};
 use mono_graph::{Edge, Graph};
 use mono_problem::{Predicate, Problem};
 use mono_text::{push_natural, push_signed};
@@ -78,27 +80,52 @@ fn push_edge(out: &mut Vec<u8>, id: u32, edge: Edge) -> Result<(), AllocError>
     push_line(out, b"edge", &[u64::from(id), from, to, var, edge.weight])
 }
 
-// The line of the edge of a number.
-fn push_edge_numbered(out: &mut Vec<u8>, problem: &Problem, number: u32) -> Result<(), AllocError>
+// The place of the edge of a number, which is looked for first at the place `near`.
+fn place_near(graph: &Graph, near: u32, number: u32) -> Option<u32>
+    requires { IsGraph graph.now }
+    ensures place { result ≡ place_of graph.now number }
+    ensures known { IfSome result (λ k. k < length graph.now.edges) }
+    ensures small { IfSome result (λ k. k < MAX_EDGES) }
+{
+    if near < graph.edge_count() && graph.edge(near).number == number {
+        return Some(near);
+    }
+    graph.place(number)
+}
+
+// The line of the edge of a number. `next` has for each graph the place behind its last edge that was written.
+fn push_edge_numbered(
+    out: &mut Vec<u8>,
+    problem: &Problem,
+    number: u32,
+    next: &mut [u32],
+) -> Result<(), AllocError>
     requires instance { IsInstance problem.now }
     requires low { 0 < number }
     requires high { number ≤ edges_total problem.now }
-    ensures { OnOk result (out.new.items ≡ out.old.items ++ spaced (edge_line (edge_numbered problem.now number))) }
+    requires graphs { length next.old ≡ length problem.now.graphs }
+    ensures line { OnOk result (out.new.items ≡ out.old.items ++ spaced (edge_line (edge_numbered problem.now number))) }
+    ensures graphs { length next.new ≡ length next.old }
 {
     let home = problem.edge_home(number);
     let graph = problem.graph(home);
-    match graph.place(number) {
-        Some(place) => push_edge(out, problem.graph_id(home), graph.edge(place)),
+    match place_near(graph, next[home as usize], number) {
+        Some(place) => {
+            next[home as usize] = place + 1;
+            push_edge(out, problem.graph_id(home), graph.edge(place))
+        }
         None => unreachable!(),
     }
 }
 
-fn push_edges(out: &mut Vec<u8>, problem: &Problem) -> Result<(), AllocError>
+// The edges in order of their numbers. Those of one graph stand in that order there, so one place is kept for each graph.
+fn push_edges(alloc: Global, out: &mut Vec<u8>, problem: &Problem) -> Result<(), AllocError>
     requires { IsInstance problem.now }
     ensures { OnOk result (out.new.items ≡ out.old.items ++ flat_map spaced (map edge_line (edges_up_to problem.now (edges_total problem.now)))) }
 {
+    let mut next = Vec::from_elem(alloc, 0u32, problem.graph_count() as usize)?;
     for done in 0..problem.edge_count() {
-        push_edge_numbered(out, problem, done + 1)?;
+        push_edge_numbered(out, problem, done + 1, next.as_mut_slice())?;
     }
     Ok(())
 }
@@ -242,12 +269,13 @@ fn push_clauses(out: &mut Vec<u8>, problem: &Problem) -> Result<(), AllocError>
 /// in order of their numbers with their weights, the predicates and the clauses. A predicate has the `leq` or `geq`
 /// form, but for a bound of -1, written as `lt` 0, and for a flow of 2^53 + 1, written as `gt` 2^53.
 pub fn print_gnf(alloc: Global, problem: &Problem) -> Result<Vec<u8>, AllocError>
-    ensures { IfOk result (λ text. text.items ≡ printed problem.now) }
+    ensures text { IfOk result (λ text. text.items ≡ printed problem.now) }
+    ensures stands { IfOk result (λ text. Stands text.items problem.now) }
 {
     let mut out = Vec::new(alloc);
     push_header(&mut out, problem)?;
     push_graphs(&mut out, problem)?;
-    push_edges(&mut out, problem)?;
+    push_edges(alloc, &mut out, problem)?;
     push_atoms(&mut out, problem)?;
     push_clauses(&mut out, problem)?;
     Ok(out)

@@ -11,7 +11,7 @@ pub fn printed_form_stands()
     ensures { (p : Instance) → IsInstance p → Stands (printed p) p }
 {}
 
-/// What is read from a printed form is printed in that form again.
+/// What is read from the printed form of what was read is printed in that form again.
 pub fn printing_again()
-    ensures { (p q : Instance) → IsInstance p → Stands (printed p) q → printed q ≡ printed p }
+    ensures { (text : List ℕ) (p q : Instance) → Stands text p → Stands (printed p) q → printed q ≡ printed p }
 {}

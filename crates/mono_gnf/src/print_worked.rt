@@ -31,3 +31,11 @@ pub fn worked_predicates()
     ensures light { Prints (codes "digraph 2 0 0\nweighted_distance_leq 0 0 1 1 7\nweighted_distance_lt 0 1 0 2 0") (codes "p gnf 2 0\ndigraph int 2 0 0\nweighted_distance_leq 0 0 1 1 7\nweighted_distance_lt 0 1 0 2 0\n") }
     ensures trees { Prints (codes "digraph 2 0 3\nmst_weight_lt 3 1 0\nmst_weight_lt 3 2 1\nmst_weight_leq 3 4 0") (codes "p gnf 4 0\ndigraph int 2 0 3\nmst_weight_lt 3 1 0\nmst_weight_leq 3 2 0\nmst_weight_leq 3 4 0\n") }
 {}
+
+/// What isn't the printed form of what was read.
+pub fn worked_others()
+    ensures sign { Prints (codes "-1 0") (codes "p gnf 1 1\n1 0\n") → ⊥ }
+    ensures variables { Prints (codes "1 0") (codes "p gnf 2 1\n1 0\n") → ⊥ }
+    ensures nothing { Prints (codes "1 0") [] → ⊥ }
+    ensures fault { Prints (codes "1") (codes "p gnf 1 0\n") → ⊥ }
+{}

@@ -3,25 +3,28 @@
 //! The lines so far say a problem in the making, the literals of a clause that is open, and whether there was a header.
 //! A line is checked against these alone, so no line costs more for what came before it.
 
-ghost use Rattle.std.specs.Prelude.{◌≡◌, ◌≢◌, ◌<◌, ◌≤◌, ◌+◌, length, not, ◌&&◌, ◌||◌, pos};
+ghost use Rattle.std.specs.Prelude.{◌≡◌, ◌≢◌, ◌<◌, ◌≤◌, ◌||◌, ◌==◌, length, pos, nat_abs, false, IfOk};
+ghost use Rattle.std.specs.Char.{is_ascii_digit};
 ghost use Rattle.mono_text.specs.Text.{tokens_of};
-ghost use Rattle.mono_problem.specs.Instance.{graph_at, literals_total, nodes_total};
-ghost use Rattle.mono_problem.specs.Growth.{nothing};
-ghost use Rattle.mono_gnf.specs.Reading.{Seen, nothing_seen, has_ends, has_same_ends, put_header, put_graph, put_edge, put_edge_at, put_atom, put_atom_at, put, put_number, read_number, read_numbers, is_number_token, is_open, read_tokens};
+ghost use Rattle.mono_gnf.specs.Reading.{Seen, nothing_seen, has_ends, has_same_ends, put_header, put_graph, put_edge, put_edge_at, put_atom, put_atom_at, put, put_number, put_read, read_numbers, read_tokens};
+ghost use Rattle.mono_gnf.specs.Lines.{begins_number as begins_number_line};
 ghost use Rattle.mono_gnf.specs.Moves.{Moves, Finishes};
-ghost use Rattle.mono_gnf.specs.Within.{IsWithin, IsBounded};
+ghost use Rattle.mono_gnf.specs.Within.{IsWithin};
 
 use crate::refusal::Stop;
-use crate::statement::{Statement, is, statement_in};
+use crate::statement::{Statement, statement_in};
 use crate::{GnfFault, GnfRefusal};
 use mono_base::Lit;
 use mono_base::limits::{
     MAX_ATOMS, MAX_CLAUSES, MAX_EDGES, MAX_GRAPHS, MAX_LITERALS, MAX_NODES, MAX_VARS,
 };
 use mono_problem::{Draft, Predicate, Problem};
-use mono_text::{Line, NumberRefusal, signed};
+use mono_text::{Line, NumberRefusal, Tokens, is_comment};
 use std::alloc::Global;
 use std::marker::Model;
+
+/// The limit of a variable.
+const VARS: u64 = MAX_VARS as u64;
 
 /// What the lines so far say.
 #[derive(Drop)]
@@ -37,13 +40,14 @@ pub(crate) struct Reader {
 impl Model for Reader {
     ghost use Rattle.std.specs.Prelude.{◌≤◌, ◌+◌, length};
     ghost use Rattle.mono_problem.specs.Instance.{literals_total};
+    ghost use Rattle.mono_base.specs.declared.limits.TheConstants.{MAX_LITERALS};
     ghost use Rattle.mono_gnf.specs.Reading.{Seen};
 
     ghost Value = { Seen };
 
     ghost view = { λ r. record { problem = r.draft; row = r.row.items; last = r.last; header = r.has_header } };
 
-    ghost invariant = { λ r. literals_total r.draft + length r.row.items ≤ 16000000 };
+    ghost invariant = { λ r. literals_total r.draft + length r.row.items ≤ MAX_LITERALS };
 }
 
 // Whether a graph of so many nodes has the nodes that the predicate names.
@@ -77,13 +81,10 @@ fn same_ends(predicate: Predicate) -> bool
     }
 }
 
-fn begins_number(token: &[u8]) -> bool
-    ensures { result ≡ is_number_token token.now }
+fn begins_number(byte: u8) -> bool
+    ensures { result ≡ (is_ascii_digit byte || byte == 45) }
 {
-    match token.first() {
-        Some(byte) => byte.is_ascii_digit() || *byte == b'-',
-        None => false,
-    }
+    byte.is_ascii_digit() || byte == b'-'
 }
 
 impl Reader {
@@ -100,7 +101,7 @@ impl Reader {
     }
 
     fn put_header(&mut self, vars: u32) -> Result<(), Stop>
-        requires { vars ≤ 1000000 }
+        requires { vars ≤ MAX_VARS }
         ensures { Moves (put_header self.old vars) self.new result }
     {
         if self.has_header {
@@ -112,7 +113,7 @@ impl Reader {
     }
 
     fn put_graph(&mut self, id: u32, nodes: u32) -> Result<(), Stop>
-        requires { nodes ≤ 1000000 }
+        requires { nodes ≤ MAX_NODES }
         ensures { Moves (put_graph self.old id nodes) self.new result }
     {
         if self.draft.graph_of(id).is_some() {
@@ -254,13 +255,12 @@ impl Reader {
         Ok(())
     }
 
-    #[tactic(auto, unfolding(crate::specs::Reading::read_number))]
-    fn read_number(&mut self, token: &[u8], line: u64) -> Result<(), Stop>
-        ensures { Moves (read_number line self.old token.now) self.new result }
+    fn put_number(&mut self, number: Result<i64, NumberRefusal>, line: u64) -> Result<(), Stop>
+        requires { IfOk number (λ z. nat_abs z ≤ MAX_VARS) }
+        ensures { Moves (put_read line self.old number) self.new result }
     {
-        match signed(token, u64::from(MAX_VARS)) {
-            Err(NumberRefusal::NotNumber) => Err(Stop::Fault(GnfFault::NotNumber)),
-            Err(NumberRefusal::TooLarge) => Err(Stop::Fault(GnfFault::TooLarge)),
+        match number {
+            Err(refusal) => Err(Stop::Fault(GnfFault::from(refusal))),
             Ok(number) => match Lit::new(number as i32) {
                 None => self.end_clause(),
                 Some(lit) => self.add_literal(lit, line),
@@ -268,13 +268,11 @@ impl Reader {
         }
     }
 
-    fn read_numbers(&mut self, line: &Line<'_>) -> Result<(), Stop>
-        ensures { Moves (read_numbers line.now.number self.old (tokens_of line.now.text.now)) self.new result }
+    fn read_numbers(&mut self, mut tokens: Tokens<'_>, line: u64) -> Result<(), Stop>
+        ensures { Moves (read_numbers line self.old tokens.entry) self.new result }
     {
-        let number = line.number;
-        let mut tokens = line.tokens();
-        while let Some(token) = tokens.next() {
-            match self.read_number(token, number) {
+        while let Some(number) = tokens.next_signed(VARS) {
+            match self.put_number(number, line) {
                 Ok(()) => {}
                 Err(stop) => return Err(stop),
             }
@@ -282,25 +280,34 @@ impl Reader {
         Ok(())
     }
 
-    /// The line's numbers, or what it says.
-    pub(crate) fn read_line(&mut self, line: &Line<'_>) -> Result<(), Stop>
-        ensures { Moves (read_tokens line.now.number self.old (tokens_of line.now.text.now)) self.new result }
+    // What the tokens of a line say that is blank, a comment or a word line. The line is that of the number.
+    fn read_words(&mut self, mut tokens: Tokens<'_>, line: u64) -> Result<(), Stop>
+        requires { begins_number_line tokens ≡ false }
+        ensures { Moves (read_tokens line self.old tokens.entry) self.new result }
     {
-        let Some(first) = line.tokens().next() else {
+        let Some(word) = tokens.next() else {
             return Ok(());
         };
-        if is(first, b"c") {
+        if is_comment(word) {
             return Ok(());
-        }
-        if begins_number(first) {
-            return self.read_numbers(line);
         }
         if !self.row.as_slice().is_empty() {
             return Err(Stop::Fault(GnfFault::OpenClause));
         }
-        match statement_in(first, line) {
+        match statement_in(word, tokens) {
             Ok(statement) => self.put(statement),
             Err(fault) => Err(Stop::Fault(fault)),
+        }
+    }
+
+    /// The line's numbers, or what it says.
+    pub(crate) fn read_line(&mut self, line: &Line<'_>) -> Result<(), Stop>
+        ensures { Moves (read_tokens line.now.number self.old (tokens_of line.now.text.now)) self.new result }
+    {
+        let mut tokens = line.tokens();
+        match tokens.first_byte() {
+            Some(byte) if begins_number(byte) => self.read_numbers(tokens, line.number),
+            _ => self.read_words(tokens, line.number),
         }
     }
 

@@ -2,22 +2,35 @@
 //!
 //! The first token is the word. Each word has a form: a row of fields, each with its limit.
 
-ghost use Rattle.std.specs.Prelude.{◌≡◌, ◌<◌, ◌≤◌, length, bytes_eq, Some, ◌||◌, not, ◌&&◌, IfOk};
-ghost use Rattle.mono_text.specs.Text.{tokens_of};
-ghost use Rattle.mono_gnf.specs.Statements.{word_of, token, names_other_form as other_form_named, has_int as int_named, header_of, graph_of, edge_of, reach_of, steps_of, distance_of, flow_of, tree_of, form_of, statement_of, at_most, at_least};
+ghost use Rattle.std.specs.Prelude.{◌≡◌, ◌<◌, ◌≤◌, ◌∷◌, bytes_eq, slice_index, ℕ, IfOk};
+ghost use Rattle.mono_gnf.specs.Statements.{word_of, header_of, graph_of, edge_of, edge_from, reach_of, steps_of, distance_of, flow_of, tree_of, form_of, statement_of, at_most, at_least};
 ghost use Rattle.mono_gnf.specs.Within.{IsWithin};
 ghost use Rattle.mono_problem.specs.WellFormed.{IsMost, IsLeast};
 
 use crate::GnfFault;
-use mono_base::limits::{MAX_BOUND as BOUND, MAX_VARS};
+use mono_base::limits::{MAX_BOUND, MAX_NODES, MAX_VARS, MAX_WEIGHT};
 use mono_problem::Predicate;
-use mono_text::{FieldRefusal, Line, fields};
+use mono_text::{FieldRefusal, NumberRefusal, Tokens, fields, first_fields};
 
-/// The limit of a number of variables or nodes, and of a variable.
+/// The limit of a variable and of a number of variables.
 const VARS: u64 = MAX_VARS as u64;
 
-/// The limit of an identity, a node, a weight and a count that is advice.
-const WIDE: u64 = 4_294_967_295;
+/// The limit of a number of nodes.
+const NODES: u64 = MAX_NODES as u64;
+
+/// The limit of an identity, a node and a number that is advice: what 32 bits hold.
+const WIDE: u64 = u32::MAX as u64;
+
+/// The limits of the fields of each form, in order.
+const HEADER: [u64; 2] = [VARS, WIDE];
+
+const DIGRAPH: [u64; 3] = [NODES, WIDE, WIDE];
+
+const ENDS: [u64; 4] = [WIDE, WIDE, WIDE, VARS];
+
+const BOUNDED: [u64; 5] = [WIDE, WIDE, WIDE, VARS, MAX_BOUND];
+
+const TREE: [u64; 3] = [WIDE, VARS, MAX_BOUND];
 
 /// The words of word lines. The flag of a bound says that the bound itself is excluded.
 #[derive(Clone, Copy)]
@@ -109,87 +122,92 @@ impl From<FieldRefusal> for GnfFault {
     }
 }
 
-// Whether a second token names a form, other than those that are read.
-fn names_other_form(line: &Line<'_>) -> bool
-    ensures { result ≡ other_form_named (tokens_of line.now.text.now) }
-{
-    let mut tokens = line.tokens();
-    let _word = tokens.next();
-    match tokens.next() {
-        Some(name) => !(is(name, b"cnf") || is(name, b"gnf")),
-        None => false,
+impl From<NumberRefusal> for GnfFault {
+    ghost use Rattle.std.specs.Prelude.{◌≡◌};
+    ghost use Rattle.mono_gnf.specs.Statements.{number_fault_of};
+
+    ghost from_gives = { λ refusal fault. fault ≡ number_fault_of refusal };
+
+    fn from(refusal: NumberRefusal) -> GnfFault {
+        match refusal {
+            NumberRefusal::NotNumber => GnfFault::NotNumber,
+            NumberRefusal::TooLarge => GnfFault::TooLarge,
+        }
     }
 }
 
-// Whether the second token is `int`.
-fn has_int(line: &Line<'_>) -> bool
-    ensures { result ≡ int_named (tokens_of line.now.text.now) }
-{
-    let mut tokens = line.tokens();
-    let _word = tokens.next();
-    match tokens.next() {
-        Some(name) => is(name, b"int"),
-        None => false,
-    }
-}
-
-fn header(line: &Line<'_>) -> Result<Statement, GnfFault>
-    ensures value { result ≡ header_of (tokens_of line.now.text.now) }
+fn header(mut tokens: Tokens<'_>) -> Result<Statement, GnfFault>
+    ensures value { result ≡ header_of tokens.entry }
     ensures within { IfOk result IsWithin }
 {
-    if names_other_form(line) {
-        return Err(GnfFault::UnknownWord);
+    if let Some(name) = tokens.next() {
+        if !(is(name, b"cnf") || is(name, b"gnf")) {
+            return Err(GnfFault::UnknownWord);
+        }
     }
-    let f = fields::<2>(line, 2, &[VARS, WIDE])?;
+    let f = fields(tokens, &HEADER)?;
     Ok(Statement::Header { vars: f[0] as u32 })
 }
 
-fn digraph(line: &Line<'_>) -> Result<Statement, GnfFault>
-    ensures value { result ≡ graph_of (tokens_of line.now.text.now) }
+fn digraph(mut tokens: Tokens<'_>) -> Result<Statement, GnfFault>
+    ensures value { result ≡ graph_of tokens.entry }
     ensures within { IfOk result IsWithin }
 {
-    let has_weight_word = line.token_count() == 5;
-    if has_weight_word && !has_int(line) {
-        return Err(GnfFault::WeightWord);
+    if tokens.left() == DIGRAPH.len() + 1 {
+        if let Some(weight_word) = tokens.next() {
+            if !is(weight_word, b"int") {
+                return Err(GnfFault::WeightWord);
+            }
+        }
     }
-    let skip = if has_weight_word { 2 } else { 1 };
-    let f = fields::<3>(line, skip, &[VARS, WIDE, WIDE])?;
+    let f = fields(tokens, &DIGRAPH)?;
     Ok(Statement::Graph {
         id: f[2] as u32,
         nodes: f[0] as u32,
     })
 }
 
-fn edge(line: &Line<'_>) -> Result<Statement, GnfFault>
-    ensures value { result ≡ edge_of (tokens_of line.now.text.now) }
+// What an edge line says by its ends and its variable, and its weight.
+fn edge_from(
+    ends: Result<[u64; 4], FieldRefusal>,
+    weight: Result<u64, NumberRefusal>,
+) -> Result<Statement, GnfFault>
+    requires ends { IfOk ends (λ fs. (k : ℕ) → k < 4 → slice_index fs k ≤ slice_index ENDS k) }
+    requires weight { IfOk weight (λ w. w ≤ MAX_WEIGHT) }
+    ensures value { result ≡ edge_from ends weight }
     ensures within { IfOk result IsWithin }
 {
-    if line.token_count() == 6 {
-        let f = fields::<5>(line, 1, &[WIDE, WIDE, WIDE, VARS, WIDE])?;
-        Ok(Statement::Edge {
-            graph: f[0] as u32,
-            from: f[1] as u32,
-            to: f[2] as u32,
-            var: f[3] as u32,
-            weight: f[4],
-        })
-    } else {
-        let f = fields::<4>(line, 1, &[WIDE, WIDE, WIDE, VARS])?;
-        Ok(Statement::Edge {
-            graph: f[0] as u32,
-            from: f[1] as u32,
-            to: f[2] as u32,
-            var: f[3] as u32,
-            weight: 1,
-        })
+    let f = ends?;
+    let weight = weight?;
+    Ok(Statement::Edge {
+        graph: f[0] as u32,
+        from: f[1] as u32,
+        to: f[2] as u32,
+        var: f[3] as u32,
+        weight,
+    })
+}
+
+// An edge's weight is the field behind its ends and its variable, or 1 where the line ends there.
+fn edge(mut tokens: Tokens<'_>) -> Result<Statement, GnfFault>
+    ensures value { result ≡ edge_of tokens.entry }
+    ensures within { IfOk result IsWithin }
+{
+    let ends = first_fields(&mut tokens, &ENDS);
+    match tokens.next_natural(MAX_WEIGHT) {
+        None => edge_from(ends, Ok(1)),
+        Some(weight) => match tokens.next() {
+            None => edge_from(ends, weight),
+            Some(_) => Err(GnfFault::FieldCount),
+        },
     }
 }
 
-fn reach(line: &Line<'_>) -> Result<Statement, GnfFault>
-    ensures value { result ≡ reach_of (tokens_of line.now.text.now) }
+fn reach(tokens: Tokens<'_>) -> Result<Statement, GnfFault>
+    ensures value { result ≡ reach_of tokens.entry }
     ensures within { IfOk result IsWithin }
 {
-    let f = fields::<4>(line, 1, &[WIDE, WIDE, WIDE, VARS])?;
+    let f = fields(tokens, &ENDS)?;
     Ok(Statement::Atom {
         graph: f[0] as u32,
         var: f[3] as u32,
@@ -202,7 +220,7 @@ fn reach(line: &Line<'_>) -> Result<Statement, GnfFault>
 
 // The greatest number within the bound, which is -1 where 0 is excluded.
 fn most(strict: bool, bound: u64) -> i64
-    requires { bound ≤ 9007199254740992 }
+    requires { bound ≤ MAX_BOUND }
     ensures value { result ≡ at_most strict bound }
     ensures within { IsMost result }
 {
@@ -215,7 +233,7 @@ fn most(strict: bool, bound: u64) -> i64
 
 // The least number within the bound.
 fn least(strict: bool, bound: u64) -> i64
-    requires { bound ≤ 9007199254740992 }
+    requires { bound ≤ MAX_BOUND }
     ensures value { result ≡ at_least strict bound }
     ensures within { IsLeast result }
 {
@@ -226,11 +244,11 @@ fn least(strict: bool, bound: u64) -> i64
     }
 }
 
-fn steps(line: &Line<'_>, strict: bool) -> Result<Statement, GnfFault>
-    ensures value { result ≡ steps_of strict (tokens_of line.now.text.now) }
+fn steps(tokens: Tokens<'_>, strict: bool) -> Result<Statement, GnfFault>
+    ensures value { result ≡ steps_of strict tokens.entry }
     ensures within { IfOk result IsWithin }
 {
-    let f = fields::<5>(line, 1, &[WIDE, WIDE, WIDE, VARS, BOUND])?;
+    let f = fields(tokens, &BOUNDED)?;
     Ok(Statement::Atom {
         graph: f[0] as u32,
         var: f[3] as u32,
@@ -242,11 +260,11 @@ fn steps(line: &Line<'_>, strict: bool) -> Result<Statement, GnfFault>
     })
 }
 
-fn distance(line: &Line<'_>, strict: bool) -> Result<Statement, GnfFault>
-    ensures value { result ≡ distance_of strict (tokens_of line.now.text.now) }
+fn distance(tokens: Tokens<'_>, strict: bool) -> Result<Statement, GnfFault>
+    ensures value { result ≡ distance_of strict tokens.entry }
     ensures within { IfOk result IsWithin }
 {
-    let f = fields::<5>(line, 1, &[WIDE, WIDE, WIDE, VARS, BOUND])?;
+    let f = fields(tokens, &BOUNDED)?;
     Ok(Statement::Atom {
         graph: f[0] as u32,
         var: f[3] as u32,
@@ -258,11 +276,11 @@ fn distance(line: &Line<'_>, strict: bool) -> Result<Statement, GnfFault>
     })
 }
 
-fn flow(line: &Line<'_>, strict: bool) -> Result<Statement, GnfFault>
-    ensures value { result ≡ flow_of strict (tokens_of line.now.text.now) }
+fn flow(tokens: Tokens<'_>, strict: bool) -> Result<Statement, GnfFault>
+    ensures value { result ≡ flow_of strict tokens.entry }
     ensures within { IfOk result IsWithin }
 {
-    let f = fields::<5>(line, 1, &[WIDE, WIDE, WIDE, VARS, BOUND])?;
+    let f = fields(tokens, &BOUNDED)?;
     Ok(Statement::Atom {
         graph: f[0] as u32,
         var: f[3] as u32,
@@ -274,11 +292,11 @@ fn flow(line: &Line<'_>, strict: bool) -> Result<Statement, GnfFault>
     })
 }
 
-fn tree(line: &Line<'_>, strict: bool) -> Result<Statement, GnfFault>
-    ensures value { result ≡ tree_of strict (tokens_of line.now.text.now) }
+fn tree(tokens: Tokens<'_>, strict: bool) -> Result<Statement, GnfFault>
+    ensures value { result ≡ tree_of strict tokens.entry }
     ensures within { IfOk result IsWithin }
 {
-    let f = fields::<3>(line, 1, &[WIDE, VARS, BOUND])?;
+    let f = fields(tokens, &TREE)?;
     Ok(Statement::Atom {
         graph: f[0] as u32,
         var: f[1] as u32,
@@ -288,22 +306,21 @@ fn tree(line: &Line<'_>, strict: bool) -> Result<Statement, GnfFault>
     })
 }
 
-/// What a word line says, its word being the first token, or the first check of its text that it fails.
+/// What a line says by its word and the tokens behind it, or the first check of its text that it fails.
 #[tactic(auto, unfolding(crate::specs::Statements::statement_of))]
-pub(crate) fn statement_in(word: &[u8], line: &Line<'_>) -> Result<Statement, GnfFault>
-    requires { token (tokens_of line.now.text.now) 0 ≡ word.now }
-    ensures value { result ≡ statement_of (tokens_of line.now.text.now) }
+pub(crate) fn statement_in(word: &[u8], tokens: Tokens<'_>) -> Result<Statement, GnfFault>
+    ensures value { result ≡ statement_of (word.now ∷ tokens.entry) }
     ensures within { IfOk result IsWithin }
 {
     match word_named(word) {
         None => Err(GnfFault::UnknownWord),
-        Some(Word::Header) => header(line),
-        Some(Word::Digraph) => digraph(line),
-        Some(Word::Edge) => edge(line),
-        Some(Word::Reach) => reach(line),
-        Some(Word::Steps(strict)) => steps(line, strict),
-        Some(Word::Distance(strict)) => distance(line, strict),
-        Some(Word::Flow(strict)) => flow(line, strict),
-        Some(Word::Tree(strict)) => tree(line, strict),
+        Some(Word::Header) => header(tokens),
+        Some(Word::Digraph) => digraph(tokens),
+        Some(Word::Edge) => edge(tokens),
+        Some(Word::Reach) => reach(tokens),
+        Some(Word::Steps(strict)) => steps(tokens, strict),
+        Some(Word::Distance(strict)) => distance(tokens, strict),
+        Some(Word::Flow(strict)) => flow(tokens, strict),
+        Some(Word::Tree(strict)) => tree(tokens, strict),
     }
 }

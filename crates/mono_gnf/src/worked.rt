@@ -1,10 +1,13 @@
 //! Worked cases: texts with their first faults, and what texts stand for.
 
-ghost use Rattle.std.specs.Prelude.{◌≡◌, ◌∷◌, [], codes, Some, None, pos, negsuc};
+ghost use Rattle.std.specs.Prelude.{◌≡◌, ◌∷◌, [], ℕ, codes, Some, None, Ok, Err, pos, negsuc};
+ghost use Rattle.mono_problem.specs.Instance.{Instance};
 ghost use Rattle.mono_problem.specs.declared.atom.Predicate.TheVariants as kind;
+ghost use Rattle.mono_gnf.specs.declared.fault.GnfFault.{GnfFault};
 ghost use Rattle.mono_gnf.specs.declared.fault.GnfFault.TheVariants as fault;
+ghost use Rattle.mono_gnf.specs.declared.refusal.GnfRefusal.TheVariants as refusal;
 ghost use Rattle.mono_gnf.specs.Faults.{first_fault};
-ghost use Rattle.mono_gnf.specs.Stands.{Stands};
+ghost use Rattle.mono_gnf.specs.Stands.{Stands, Reads};
 
 /// Each fault, but for counts that take thousands of lines.
 #[tactic(auto, unfolding(crate::specs::Statements::statement_of))]
@@ -96,4 +99,17 @@ pub fn worked_problems()
           atoms = [];
           clauses = (negsuc 999999 ∷ []) ∷ [];
         }) }
+{}
+
+/// What a reader may answer, and what it may not.
+#[tactic(auto, unfolding(crate::specs::Statements::statement_of))]
+pub fn worked_answers()
+    ensures problem { Reads (codes "-1 0") (Ok (record { vars = 1; graphs = []; atoms = []; clauses = (negsuc 0 ∷ []) ∷ [] })) }
+    ensures fault { Reads (codes "1") (Err (refusal.At 1 fault.UnfinishedClause)) }
+    ensures other_fault { Reads (codes "1") (Err (refusal.At 1 fault.OpenClause)) → ⊥ }
+    ensures other_line { Reads (codes "1") (Err (refusal.At 2 fault.UnfinishedClause)) → ⊥ }
+    ensures no_problem { (p : Instance) → Reads (codes "1") (Ok p) → ⊥ }
+    ensures no_fault { (line : ℕ) (f : GnfFault) → Reads (codes "-1 0") (Err (refusal.At line f)) → ⊥ }
+    ensures other_problem { Stands (codes "-1 0") (record { vars = 1; graphs = []; atoms = []; clauses = (pos 1 ∷ []) ∷ [] }) → ⊥ }
+    ensures other_vars { Stands (codes "-1 0") (record { vars = 2; graphs = []; atoms = []; clauses = (negsuc 0 ∷ []) ∷ [] }) → ⊥ }
 {}

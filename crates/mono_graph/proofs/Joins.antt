@@ -1,10 +1,12 @@
 -- Being joined by edges is an equivalence, and what the edges that pass a test join.
-use Rattle.std.proofs.Common.{◌≡◌, ℕ, Bool, true, false, not, ◌&&◌, ◌||◌, cond, List, [], ◌∷◌, ◌++◌, filter, refl, sym, subst, ◌∙◌, inl, inr}
+use Rattle.std.proofs.Common.{◌≡◌, Bool, true, false, not, ◌&&◌, ◌||◌, cond, List, [], ◌∷◌, ◌++◌, filter, Contains, ℕ, zero, suc, refl, sym, ap, subst, ◌∙◌, inl, inr, arith}
 use Rattle.std.specs.Prelude.{IsTrue}
 use Rattle.std.specs.List.{list_all}
 use Rattle.std.proofs.lemmas.Bool.{and_parts, and_from, eqb-true, eq-eqb, not-true, or_cases, or_left, or_right, both_ways, not_from_false}
 use Rattle.mono_graph.specs.declared.edge.Edge.{Edge}
 use Rattle.mono_graph.specs.Trees.{joins}
+use Rattle.std.proofs.lemmas.List.Elements.{Contains-append_cases, Contains-append_left, Contains-append_right}
+use Rattle.mono_graph.proofs.Membership.{same_truth}
 use Rattle.mono_graph.proofs.Parts.{list_all_weaker}
 
 -- ---- an equivalence
@@ -16,7 +18,7 @@ pub by_forth : (e : Edge) (es : List Edge) (u v : ℕ) → IsTrue (joins es u e.
 by_forth e es u v h k = or_left (joins es u v || (joins es u e.from && joins es e.to v)) (joins es u e.to && joins es e.from v)
     (or_right (joins es u v) (joins es u e.from && joins es e.to v) (and_from (joins es u e.from) (joins es e.to v) h k))
 
-by_back : (e : Edge) (es : List Edge) (u v : ℕ) → IsTrue (joins es u e.to) → IsTrue (joins es e.from v) → IsTrue (joins (e ∷ es) u v)
+pub by_back : (e : Edge) (es : List Edge) (u v : ℕ) → IsTrue (joins es u e.to) → IsTrue (joins es e.from v) → IsTrue (joins (e ∷ es) u v)
 by_back e es u v h k = or_right (joins es u v || (joins es u e.from && joins es e.to v)) (joins es u e.to && joins es e.from v) (and_from (joins es u e.to) (joins es e.from v) h k)
 
 -- over none of the edges, or once over the first in one of the two directions
@@ -124,3 +126,48 @@ own_left (d ∷ ds) es = and_from (has_joined (d ∷ (ds ++ es)) d) (list_all (h
 
 pub joins-append_left : (ds es : List Edge) (u v : ℕ) → IsTrue (joins ds u v) → IsTrue (joins (ds ++ es) u v)
 joins-append_left ds es u v h = joins_by ds (ds ++ es) (own_left ds es) u v h
+
+-- ---- edges that are in a list
+
+pub contains_later : {X : Type 0} (e x : X) (es : List X) → Contains es x → Contains (e ∷ es) x
+contains_later e x es (k, lt, at) = (suc k, omega arith, at)
+
+pub contains_first : {X : Type 0} (e : X) (es : List X) → Contains (e ∷ es) e
+contains_first e es = (0, omega arith, refl)
+
+pub at_contained : {X : Type 0} (p : X → Bool) (es : List X) (e : X) → IsTrue (list_all p es) → Contains es e → IsTrue (p e)
+at_contained p [] e h (k, lt, at) = absurd (omega arith)
+at_contained p (x ∷ xs) e h (zero, lt, at) = ap p (sym at) ∙ (and_parts (p x) (list_all p xs) h).0
+at_contained p (x ∷ xs) e h (suc k, lt, at) = at_contained p xs e (and_parts (p x) (list_all p xs) h).1 (k, omega arith, at)
+
+pub all_contained : {X : Type 0} (p : X → Bool) (es : List X) → ((x : X) → Contains es x → IsTrue (p x)) → IsTrue (list_all p es)
+all_contained p [] h = refl
+all_contained p (x ∷ xs) h = and_from (p x) (list_all p xs) (h x (contains_first x xs)) (all_contained p xs (λ y t. h y (contains_later x y xs t)))
+
+-- each edge's ends are joined by the edges that have it
+pub own_edges : (es : List Edge) → IsTrue (list_all (has_joined es) es)
+own_edges [] = refl
+own_edges (e ∷ es) = and_from (has_joined (e ∷ es) e) (list_all (has_joined (e ∷ es)) es)
+    (by_forth e es e.from e.to (joins-refl es e.from) (joins-refl es e.to))
+    (list_all_weaker (has_joined es) (has_joined (e ∷ es)) (λ x h. by_old e es x.from x.to h) es (own_edges es))
+
+-- more edges join no less
+pub joins-within : (es fs : List Edge) → ((x : Edge) → Contains es x → Contains fs x) → (u v : ℕ) → IsTrue (joins es u v) → IsTrue (joins fs u v)
+joins-within es fs w = joins_by es fs (all_contained (has_joined fs) es (λ x h. at_contained (has_joined fs) fs x (own_edges fs) (w x h)))
+
+-- the order of the edges is all one
+pub joins-push : (es : List Edge) (e : Edge) (u v : ℕ) → joins (es ++ e ∷ []) u v ≡ joins (e ∷ es) u v
+joins-push es e u v = same_truth (joins (es ++ e ∷ []) u v) (joins (e ∷ es) u v)
+    (joins-within (es ++ e ∷ []) (e ∷ es) (λ x h. elim (Contains-append_cases es (e ∷ []) x h) [
+      | inl a ↦ contains_later e x es a
+      | inr b ↦ first_of x b
+    ]) u v)
+    (joins-within (e ∷ es) (es ++ e ∷ []) (λ x h. swapped x h) u v)
+  where
+    first_of : (x : Edge) → Contains (e ∷ []) x → Contains (e ∷ es) x
+    first_of x (zero, lt, at) = (0, omega arith, at)
+    first_of x (suc k, lt, at) = absurd (omega arith)
+
+    swapped : (x : Edge) → Contains (e ∷ es) x → Contains (es ++ e ∷ []) x
+    swapped x (zero, lt, at) = Contains-append_right es (e ∷ []) x (0, omega arith, at)
+    swapped x (suc k, lt, at) = Contains-append_left es (e ∷ []) x (k, omega arith, at)

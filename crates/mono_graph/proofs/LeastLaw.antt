@@ -1,15 +1,15 @@
 -- No spanning tree of present edges weighs less than one that joins the ends of each present edge by edges no heavier.
 use Rattle.std.proofs.Common.{◌≡◌, ℕ, zero, suc, ◌+◌, ◌<◌, ◌≤◌, min, Bool, true, false, not, ◌&&◌, ◌||◌, ◌==◌, cond, List, [], ◌∷◌, ◌++◌, length, filter, refl, ap, subst, ◌∙◌, inl, inr, arith, append-nil, ℤ, pos, ◌≤ℤ◌, ◌<ℤ◌, int_lt, int_le}
-use Rattle.std.specs.Prelude.{IsTrue, nat_le, nat_lt}
+use Rattle.std.specs.Prelude.{IsTrue, nat_le}
 use Rattle.std.specs.List.{list_all, range_with_len}
 use Rattle.std.proofs.lemmas.Bool.{and_parts, and_from, eqb-true, or_cases, or_left, or_right, not-true, not_from_false, leb-true, leb-false, lt-leb}
 use Rattle.std.proofs.lemmas.List.Sums.{sum_by-cons}
 use Rattle.std.proofs.lemmas.List.{length-map}
 use Rattle.std.proofs.lemmas.Int.{ints}
 use Rattle.mono_graph.specs.declared.edge.Edge.{Edge}
-use Rattle.mono_graph.specs.Digraph.{Digraph, present, places, nodes_of, edge_at, is_distinct, weight_of}
+use Rattle.mono_graph.specs.Digraph.{Digraph, present, places, is_place, nodes_of, edge_at, is_distinct, weight_of}
 use Rattle.mono_graph.specs.Trees.{joins, edges_at, is_spanning_tree, is_tree, is_least, is_bridged, component_count}
-use Rattle.mono_graph.proofs.Places.{at_present}
+use Rattle.mono_graph.proofs.Places.{at_place}
 use Rattle.mono_graph.proofs.Parts.{list_all_weaker}
 use Rattle.mono_graph.proofs.WalkLaws.{lt_from_test, le_from_test}
 use Rattle.mono_graph.proofs.Joins.{joins_by, kept_edges, all_filter, joins-append_left, joins-append_right, has_joined}
@@ -141,26 +141,29 @@ light_count-le es fs n w size whole h =
     let z : n ≤ component_count [] n = component_count-none n in
     omega (arith, a', b, c, d, e, f, z, size)
 
-edges_all : (g : Digraph) (P : List Bool) (r : Edge → Bool) → ((k : ℕ) → IsTrue (present P k) → IsTrue (r (edge_at g k))) → (ks : List ℕ) → IsTrue (list_all (present P) ks) → IsTrue (list_all r (edges_at g ks))
-edges_all g P r each [] h = refl
-edges_all g P r each (k ∷ ks) h =
+edges_all : (g : Digraph) (P : List Bool) (r : Edge → Bool) → ((k : ℕ) → IsTrue (is_place g k) → IsTrue (present P k) → IsTrue (r (edge_at g k))) → (ks : List ℕ) → IsTrue (list_all (is_place g) ks) → IsTrue (list_all (present P) ks) → IsTrue (list_all r (edges_at g ks))
+edges_all g P r each [] known h = refl
+edges_all g P r each (k ∷ ks) known h =
+    let q = and_parts (is_place g k) (list_all (is_place g) ks) known in
     let a = and_parts (present P k) (list_all (present P) ks) h in
-    and_from (r (edge_at g k)) (list_all r (edges_at g ks)) (each k a.0) (edges_all g P r each ks a.1)
+    and_from (r (edge_at g k)) (list_all r (edges_at g ks)) (each k q.0 a.0) (edges_all g P r each ks q.1 a.1)
 
 on_present : (p b : Bool) → IsTrue (not p || b) → IsTrue p → IsTrue b
 on_present true b h e = h
 on_present false b h e = absurd cc
 
 -- the tree is no heavier than any spanning tree in the part
-pub least-le : (g : Digraph) (P : List Bool) (tree other : List ℕ) → length P ≤ length g.edges
+pub least-le : (g : Digraph) (P : List Bool) (tree other : List ℕ)
     → IsTrue (is_spanning_tree g tree) → IsTrue (list_all (λ k. not (present P k) || is_bridged g tree (edge_at g k)) (places g))
     → IsTrue (list_all (present P) other) → IsTrue (is_spanning_tree g other) → weight_of g tree ≤ weight_of g other
-least-le g P tree other fits spans bridges here spans-other =
+least-le g P tree other spans bridges here spans-other =
     let size-tree = size g tree spans in
     let size-other = size g other spans-other in
-    let whole-other = (and_parts _ (list_all (joins (edges_at g other) 0) (nodes_of g)) spans-other).1 in
+    let parts-other = and_parts _ (list_all (joins (edges_at g other) 0) (nodes_of g)) spans-other in
+    let whole-other = parts-other.1 in
+    let known-other = (and_parts (suc (length other) == g.nodes && is_distinct other) (list_all (is_place g) other) parts-other.0).1 in
     let each : IsTrue (list_all (bridged (edges_at g tree)) (edges_at g other)) = edges_all g P (bridged (edges_at g tree))
-    (λ k at. on_present (present P k) (is_bridged g tree (edge_at g k)) (at_present (λ j. not (present P j) || is_bridged g tree (edge_at g j)) g P fits bridges k at) at) other here in
+    (λ k place at. on_present (present P k) (is_bridged g tree (edge_at g k)) (at_place (λ j. not (present P j) || is_bridged g tree (edge_at g j)) g bridges k place) at) other known-other here in
     let lengths : length (edges_at g tree) ≡ length (edges_at g other) = omega (arith, size-tree, size-other) in
     let le : total_weight (edges_at g tree) ≤ total_weight (edges_at g other) = total_weight-le (edges_at g tree) (edges_at g other) lengths
     (λ w. light_count-le (edges_at g tree) (edges_at g other) g.nodes w size-other whole-other each) in
@@ -169,27 +172,27 @@ least-le g P tree other fits spans bridges here spans-other =
     size : (h : Digraph) (ks : List ℕ) → IsTrue (is_spanning_tree h ks) → suc (length (edges_at h ks)) ≡ h.nodes
     size h ks t =
         let a = and_parts _ (list_all (joins (edges_at h ks) 0) (nodes_of h)) t in
-        let b = and_parts _ (list_all (λ k. nat_lt k (length h.edges)) ks) a.0 in
+        let b = and_parts _ (list_all (is_place h) ks) a.0 in
         let c = and_parts (suc (length ks) == h.nodes) (is_distinct ks) b.0 in
         let n = eqb-true (suc (length ks)) h.nodes c.0 in
         omega (arith, n, length-map ks (edge_at h))
 
 -- what passes as a least tree is no heavier than a tree in the part
-pub is_least-le : (g : Digraph) (P : List Bool) (most limit : ℤ) (tree other : List ℕ) → length P ≤ length g.edges → IsTrue (is_least g P most tree) → IsTrue (is_tree g P limit other)
+pub is_least-le : (g : Digraph) (P : List Bool) (most limit : ℤ) (tree other : List ℕ) → IsTrue (is_least g P most tree) → IsTrue (is_tree g P limit other)
     → weight_of g tree ≤ weight_of g other
-is_least-le g P most limit tree other fits least tr =
+is_least-le g P most limit tree other least tr =
     let a = and_parts (is_spanning_tree g tree && int_lt most (pos (weight_of g tree))) (list_all (λ k. not (present P k) || is_bridged g tree (edge_at g k)) (places g)) least in
     let b = and_parts (is_spanning_tree g tree) (int_lt most (pos (weight_of g tree))) a.0 in
     let c = and_parts (list_all (present P) other && is_spanning_tree g other) (int_le (pos (weight_of g other)) limit) tr in
     let d = and_parts (list_all (present P) other) (is_spanning_tree g other) c.0 in
-    least-le g P tree other fits b.0 a.1 d.0 d.1
+    least-le g P tree other b.0 a.1 d.0 d.1
 
-pub least_excludes : (g : Digraph) (P : List Bool) (most : ℤ) (tree other : List ℕ) → length P ≤ length g.edges → IsTrue (is_least g P most tree) → IsTrue (is_tree g P most other) → ⊥
-least_excludes g P most tree other fits least tr =
+pub least_excludes : (g : Digraph) (P : List Bool) (most : ℤ) (tree other : List ℕ) → IsTrue (is_least g P most tree) → IsTrue (is_tree g P most other) → ⊥
+least_excludes g P most tree other least tr =
     let a = and_parts (is_spanning_tree g tree && int_lt most (pos (weight_of g tree))) (list_all (λ k. not (present P k) || is_bridged g tree (edge_at g k)) (places g)) least in
     let b = and_parts (is_spanning_tree g tree) (int_lt most (pos (weight_of g tree))) a.0 in
     let c = and_parts (list_all (present P) other && is_spanning_tree g other) (int_le (pos (weight_of g other)) most) tr in
     let above : most <ℤ pos (weight_of g tree) = lt_from_test _ _ b.1 in
     let below : pos (weight_of g other) ≤ℤ most = le_from_test _ _ c.1 in
-    let le = is_least-le g P most most tree other fits least tr in
+    let le = is_least-le g P most most tree other least tr in
     omega (arith, ints, le, above, below)

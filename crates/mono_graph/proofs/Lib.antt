@@ -13,3 +13,4 @@ pub mod Joins
 pub mod Components
 pub mod LeastLaw
 pub mod Subparts
+pub mod Prefixes

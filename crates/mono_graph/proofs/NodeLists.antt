@@ -9,8 +9,8 @@ use Rattle.std.proofs.lemmas.List.FromFn.{length-range_with_len, get_or-range_wi
 use Rattle.std.proofs.lemmas.Bool.{cases_eq, eq-eqb, ne_eqb}
 use Rattle.mono_graph.specs.declared.edge.Edge.{Edge}
 use Rattle.mono_graph.proofs.Ranges.{filter_range}
-use Rattle.mono_graph.specs.Digraph.{Digraph, places, edge_at, no_edge, with_edge}
-use Rattle.mono_graph.specs.Kept.{AreListed, places_by}
+use Rattle.mono_graph.specs.Digraph.{Digraph, places, edge_at, no_edge, with_edge, places_by}
+use Rattle.mono_graph.specs.Kept.{AreListed}
 
 pub filter_same : (p q : ℕ → Bool) (a n : ℕ) → ((k : ℕ) → a ≤ k → k < a + n → p k ≡ q k) → filter p (range_with_len a n) ≡ filter q (range_with_len a n)
 filter_same p q a zero h = refl

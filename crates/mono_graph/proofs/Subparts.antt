@@ -5,8 +5,11 @@ use Rattle.std.specs.Ordering.{int_eq}
 use Rattle.std.specs.List.{list_all, list_any}
 use Rattle.std.proofs.lemmas.Bool.{and_parts, and_from, leb-true, le-leb}
 use Rattle.std.proofs.lemmas.Int.{ints}
-use Rattle.mono_graph.specs.Digraph.{Digraph, present, present_by, places, nodes_of, edge_at, weight_of, leads_out, crosses, has, is_distinct, IsSubpart}
-use Rattle.mono_graph.specs.Walks.{is_walk, is_path, is_light, leads, WalkLimit, is_cut, is_labelling, is_tense, label_at, bound_of}
+use Rattle.mono_graph.specs.declared.amount.Amount.{Amount}
+use Rattle.mono_graph.specs.declared.label.Label.{Label}
+use Rattle.mono_graph.specs.declared.limit.Limit.{Limit}
+use Rattle.mono_graph.specs.Digraph.{Digraph, present, present_by, places, is_place, nodes_of, edge_at, weight_of, leads_out, crosses, has, is_distinct, IsSubpart}
+use Rattle.mono_graph.specs.Walks.{is_walk, is_path, is_light, leads, is_cut, is_labelling, is_tense, label_at, bound_of}
 use Rattle.mono_graph.specs.Flows.{is_flow, is_within, is_conserved, is_flow_of, is_flow_cut, value_of, amount_at}
 use Rattle.mono_graph.specs.Trees.{is_tree, is_spanning_tree, is_split, is_least, is_bridged}
 use Rattle.mono_graph.proofs.Parts.{list_all_weaker}
@@ -17,10 +20,12 @@ use Rattle.mono_graph.proofs.WalkLaws.{lt_from_test}
 
 pub is_walk-larger : (g : Digraph) (P Q : List Bool) → IsSubpart P Q → (u v : ℕ) (ks : List ℕ) → IsTrue (is_walk g P u v ks) → IsTrue (is_walk g Q u v ks)
 is_walk-larger g P Q s u v ks h =
-    let a = and_parts (list_all (present P) ks) (leads g u ks v) h in
-    and_from (list_all (present Q) ks) (leads g u ks v) (list_all_weaker (present P) (present Q) s.keeps ks a.0) a.1
+    let a = and_parts (list_all (is_place g) ks && list_all (present P) ks) (leads g u ks v) h in
+    let b = and_parts (list_all (is_place g) ks) (list_all (present P) ks) a.0 in
+    and_from (list_all (is_place g) ks && list_all (present Q) ks) (leads g u ks v)
+    (and_from (list_all (is_place g) ks) (list_all (present Q) ks) b.0 (list_all_weaker (present P) (present Q) s.keeps ks b.1)) a.1
 
-pub is_path-larger : (g : Digraph) (P Q : List Bool) → IsSubpart P Q → (u v : ℕ) (limit : WalkLimit) (ks : List ℕ) → IsTrue (is_path g P u v limit ks) → IsTrue (is_path g Q u v limit ks)
+pub is_path-larger : (g : Digraph) (P Q : List Bool) → IsSubpart P Q → (u v : ℕ) (limit : Limit) (ks : List ℕ) → IsTrue (is_path g P u v limit ks) → IsTrue (is_path g Q u v limit ks)
 is_path-larger g P Q s u v limit ks h =
     let a = and_parts (is_walk g P u v ks) (is_light limit g ks) h in
     and_from (is_walk g Q u v ks) (is_light limit g ks) (is_walk-larger g P Q s u v ks a.0) a.1
@@ -46,13 +51,13 @@ is_tree-larger g P Q s most ks h =
     and_from _ (int_le (pos (weight_of g ks)) most) (and_from (list_all (present Q) ks) (is_spanning_tree g ks) (list_all_weaker (present P) (present Q) s.keeps ks b.0) b.1) a.1
 
 -- the amounts listed are still a flow
-pub is_flow_of-larger : (g : Digraph) (P Q : List Bool) → IsSubpart P Q → (s t : ℕ) (least : ℤ) (amounts : List (ℕ × ℕ)) → IsTrue (is_flow_of g P s t least amounts) → IsTrue (is_flow_of g Q s t least amounts)
+pub is_flow_of-larger : (g : Digraph) (P Q : List Bool) → IsSubpart P Q → (s t : ℕ) (least : ℤ) (amounts : List Amount) → IsTrue (is_flow_of g P s t least amounts) → IsTrue (is_flow_of g Q s t least amounts)
 is_flow_of-larger g P Q sub s t least amounts h =
     let f : ℕ → ℕ = amount_at amounts in
-    let a = and_parts (is_distinct (map (λ p. p.0) amounts) && is_flow g P s t f) (int_le least (value_of g s f)) h in
-    let b = and_parts (is_distinct (map (λ p. p.0) amounts)) (is_flow g P s t f) a.0 in
-    and_from (is_distinct (map (λ p. p.0) amounts) && is_flow g Q s t f) (int_le least (value_of g s f))
-    (and_from (is_distinct (map (λ p. p.0) amounts)) (is_flow g Q s t f) b.0 (is_flow-larger g P Q sub s t f b.1)) a.1
+    let a = and_parts (is_distinct (map (λ a. a.edge) amounts) && is_flow g P s t f) (int_le least (value_of g s f)) h in
+    let b = and_parts (is_distinct (map (λ a. a.edge) amounts)) (is_flow g P s t f) a.0 in
+    and_from (is_distinct (map (λ a. a.edge) amounts) && is_flow g Q s t f) (int_le least (value_of g s f))
+    (and_from (is_distinct (map (λ a. a.edge) amounts)) (is_flow g Q s t f) b.0 (is_flow-larger g P Q sub s t f b.1)) a.1
 
 -- ---- to a smaller part
 
@@ -73,11 +78,11 @@ is_cut-smaller g P Q sub u v s h =
     and_from (has s u && not (has s v)) (list_all (λ k. not (present P k && leads_out s (edge_at g k))) (places g))
     a.0 (no_edge-smaller g P Q sub (λ k. leads_out s (edge_at g k)) a.1)
 
-pub is_labelling-smaller : (g : Digraph) (P Q : List Bool) → IsSubpart P Q → (u v : ℕ) (limit : WalkLimit) (ls : List (ℕ × ℕ))
+pub is_labelling-smaller : (g : Digraph) (P Q : List Bool) → IsSubpart P Q → (u v : ℕ) (limit : Limit) (ls : List Label)
     → IsTrue (is_labelling g Q u v limit ls) → IsTrue (is_labelling g P u v limit ls)
 is_labelling-smaller g P Q sub u v limit ls h =
     let label : ℕ → ℤ = label_at ls (bound_of limit) in
-    let ends : Bool = is_distinct (map (λ p. p.0) ls) && int_eq (label u) (pos 0) && int_lt (bound_of limit) (label v) in
+    let ends : Bool = is_distinct (map (λ l. l.node) ls) && int_eq (label u) (pos 0) && int_lt (bound_of limit) (label v) in
     let a = and_parts ends (list_all (λ k. not (present Q k && is_tense label limit (edge_at g k))) (places g)) h in
     and_from ends (list_all (λ k. not (present P k && is_tense label limit (edge_at g k))) (places g))
     a.0 (no_edge-smaller g P Q sub (λ k. is_tense label limit (edge_at g k)) a.1)

@@ -1,6 +1,7 @@
 -- Directed graphs, their parts and sets of nodes. Inside a graph an edge is named by its place in the list of edges, from 0.
-use Rattle.std.specs.Prelude.{ℕ, ◌^◌, ◌<◌, ◌≤◌, ◌==◌, Bool, true, false, not, ◌&&◌, ◌||◌, IsTrue, List, [], ◌∷◌, ◌++◌, length, map, filter, Option, position, slice_index_or, sum_by, All}
+use Rattle.std.specs.Prelude.{ℕ, ◌<◌, ◌≤◌, ◌==◌, Bool, true, false, not, ◌&&◌, ◌||◌, IsTrue, List, [], ◌∷◌, ◌++◌, length, map, filter, Option, position, slice_index_or, sum_by, nat_lt, ◌≡◌, All}
 use Rattle.std.specs.List.{list_any, range_with_len}
+use Rattle.mono_base.specs.declared.limits.TheConstants.{MAX_EDGES, MAX_NODES, MAX_VARS, MAX_WEIGHT}
 use Rattle.mono_graph.specs.declared.edge.Edge.{Edge}
 
 -- a graph: its nodes are the numbers below `nodes`, and its edges are listed in order
@@ -18,6 +19,10 @@ edge_at g k = slice_index_or g.edges k no_edge
 abbrev pub places : Digraph → List ℕ
 places g = range_with_len 0 (length g.edges)
 
+-- an edge of the graph is at this place
+abbrev pub is_place : Digraph → ℕ → Bool
+is_place g k = nat_lt k (length g.edges)
+
 abbrev pub nodes_of : Digraph → List ℕ
 nodes_of g = range_with_len 0 g.nodes
 
@@ -25,12 +30,16 @@ nodes_of g = range_with_len 0 g.nodes
 abbrev pub place_of : Digraph → ℕ → Option ℕ
 place_of g n = position (λ e. e.number == n) g.edges
 
--- the edges that leave a node, and those that enter it, in order
+-- the places of the edges that have the node as this end, in order
+abbrev pub places_by : (Edge → ℕ) → Digraph → ℕ → List ℕ
+places_by end g u = filter (λ k. end (edge_at g k) == u) (places g)
+
+-- the edges that leave a node, and those that enter it
 abbrev pub leaving : Digraph → ℕ → List ℕ
-leaving g u = filter (λ k. (edge_at g k).from == u) (places g)
+leaving g u = places_by (λ e. e.from) g u
 
 abbrev pub entering : Digraph → ℕ → List ℕ
-entering g u = filter (λ k. (edge_at g k).to == u) (places g)
+entering g u = places_by (λ e. e.to) g u
 
 -- the graph with one more edge
 abbrev pub with_edge : Digraph → Edge → Digraph
@@ -48,19 +57,33 @@ IsRising g = (i j : ℕ) → i < j → j < length g.edges → (edge_at g i).numb
 
 pub record IsGraph (g : Digraph) : Type 0 where
   pub some_node : 1 ≤ g.nodes
-  pub few_nodes : g.nodes ≤ 1000000
-  pub few_edges : length g.edges ≤ 1000000
+  pub few_nodes : g.nodes ≤ MAX_NODES
+  pub few_edges : length g.edges ≤ MAX_EDGES
   pub ends : HasEnds g
   pub rising : IsRising g
-  pub numbers : All (λ e. (1 ≤ e.number) × (e.number ≤ 1000000)) g.edges
-  pub vars : All (λ e. (1 ≤ e.var) × (e.var ≤ 1000000)) g.edges
-  pub weights : All (λ e. e.weight < 2 ^ 32) g.edges
+  pub numbers : All (λ e. 1 ≤ e.number) g.edges
+  pub vars : All (λ e. (1 ≤ e.var) × (e.var ≤ MAX_VARS)) g.edges
+  pub weights : All (λ e. e.weight ≤ MAX_WEIGHT) g.edges
+
+-- an edge that a graph can be given next
+pub record IsNewEdge (g : Digraph) (e : Edge) : Type 0 where
+  pub from : e.from < g.nodes
+  pub to : e.to < g.nodes
+  pub room : length g.edges < MAX_EDGES
+  pub rising : All (λ f. f.number < e.number) g.edges
+  pub number : 1 ≤ e.number
+  pub var : (1 ≤ e.var) × (e.var ≤ MAX_VARS)
+  pub weight : e.weight ≤ MAX_WEIGHT
 
 -- ---- parts
 
 -- a part is a set of edges of a graph: at each place, whether the edge is present
 abbrev pub present : List Bool → ℕ → Bool
 present P k = slice_index_or P k false
+
+-- the part is one of the graph: it tells of each place of the graph, and of no other
+abbrev pub IsPartOf : List Bool → Digraph → Type 0
+IsPartOf P g = length P ≡ length g.edges
 
 -- the part of the edges that pass a test
 abbrev pub part_by : (Edge → Bool) → Digraph → List Bool

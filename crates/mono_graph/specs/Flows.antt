@@ -1,6 +1,7 @@
 -- Flows, and the sets of nodes that bound their values.
 use Rattle.std.specs.Prelude.{ℕ, ◌==◌, Bool, not, ◌&&◌, ◌||◌, ℤ, pos, ◌-ℤ◌, int_lt, int_le, List, [], ◌∷◌, map, sum_by, nat_le, if◌then◌else◌}
 use Rattle.std.specs.List.{list_all}
+use Rattle.mono_graph.specs.declared.amount.Amount.{Amount}
 use Rattle.mono_graph.specs.Digraph.{Digraph, edge_at, present, present_by, places, nodes_of, leaving, entering, leads_out, weight_of, has, is_distinct}
 
 -- what the edges that leave a node carry, and those that enter it
@@ -26,14 +27,14 @@ abbrev pub value_of : Digraph → ℕ → (ℕ → ℕ) → ℤ
 value_of g s f = pos (outflow g f s) -ℤ pos (inflow g f s)
 
 -- the amount at a place: the one that is listed, or 0
-abbrev pub amount_at : List (ℕ × ℕ) → ℕ → ℕ
+abbrev pub amount_at : List Amount → ℕ → ℕ
 amount_at [] k = 0
-amount_at (p ∷ ps) k = if p.0 == k then p.1 else amount_at ps k
+amount_at (a ∷ rest) k = if a.edge == k then a.amount else amount_at rest k
 
 -- no edge is listed twice, and the amounts are a flow of at least this value
-abbrev pub is_flow_of : Digraph → List Bool → ℕ → ℕ → ℤ → List (ℕ × ℕ) → Bool
+abbrev pub is_flow_of : Digraph → List Bool → ℕ → ℕ → ℤ → List Amount → Bool
 is_flow_of g P s t least amounts =
-    is_distinct (map (λ p. p.0) amounts) && is_flow g P s t (amount_at amounts) && int_le least (value_of g s (amount_at amounts))
+    is_distinct (map (λ a. a.edge) amounts) && is_flow g P s t (amount_at amounts) && int_le least (value_of g s (amount_at amounts))
 
 -- the set has s and lacks t, and the present edges that leave it weigh less than this in sum
 abbrev pub is_flow_cut : Digraph → List Bool → ℕ → ℕ → ℤ → List ℕ → Bool

@@ -1,15 +1,11 @@
 -- What a graph keeps: its edges, and for each node the places of those that leave it and of those that enter it.
-use Rattle.std.specs.Prelude.{◌≡◌, ℕ, ◌<◌, ◌==◌, [], List, length, filter, slice_index_or}
+use Rattle.std.specs.Prelude.{◌≡◌, ℕ, ◌<◌, [], List, length, slice_index_or}
 use Rattle.mono_graph.specs.declared.graph.Graph.TheInside.{Inside}
 use Rattle.mono_graph.specs.declared.edge.Edge.{Edge}
-use Rattle.mono_graph.specs.Digraph.{Digraph, IsGraph, edge_at, places}
+use Rattle.mono_graph.specs.Digraph.{Digraph, IsGraph, places_by}
 
 abbrev pub shown : Inside → Digraph
 shown g = record { nodes = g.nodes; edges = g.edges.items }
-
--- the places of the edges with this end, in order
-abbrev pub places_by : (Edge → ℕ) → Digraph → ℕ → List ℕ
-places_by end g u = filter (λ k. end (edge_at g k) == u) (places g)
 
 -- there is a list for each node, with the places of the edges that have it as this end
 pub record AreListed (end : Edge → ℕ) (g : Digraph) (lists : List (List ℕ)) : Type 0 where

@@ -1,8 +1,8 @@
 -- Spanning trees, and what shows that there is none, or none that light. Directions are ignored: an edge is taken either way.
-use Rattle.std.specs.Prelude.{ℕ, zero, suc, ◌+◌, ◌==◌, Bool, not, ◌&&◌, ◌||◌, ℤ, pos, int_lt, int_le, List, [], ◌∷◌, length, map, filter, nat_le, nat_lt, if◌then◌else◌, Contains, IsTrue}
+use Rattle.std.specs.Prelude.{ℕ, zero, suc, ◌+◌, ◌==◌, Bool, not, ◌&&◌, ◌||◌, ℤ, pos, int_lt, int_le, List, [], ◌∷◌, length, map, filter, nat_le, if◌then◌else◌, Contains, IsTrue}
 use Rattle.std.specs.List.{list_all, list_any, range_with_len, AllByRecursion}
 use Rattle.mono_graph.specs.declared.edge.Edge.{Edge}
-use Rattle.mono_graph.specs.Digraph.{Digraph, edge_at, present, places, nodes_of, crosses, weight_of, has, is_distinct}
+use Rattle.mono_graph.specs.Digraph.{Digraph, edge_at, present, places, is_place, nodes_of, crosses, weight_of, has, is_distinct}
 
 -- where a step along an edge starts and ends, taken forwards or back
 abbrev pub start_of : Edge × Bool → ℕ
@@ -45,7 +45,7 @@ edges_at g ks = map (edge_at g) ks
 -- n - 1 different edges of the graph of n nodes that join every node to node 0
 abbrev pub is_spanning_tree : Digraph → List ℕ → Bool
 is_spanning_tree g ks =
-    suc (length ks) == g.nodes && is_distinct ks && list_all (λ k. nat_lt k (length g.edges)) ks && list_all (joins (edges_at g ks) 0) (nodes_of g)
+    suc (length ks) == g.nodes && is_distinct ks && list_all (is_place g) ks && list_all (joins (edges_at g ks) 0) (nodes_of g)
 
 -- a spanning tree in the part of at most this weight
 abbrev pub is_tree : Digraph → List Bool → ℤ → List ℕ → Bool

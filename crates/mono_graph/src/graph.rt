@@ -4,10 +4,11 @@
 //! from node to node looks only at the edges there. `add_edge` keeps the three in step: it adds to the two lists by
 //! node first, and takes back what it added where memory is missing for the rest.
 
-ghost use Rattle.std.specs.Prelude.{◌≡◌, ◌<◌, ◌≤◌, ◌^◌, ◌⊎◌, ◌↔◌, [], All, OnOk, OnErr, IfOk, IfSome, length};
+ghost use Rattle.std.specs.Prelude.{◌≡◌, ◌<◌, ◌≤◌, ◌⊎◌, ◌↔◌, [], All, OnOk, OnErr, IfOk, IfSome, length};
 ghost use Rattle.mono_graph.specs.Digraph.{IsGraph, with_edge, edge_at, place_of, leaving as leaving_of, entering as entering_of, weight_of as weight_sum};
 
 use crate::{Buckets, Edge};
+use mono_base::limits::{MAX_EDGES, MAX_NODES, MAX_VARS, MAX_WEIGHT};
 use std::alloc::{AllocError, Global};
 use std::marker::Model;
 
@@ -44,10 +45,10 @@ impl Model for Graph {
 }
 
 impl Graph {
-    /// A graph with this many nodes, from 1 to 1,000,000, and no edge.
+    /// A graph with this many nodes, from 1 to [`MAX_NODES`], and no edge.
     pub fn new(alloc: Global, nodes: u32) -> Result<Self, AllocError>
         requires some { 1 ≤ nodes }
-        requires few { nodes ≤ 1000000 }
+        requires few { nodes ≤ MAX_NODES }
         ensures { IfOk result (λ g. g ≡ record { nodes = nodes; edges = [] }) }
     {
         let leaving = Buckets::new(alloc, nodes)?;
@@ -81,9 +82,9 @@ impl Graph {
         ensures edge { result ≡ edge_at self.now place }
         ensures from { result.from < self.now.nodes }
         ensures to { result.to < self.now.nodes }
-        ensures number { (1 ≤ result.number) × (result.number ≤ 1000000) }
-        ensures var { (1 ≤ result.var) × (result.var ≤ 1000000) }
-        ensures weight { result.weight < 2 ^ 32 }
+        ensures number { 1 ≤ result.number }
+        ensures var { (1 ≤ result.var) × (result.var ≤ MAX_VARS) }
+        ensures weight { result.weight ≤ MAX_WEIGHT }
     {
         self.edges[place as usize]
     }
@@ -131,16 +132,16 @@ impl Graph {
         self.entering.list(node)
     }
 
-    /// Adds an edge behind the others. Its number is greater than theirs and, like its variable, from 1 to 1,000,000;
-    /// its weight is at most 2^32 - 1.
+    /// Adds an edge behind the others, of which there are fewer than [`MAX_EDGES`]. Its number is at least 1 and greater
+    /// than theirs, its variable is from 1 to [`MAX_VARS`], its weight is at most [`MAX_WEIGHT`].
     ///
     /// `NodeOutOfRange` exactly where `from` or `to` is not below the number of nodes.
     pub fn add_edge(&mut self, edge: Edge) -> Result<(), EdgeRefusal>
-        requires room { length self.old.edges < 1000000 }
+        requires room { length self.old.edges < MAX_EDGES }
         requires rising { All (λ e. e.number < edge.number) self.old.edges }
-        requires number { (1 ≤ edge.number) × (edge.number ≤ 1000000) }
-        requires var { (1 ≤ edge.var) × (edge.var ≤ 1000000) }
-        requires weight { edge.weight < 2 ^ 32 }
+        requires number { 1 ≤ edge.number }
+        requires var { (1 ≤ edge.var) × (edge.var ≤ MAX_VARS) }
+        requires weight { edge.weight ≤ MAX_WEIGHT }
         ensures ok { OnOk result (self.new ≡ with_edge self.old edge) }
         ensures range { (result ≡ Err EdgeRefusal.NodeOutOfRange) ↔ ((self.old.nodes ≤ edge.from) ⊎ (self.old.nodes ≤ edge.to)) }
         ensures err { OnErr result (self.new ≡ self.old) }

@@ -1,14 +1,20 @@
 //! Directed graphs whose edges are named by variables, their parts, and what walks, flows and spanning trees are.
 #![tactic(auto)]
 
+/// Amounts on edges.
+mod amount;
 /// Lists by key.
 mod buckets;
 /// Edges.
 mod edge;
 /// Graphs.
 mod graph;
+/// Labels of nodes.
+mod label;
 /// What follows from the definitions of walks, flows and trees alone.
 pub mod laws;
+/// Limits of walks.
+mod limit;
 /// Marks by number.
 mod marking;
 /// Parts of a graph.
@@ -18,8 +24,11 @@ mod tests;
 /// What the definitions make of small graphs.
 pub mod worked;
 
+pub use amount::Amount;
 pub use buckets::Buckets;
 pub use edge::Edge;
 pub use graph::{EdgeRefusal, Graph};
-pub use marking::marks;
+pub use label::Label;
+pub use limit::Limit;
+pub use marking::{mark, unmark};
 pub use part::Part;

@@ -1,19 +1,30 @@
 //! Marks by number, for lists that are read as sets.
+//!
+//! A user keeps the marks from one list to the next. The list that set them takes them off, so that a short list costs
+//! nothing in proportion to the marks.
 
-ghost use Rattle.std.specs.Prelude.{◌≡◌, ◌<◌, ℕ, All, IfOk, false, slice_index_or, vec_len};
+ghost use Rattle.std.specs.Prelude.{◌≡◌, ◌<◌, ℕ, All, IsTrue, false, slice_index_or, vec_len};
 ghost use Rattle.mono_graph.specs.Digraph.{has};
 
-use std::alloc::{AllocError, Global};
-
-/// For each number below `count`, as the nodes of a graph, whether it is in the list.
-pub fn marks(alloc: Global, members: &[u32], count: u32) -> Result<Vec<bool>, AllocError>
-    requires { All (λ u. u < count) members.now }
-    ensures len { IfOk result (λ marks. vec_len marks ≡ count) }
-    ensures marked { IfOk result (λ marks. (u : ℕ) → u < count → slice_index_or marks.items u false ≡ has members.now u) }
+/// Marks the members, where nothing was marked.
+pub fn mark(marks: &mut Vec<bool>, members: &[u32])
+    requires within { All (λ u. u < vec_len marks.old) members.now }
+    requires clear { (u : ℕ) → slice_index_or marks.old.items u false ≡ false }
+    ensures len { vec_len marks.new ≡ vec_len marks.old }
+    ensures marked { (u : ℕ) → slice_index_or marks.new.items u false ≡ has members.now u }
 {
-    let mut marked = vec![in alloc; false; count as usize]?;
     for member in members {
-        marked[*member as usize] = true;
+        marks[*member as usize] = true;
     }
-    Ok(marked)
+}
+
+/// Takes the marks off the members. Where no other number was marked, none is marked then.
+pub fn unmark(marks: &mut Vec<bool>, members: &[u32])
+    requires within { All (λ u. u < vec_len marks.old) members.now }
+    ensures len { vec_len marks.new ≡ vec_len marks.old }
+    ensures clear { ((u : ℕ) → IsTrue (slice_index_or marks.old.items u false) → IsTrue (has members.now u)) → (u : ℕ) → slice_index_or marks.new.items u false ≡ false }
+{
+    for member in members {
+        marks[*member as usize] = false;
+    }
 }

@@ -2,7 +2,7 @@
 //!
 //! A part has a byte for each place, so that an edge comes and goes in constant time.
 
-ghost use Rattle.std.specs.Prelude.{◌≡◌, ◌<◌, true, false, IfOk, replicate, slice_set, length};
+ghost use Rattle.std.specs.Prelude.{◌≡◌, ◌<◌, ◌==◌, ◌&&◌, ◌||◌, ℕ, true, false, not, IfOk, length};
 ghost use Rattle.mono_graph.specs.Digraph.{present};
 
 use std::alloc::{AllocError, Global};
@@ -23,18 +23,20 @@ impl Model for Part {
 }
 
 impl Part {
-    /// None of this many places.
+    /// The part of a graph with this many edges that has none of them.
     pub fn none(alloc: Global, edges: u32) -> Result<Self, AllocError>
-        ensures { IfOk result (λ part. part ≡ replicate edges false) }
+        ensures size { IfOk result (λ part. length part ≡ edges) }
+        ensures places { IfOk result (λ part. (k : ℕ) → present part k ≡ false) }
     {
         Ok(Part {
             held: vec![in alloc; false; edges as usize]?,
         })
     }
 
-    /// Each of this many places.
+    /// The part of a graph with this many edges that has each of them.
     pub fn all(alloc: Global, edges: u32) -> Result<Self, AllocError>
-        ensures { IfOk result (λ part. part ≡ replicate edges true) }
+        ensures size { IfOk result (λ part. length part ≡ edges) }
+        ensures places { IfOk result (λ part. (k : ℕ) → k < edges → present part k ≡ true) }
     {
         Ok(Part {
             held: vec![in alloc; true; edges as usize]?,
@@ -52,7 +54,8 @@ impl Part {
     /// Puts the place into the part.
     pub fn put(&mut self, place: u32)
         requires { place < length self.old }
-        ensures { self.new ≡ slice_set self.old place true }
+        ensures size { length self.new ≡ length self.old }
+        ensures places { (k : ℕ) → present self.new k ≡ (k == place || present self.old k) }
     {
         self.held[place as usize] = true;
     }
@@ -60,7 +63,8 @@ impl Part {
     /// Takes the place out of the part.
     pub fn take(&mut self, place: u32)
         requires { place < length self.old }
-        ensures { self.new ≡ slice_set self.old place false }
+        ensures size { length self.new ≡ length self.old }
+        ensures places { (k : ℕ) → present self.new k ≡ (not (k == place) && present self.old k) }
     {
         self.held[place as usize] = false;
     }

@@ -1,6 +1,6 @@
 ghost use Rattle.std.specs.Prelude.{◌≡◌, IfOk, length};
 
-use crate::{Buckets, Edge, EdgeRefusal, Graph, Part, marks};
+use crate::{Buckets, Edge, EdgeRefusal, Graph, Part, mark, unmark};
 use std::alloc::Global;
 use std::test::Fail;
 
@@ -157,7 +157,10 @@ fn lists_by_key(rt: HostRuntime) -> Result<(), Fail> {
 
 #[test]
 fn marks_of_a_list(rt: HostRuntime) -> Result<(), Fail> {
-    let marked = marks(rt.alloc(), &[2, 0, 2], 4)?;
-    assert_eq!(rt; marked.as_slice(), [true, false, true, false].as_slice());
+    let mut marks = vec![in rt.alloc(); false; 4]?;
+    mark(&mut marks, &[2, 0, 2]);
+    assert_eq!(rt; marks.as_slice(), [true, false, true, false].as_slice());
+    unmark(&mut marks, &[2, 0, 2]);
+    assert_eq!(rt; marks.as_slice(), [false, false, false, false].as_slice());
     Ok(())
 }

@@ -1,4 +1,5 @@
 mod Fronts
 mod Growing
 pub mod KnownBytes
+mod Plans
 mod TextLemmas

@@ -1,6 +1,6 @@
 -- Which calls of an object in memory fail.
-use Rattle.std.specs.Prelude.{◌≤◌, ◌+◌, ◌-◌, ◌^◌, ◌==◌, ◌&&◌, ℕ, Bool, List, All, nat_lt}
-use Rattle.std.specs.List.{list_any}
+use Rattle.std.specs.Prelude.{◌+◌, ◌-◌, ◌^◌, ◌==◌, ◌&&◌, ℕ, Bool, List, nat_lt, nat_le}
+use Rattle.std.specs.List.{list_any, list_all}
 use Rattle.mono_io.specs.Faults.{counted}
 
 -- the calls so far, the numbers of the calls that are to fail, and how many have failed
@@ -14,8 +14,8 @@ abbrev pub next_is_listed : Plan → Bool
 next_is_listed plan = nat_lt plan.calls (2 ^ 64 - 1) && list_any (λ call. call == plan.calls + 1) plan.listed
 
 -- no call still to come is listed
-abbrev pub IsOver : Plan → Type 0
-IsOver plan = All (λ call. call ≤ plan.calls) plan.listed
+abbrev pub is_over : Plan → Bool
+is_over plan = list_all (λ call. nat_le call plan.calls) plan.listed
 
 -- after a call that succeeded
 abbrev pub succeeded : Plan → Plan

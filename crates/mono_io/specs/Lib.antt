@@ -7,4 +7,6 @@ pub mod MemorySink
 pub mod Reading
 pub mod Shelf
 pub mod Sink
+pub mod StdSink
 pub mod Texts
+pub mod Worked

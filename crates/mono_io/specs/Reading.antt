@@ -1,15 +1,52 @@
--- What a reader of a whole text has, and what its refusals say of the count of faults.
-use Rattle.std.specs.Prelude.{◌≡◌, ◌≤◌, ℕ, List, length, take, Result, IsErrOf}
+-- What reading the whole text of a name comes to, by what contracts see of the shelf before and after it.
+use Rattle.std.specs.Prelude.{◌≡◌, ◌<◌, ◌≤◌, ◌+◌, ℕ, List, length, take, Some, IfSome, IsSomeAnd, IsTrue}
 use Rattle.mono_io.specs.Faults.{counted}
-use Rattle.mono_io.specs.declared.refusal.ReadRefusal.{ReadRefusal}
-use Rattle.mono_io.specs.declared.refusal.ReadRefusal.TheVariants.{Fault}
+use Rattle.mono_io.specs.Shelf.{ShelfView, text_named, Lacks}
+
+-- The name was begun once. The texts stay, and a steady shelf stays steady.
+pub record BeginsOnce (old new : ShelfView) : Type 0 where
+  pub begun : new.begun ≡ counted old.begun
+  pub texts : new.texts ≡ old.texts
+  pub steady : IsTrue old.steady → IsTrue new.steady
+
+-- These are the bytes of the text of that name, where the texts are told, and no more than the limit. No call failed.
+pub record IsRead (name : List ℕ) (limit : ℕ) (old new : ShelfView) (bytes : List ℕ) : Type 0 where
+  pub once : BeginsOnce old new
+  pub whole : IfSome old.texts (λ texts. text_named name texts ≡ Some bytes)
+  pub within : length bytes ≤ limit
+  pub place : new.place ≡ Some (length bytes)
+  pub faults : new.faults ≡ old.faults
+
+-- The text has more bytes than the limit: one more was read. No call failed.
+pub record IsTooLong (name : List ℕ) (limit : ℕ) (old new : ShelfView) : Type 0 where
+  pub once : BeginsOnce old new
+  pub longer : IfSome old.texts (λ texts. IsSomeAnd (text_named name texts) (λ text. limit < length text))
+  pub place : new.place ≡ Some (limit + 1)
+  pub faults : new.faults ≡ old.faults
+
+-- One call failed, the last one: over a steady shelf, since no text has that name. No byte beyond the limit was read.
+pub record IsNotRead (name : List ℕ) (limit : ℕ) (old new : ShelfView) : Type 0 where
+  pub once : BeginsOnce old new
+  pub lacking : IsTrue old.steady → Lacks old.texts name
+  pub place : IfSome new.place (λ place. place ≤ limit)
+  pub faults : new.faults ≡ counted old.faults
+
+-- The reading was given up, though no call failed. No byte beyond the limit was read.
+pub record IsGivenUp (limit : ℕ) (old new : ShelfView) : Type 0 where
+  pub once : BeginsOnce old new
+  pub place : IfSome new.place (λ place. place ≤ limit)
+  pub faults : new.faults ≡ old.faults
+
+-- ---- on the way
 
 -- the bytes are the first ones of the text
 pub record IsFront (bytes text : List ℕ) : Type 0 where
   pub within : length bytes ≤ length text
   pub same : take (length bytes) text ≡ bytes
 
--- Fault comes only where the count rose, by one. The other answers leave it.
-pub record HasReadCause {T : Type 0} (before now : ℕ) (result : Result T ReadRefusal) : Type 0 where
-  pub fault : IsErrOf result Fault → now ≡ counted before
-  pub others : ¬ IsErrOf result Fault → now ≡ before
+-- the same text is chosen, and no name was begun
+pub record KeepsChoice (old new : ShelfView) : Type 0 where
+  pub texts : new.texts ≡ old.texts
+  pub chosen : new.chosen ≡ old.chosen
+  pub begun : new.begun ≡ old.begun
+  pub steady : IsTrue old.steady → IsTrue new.steady

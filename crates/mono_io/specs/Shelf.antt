@@ -1,5 +1,5 @@
--- Texts by name, and what a reader is told of the one that it chose.
-use Rattle.std.specs.Prelude.{◌≡◌, ◌<◌, ◌≤◌, ◌+◌, ℕ, List, [], ◌∷◌, length, take, drop, if◌then◌else◌, bytes_eq, Option, Some, None, option_map, option_and_then, IfSome, IsSomeAnd, IsNone, Result, Ok, Err, IfOk}
+-- Texts by name, what contracts see of a shelf, and what a reader is told of the text that it chose.
+use Rattle.std.specs.Prelude.{◌≡◌, ◌<◌, ◌≤◌, ◌+◌, ℕ, Bool, List, [], ◌∷◌, length, take, drop, if◌then◌else◌, bytes_eq, Option, Some, None, option_map, option_and_then, IfSome, IsSomeAnd, IsNone, Result, Ok, Err, IfOk}
 
 -- the texts with their names, as pairs
 abbrev pub Texts : Type 0
@@ -10,9 +10,28 @@ abbrev pub text_named : List ℕ → Texts → Option (List ℕ)
 text_named name [] = None
 text_named name (entry ∷ texts) = if bytes_eq name entry.0 then Some entry.1 else text_named name texts
 
+-- What contracts see of a shelf.
+pub record ShelfView : Type 0 where
+  -- the texts by name, where the shelf tells them
+  pub texts : Option Texts
+  -- the name of the chosen text; it means something only where the texts are told
+  pub chosen : List ℕ
+  -- how many bytes of the chosen text were read, or nothing where no text is chosen
+  pub place : Option ℕ
+  -- how often a name was begun
+  pub begun : ℕ
+  -- how often a call failed
+  pub faults : ℕ
+  -- The shelf tells its texts. A call fails only for a name that it lacks, and a read also where nothing is chosen.
+  pub steady : Bool
+
 -- the text of that name, where the texts are told and hold it
 abbrev pub told_text : Option Texts → List ℕ → Option (List ℕ)
 told_text texts name = option_and_then (text_named name) texts
+
+-- the chosen text, where it is told
+abbrev pub chosen_text : ShelfView → Option (List ℕ)
+chosen_text shelf = told_text shelf.texts shelf.chosen
 
 -- the texts are told, and none has that name
 abbrev pub Lacks : Option Texts → List ℕ → Type 0

@@ -1,7 +1,7 @@
 //! Which calls of an object in memory are to fail, by their numbers from 1.
-ghost use Rattle.std.specs.Prelude.{◌≡◌, [], ◌∷◌, ◌++◌, IsFalse, OnOk, OnErr};
+ghost use Rattle.std.specs.Prelude.{◌≡◌, [], ◌∷◌, ◌++◌, IsTrue, IsFalse, OnOk, OnErr};
 ghost use Rattle.mono_io.specs.Faults.{counted};
-ghost use Rattle.mono_io.specs.FaultPlan.{next_is_listed, IsOver};
+ghost use Rattle.mono_io.specs.FaultPlan.{next_is_listed, is_over};
 
 use crate::Failed;
 use std::alloc::{AllocError, Global};
@@ -45,7 +45,8 @@ impl FaultPlan {
     pub(crate) fn count_call(&mut self) -> bool
         ensures listed { result ≡ next_is_listed self.old }
         ensures counted { self.new ≡ record self.old { calls = counted self.old.calls } }
-        ensures over { IsOver self.old → IsFalse result }
+        ensures over { IsTrue (is_over self.old) → IsFalse result }
+        ensures steady { IsTrue (is_over self.old) → IsTrue (is_over self.new) }
     {
         match self.calls.checked_add(1) {
             Some(call) => {

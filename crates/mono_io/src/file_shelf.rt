@@ -1,116 +1,123 @@
-//! A shelf over the files of the system. What a real file holds, no contract can say.
-ghost use Rattle.std.specs.Prelude.{◌≡◌, ◌≤◌, ◌+◌, ◌↔◌, [], None, IsSome, IsOk, IsErr, IfSome, IfOk, OnOk, OnErr, length};
-ghost use Rattle.mono_io.specs.Faults.{HasCause};
-ghost use Rattle.mono_io.specs.FileShelf.{GivesRest};
-ghost use Rattle.mono_io.specs.Shelf.{advanced, moved, ReadsNext};
+//! A shelf over files. What a real file holds, no contract can say.
+ghost use Rattle.std.proofs.Common.{rules};
+ghost use Rattle.std.specs.Prelude.{◌≡◌, ◌≤◌, ◌+◌, ◌↔◌, [], false, Some, None, IsTrue, IsSomeAnd, IsErr, IfSome, IfOk, OnOk, OnErr, length};
+ghost use Rattle.std.specs.Io.KnownBytes.{ReadConsumes};
+ghost use Rattle.mono_io.specs.Faults.{HasCause, HasToldCause, counted};
+ghost use Rattle.mono_io.specs.Shelf.{told_text, advanced, moved, ReadsNext};
 
-use crate::{Failed, Shelf};
-use std::fs::File;
-use std::io::Read;
+use crate::{Failed, FileAccess, Shelf};
 use std::marker::Model;
-use std::rt::Files;
 
-/// The farthest place that a read may reach.
-const LAST_PLACE: u64 = 1 << 63;
+/// The farthest place that a read may reach: 2^63.
+pub const LAST_PLACE: u64 = 1 << 63;
 
-#[derive(Drop)]
-struct Opened<F> {
-    file: F,
-    place: u64,
-}
-
-/// The place that many bytes on, if it isn't beyond the farthest.
-fn place_behind(place: u64, count: usize) -> Option<u64>
-    ensures value { IfSome result (λ behind. behind ≡ place + count) }
-    ensures within { IsSome result ↔ (place + count ≤ LAST_PLACE) }
-{
-    match place.checked_add(count as u64) {
-        Some(behind) if behind <= LAST_PLACE => Some(behind),
-        _ => None,
-    }
-}
-
-impl<F: Read> Opened<F> {
-    fn read(&mut self, buf: &mut [u8]) -> Result<usize, Failed>
-        ensures bound { IfOk result (λ count. count ≤ length buf.new) }
-        ensures place { IfOk result (λ count. self.new.place ≡ self.old.place + count) }
-        ensures reach { OnOk result (self.new.place ≤ LAST_PLACE) }
-        ensures bytes { GivesRest (F.remaining self.old.file) (F.remaining self.new.file) result buf.new }
-        ensures err { OnErr result (self.new.place ≡ self.old.place) }
-    {
-        let count = self.file.read(buf).map_err(|_| Failed)?;
-        self.place = place_behind(self.place, count).ok_or(Failed)?;
-        Ok(count)
-    }
-}
+const _: () = prove!(LAST_PLACE == 9_223_372_036_854_775_808);
 
 /// Files by their paths, of which one at a time is open. It tells nothing of what they hold. Whatever the
-/// system refuses is a fault, for want of memory too, and so is a read that would carry the place past 2^63.
+/// system refuses is a fault, and so is a read that could carry the place past `LAST_PLACE`.
 ///
-/// Contracts see the place, what the open file will still give where it tells that, how often a name was begun, and the
-/// count of faults.
+/// Contracts see the place, how often a name was begun and the count of faults, and what the access to the files tells:
+/// what a file gives, what the open one will still give, and how often a call was refused.
 #[derive(Drop)]
-pub struct FileShelf<'a, R: Files> {
-    files: &'a R,
-    opened: Option<Opened<R::File>>,
+pub struct FileShelf<A: FileAccess> {
+    access: A,
+    place: Option<u64>,
     begun: u64,
     faults: u64,
 }
 
-impl<'a, R: Files> Model for FileShelf<'a, R> {
-    ghost use Rattle.std.specs.Prelude.{option_map, option_and_then};
+impl<A: FileAccess> Model for FileShelf<A> {
     ghost use Rattle.mono_io.specs.FileShelf.{FileState};
 
     ghost Value = { FileState };
 
-    ghost view = { λ shelf. record { place = option_map (λ o. o.place) shelf.opened; rest = option_and_then (λ o. R.File.remaining o.file) shelf.opened; begun = shelf.begun; faults = shelf.faults } };
+    ghost view = { λ shelf. record {
+      place = shelf.place;
+      begun = shelf.begun;
+      faults = shelf.faults;
+      contents = A.contents shelf.access;
+      rest = A.rest shelf.access;
+      refusals = A.refusals shelf.access;
+    } };
 }
 
-impl<'a, R: Files> FileShelf<'a, R> {
+impl<A: FileAccess> FileShelf<A> {
     /// A shelf over these files, of which none is chosen.
-    pub fn new(files: &'a R) -> Self
-        ensures { result ≡ record { place = None; rest = None; begun = 0; faults = 0 } }
+    pub fn new(access: A) -> Self
+        ensures { result ≡ record { place = None; begun = 0; faults = 0; contents = A.contents access; rest = A.rest access; refusals = A.refusals access } }
     {
         FileShelf {
-            files,
-            opened: None,
+            access,
+            place: None,
             begun: 0,
             faults: 0,
         }
     }
+
+    /// Reads on in the open file, and counts no failure.
+    fn read_on(&mut self, buf: &mut [u8]) -> Result<usize, Failed>
+        ensures bound { IfOk result (λ count. count ≤ length buf.new) }
+        ensures place { self.new.place ≡ advanced (moved result) self.old.place }
+        ensures nothing { self.old.place ≡ None → IsErr result }
+        ensures stays { self.new ≡ record self.new { begun = self.old.begun; faults = self.old.faults; contents = self.old.contents } }
+        ensures rest { ReadConsumes self.old.rest self.new.rest result buf.new }
+        ensures reached { IsSomeAnd self.old.place (λ at. at + length buf.old ≤ LAST_PLACE) → HasToldCause self.old.refusals self.new.refusals result }
+        ensures beyond { ¬ IsSomeAnd self.old.place (λ at. at + length buf.old ≤ LAST_PLACE) → IsErr result × (self.new ≡ self.old) }
+    {
+        let place = self.place.ok_or(Failed)?;
+        if !is_within_reach(place, buf.len()) {
+            return Err(Failed);
+        }
+        let count = self.access.read(buf)?;
+        self.place = Some(place + count as u64);
+        Ok(count)
+    }
 }
 
-impl<'a, R: Files> Shelf for FileShelf<'a, R> {
-    ghost texts = { λ _. None };
+/// Whether so many bytes more stay within the farthest place.
+fn is_within_reach(place: u64, count: usize) -> bool
+    ensures { IsTrue result ↔ (place + count ≤ LAST_PLACE) }
+{
+    place <= LAST_PLACE && count as u64 <= LAST_PLACE - place
+}
 
-    ghost chosen = { λ _. [] };
+impl<A: FileAccess> Shelf for FileShelf<A> {
+    ghost seen = { λ shelf. record { texts = None; chosen = []; place = shelf.place; begun = shelf.begun; faults = shelf.faults; steady = false } };
 
-    ghost place = { λ shelf. shelf.place };
+    ghost steady_tells = { λ shelf steady. absurd (Prim.search rules) };
 
-    ghost faults = { λ shelf. shelf.faults };
+    /// Where the access tells it, what the file gives from then on is the content of that name, and one call was refused
+    /// exactly where this one failed.
+    fn begin(&mut self, name: &str) -> Result<(), Failed>
+        ensures rest { OnOk result (IfSome (told_text self.old.contents name.now) (λ bytes. self.new.rest ≡ Some bytes)) }
+        ensures refusals { HasToldCause self.old.refusals self.new.refusals result }
+        ensures contents { self.new.contents ≡ self.old.contents }
 
-    ghost begun = { λ shelf. shelf.begun };
-
-    ghost steady_tells = { λ shelf steady. absurd steady };
-
-    fn begin(&mut self, name: &str) -> Result<(), Failed> {
+        // What the trait asks, in this shelf's terms.
+        ensures place { OnOk result (self.new.place ≡ Some 0) }
+        ensures nothing { OnErr result (self.new.place ≡ None) }
+        ensures begun { self.new.begun ≡ counted self.old.begun }
+        ensures cause { HasCause self.old.faults self.new.faults result }
+    {
         self.begun = self.begun.saturating_add(1);
-        match File::open(self.files, name) {
-            Ok(file) => {
-                self.opened = Some(Opened { file, place: 0 });
-                Ok(())
-            }
-            Err(_) => {
-                self.opened = None;
-                self.faults = self.faults.saturating_add(1);
-                Err(Failed)
-            }
+        let result = self.access.open(name);
+        if result.is_ok() {
+            self.place = Some(0);
+        } else {
+            self.place = None;
+            self.faults = self.faults.saturating_add(1);
         }
+        result
     }
 
+    /// Where the access tells it, the bytes are the next ones of the file, a read that fails loses none, and one call was
+    /// refused exactly where this one failed. A read with nothing chosen, and one that could pass the farthest place,
+    /// fails and changes nothing else.
     fn read(&mut self, buf: &mut [u8]) -> Result<usize, Failed>
-        ensures rest { GivesRest self.old.rest self.new.rest result buf.new }
-        ensures reach { OnOk result (IfSome self.new.place (λ place. place ≤ LAST_PLACE)) }
+        ensures rest { ReadConsumes self.old.rest self.new.rest result buf.new }
+        ensures reached { IsSomeAnd self.old.place (λ at. at + length buf.old ≤ LAST_PLACE) → HasToldCause self.old.refusals self.new.refusals result }
+        ensures beyond { ¬ IsSomeAnd self.old.place (λ at. at + length buf.old ≤ LAST_PLACE) → IsErr result × (self.new ≡ record self.old { faults = counted self.old.faults }) }
+        ensures contents { self.new.contents ≡ self.old.contents }
 
         // What the trait asks, in this shelf's terms.
         ensures bound { IfOk result (λ count. count ≤ length buf.new) }
@@ -119,12 +126,8 @@ impl<'a, R: Files> Shelf for FileShelf<'a, R> {
         ensures nothing { self.old.place ≡ None → IsErr result }
         ensures begun { self.new.begun ≡ self.old.begun }
         ensures cause { HasCause self.old.faults self.new.faults result }
-        ensures sure { ⊥ → IsSome self.old.place → IsOk result }
     {
-        let result = match &mut self.opened {
-            Some(opened) => opened.read(buf),
-            None => Err(Failed),
-        };
+        let result = self.read_on(buf);
         if result.is_err() {
             self.faults = self.faults.saturating_add(1);
         }

@@ -6,12 +6,14 @@
 //! - `writing`: all of a text written, over any sink
 //! - `memory_shelf`, `text_table`: texts in memory
 //! - `memory_sink`: bytes in memory
+//! - `worked`: rows that were worked by hand
 //! - `fault_plan`: which calls of the two in memory are to fail
-//! - `file_shelf`, `std_sink`: the files of the system and the standard output
+//! - `file_shelf`, `file_access`, `std_sink`: the files of the system and the standard output
 #![tactic(auto)]
 
 mod failed;
 mod fault_plan;
+mod file_access;
 mod file_shelf;
 mod memory_shelf;
 mod memory_sink;
@@ -21,13 +23,16 @@ mod shelf;
 mod sink;
 mod std_sink;
 mod text_table;
+/// Rows that were worked by hand, as the definitions compute them.
+pub mod worked;
 mod writing;
 
 pub use failed::Failed;
-pub use file_shelf::FileShelf;
+pub use file_access::{FileAccess, SystemFiles};
+pub use file_shelf::{FileShelf, LAST_PLACE};
 pub use memory_shelf::MemoryShelf;
 pub use memory_sink::MemorySink;
-pub use reading::read_whole;
+pub use reading::{GREATEST_LIMIT, read_whole};
 pub use refusal::ReadRefusal;
 pub use shelf::Shelf;
 pub use sink::Sink;

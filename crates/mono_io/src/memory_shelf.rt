@@ -1,8 +1,8 @@
 //! A shelf in memory, whose calls can be made to fail.
-ghost use Rattle.std.specs.Prelude.{◌≡◌, ◌≤◌, ◌+◌, ◌-◌, ◌^◌, ◌↔◌, [], ◌∷◌, ◌++◌, Some, None, IsSome, IsOk, IsErr, IsFalse, IfOk, OnOk, OnErr, length, take, drop, min, refl};
+ghost use Rattle.std.specs.Prelude.{◌≡◌, ◌≤◌, ◌+◌, ◌-◌, ◌^◌, ◌↔◌, [], ◌∷◌, ◌++◌, Some, None, IsSome, IsOk, IsTrue, IsFalse, IfOk, OnOk, OnErr, length, take, drop, min, refl};
 ghost use Rattle.mono_io.specs.Faults.{counted};
-ghost use Rattle.mono_io.specs.FaultPlan.{next_is_listed, succeeded, failed, IsOver};
-ghost use Rattle.mono_io.specs.Shelf.{text_named, told_text, moved, advanced, ReadsNext};
+ghost use Rattle.mono_io.specs.FaultPlan.{next_is_listed, succeeded, failed, is_over};
+ghost use Rattle.mono_io.specs.Shelf.{text_named, told_text, Lacks, moved, advanced, ReadsNext};
 ghost use Rattle.mono_io.specs.Texts.{Puts};
 ghost use Rattle.mono_io.specs.MemoryShelf.{left_to_read};
 
@@ -94,17 +94,14 @@ impl MemoryShelf {
 }
 
 impl Shelf for MemoryShelf {
-    ghost texts = { λ shelf. Some shelf.texts };
-
-    ghost chosen = { λ shelf. shelf.chosen };
-
-    ghost place = { λ shelf. shelf.place };
-
-    ghost faults = { λ shelf. shelf.plan.faults };
-
-    ghost begun = { λ shelf. shelf.begun };
-
-    ghost is_steady = { λ shelf. IsOver shelf.plan };
+    ghost seen = { λ shelf. record {
+      texts = Some shelf.texts;
+      chosen = shelf.chosen;
+      place = shelf.place;
+      begun = shelf.begun;
+      faults = shelf.plan.faults;
+      steady = is_over shelf.plan;
+    } };
 
     ghost steady_tells = { λ shelf steady. refl };
 
@@ -113,8 +110,8 @@ impl Shelf for MemoryShelf {
         ensures answer { IsOk result ↔ (IsFalse (next_is_listed self.old.plan) × IsSome (text_named name.now self.old.texts)) }
         ensures ok { OnOk result (self.new ≡ record self.old { chosen = name.now; place = Some 0; begun = counted self.old.begun; plan = succeeded self.old.plan }) }
         ensures err { OnErr result (self.new ≡ record self.old { chosen = []; place = None; begun = counted self.old.begun; plan = failed self.old.plan }) }
-        ensures steady { IsOver self.old.plan → IsOver self.new.plan }
-        ensures sure { IsOver self.old.plan → IsSome (told_text (Some self.old.texts) name.now) → IsOk result }
+        ensures steady { IsTrue (is_over self.old.plan) → IsTrue (is_over self.new.plan) }
+        ensures sure { OnErr result (IsTrue (is_over self.old.plan) → Lacks (Some self.old.texts) name.now) }
     {
         self.begun = self.begun.saturating_add(1);
         self.chosen = None;
@@ -137,8 +134,8 @@ impl Shelf for MemoryShelf {
         ensures ok { OnOk result (self.new ≡ record self.old { place = advanced (moved result) self.old.place; plan = succeeded self.old.plan }) }
         ensures err { OnErr result (self.new ≡ record self.old { plan = failed self.old.plan }) }
         ensures bytes { ReadsNext (told_text (Some self.old.texts) self.old.chosen) self.old.place buf.new result }
-        ensures steady { IsOver self.old.plan → IsOver self.new.plan }
-        ensures sure { IsOver self.old.plan → IsSome self.old.place → IsOk result }
+        ensures steady { IsTrue (is_over self.old.plan) → IsTrue (is_over self.new.plan) }
+        ensures sure { OnErr result (IsTrue (is_over self.old.plan) → self.old.place ≡ None) }
     {
         let is_listed = self.plan.count_call();
         match self.chosen {

@@ -1,46 +1,61 @@
-//! A sink over the standard output. What reaches it, no contract can say.
-ghost use Rattle.std.specs.Prelude.{◌≡◌, None};
+//! A sink over a writer, as the standard output is one. What reaches a real output, no contract can say.
+ghost use Rattle.std.specs.Prelude.{◌≡◌, ◌<◌, ◌≤◌, ℕ, List, Option, None, Ok, IfOk, length, take};
+ghost use Rattle.std.specs.Io.KnownBytes.{WriteAppends, append_known};
+ghost use Rattle.mono_io.specs.Faults.{HasCause};
+ghost use Rattle.mono_io.specs.Shelf.{moved};
 
 use crate::{Failed, Sink};
+use std::io::Write;
 use std::marker::Model;
 
-/// The standard output. It tells nothing of what was written. Whatever the system refuses is a fault, and so is
-/// a write that takes nothing.
+/// A writer, as `std::io::writer` makes one of the standard output. As a sink it tells nothing of what was written.
+/// Whatever the writer refuses is a fault, and so is a write that takes nothing.
 ///
-/// Contracts see the count of faults.
+/// Contracts see what the writer holds, where it tells that, and the count of faults.
 #[derive(Drop)]
-pub struct StdSink<'a, P: Print> {
-    out: &'a P,
+pub struct StdSink<W: Write + Drop> {
+    out: W,
     faults: u64,
 }
 
-impl<'a, P: Print> Model for StdSink<'a, P> {
-    ghost use Rattle.std.specs.Prelude.{ℕ};
+impl<W: Write + Drop> Model for StdSink<W> {
+    ghost use Rattle.mono_io.specs.StdSink.{WriterState};
 
-    ghost Value = { ℕ };
+    ghost Value = { WriterState };
 
-    ghost view = { λ sink. sink.faults };
+    ghost view = { λ sink. record { contents = W.contents sink.out; faults = sink.faults } };
 }
 
-impl<'a, P: Print> StdSink<'a, P> {
-    /// A sink over this standard output.
-    pub fn new(out: &'a P) -> Self
-        ensures { result ≡ 0 }
+impl<W: Write + Drop> StdSink<W> {
+    /// A sink over this writer.
+    pub fn new(out: W) -> Self
+        ensures { result ≡ record { contents = W.contents out; faults = 0 } }
     {
         StdSink { out, faults: 0 }
     }
 }
 
-impl<'a, P: Print> Sink for StdSink<'a, P> {
+impl<W: Write + Drop> Sink for StdSink<W> {
     ghost written = { λ _. None };
 
-    ghost faults = { λ sink. sink };
+    ghost faults = { λ sink. sink.faults };
 
-    fn write(&mut self, bytes: &[u8]) -> Result<usize, Failed> {
+    /// Where the writer tells what it holds, exactly the bytes that were taken are appended, and none by a write that
+    /// fails.
+    fn write(&mut self, bytes: &[u8]) -> Result<usize, Failed>
+        ensures contents { WriteAppends self.old.contents self.new.contents result bytes.now }
+
+        // What the trait asks, in this sink's terms.
+        ensures bound { IfOk result (λ count. count ≤ length bytes.now) }
+        ensures progress { IfOk result (λ count. 0 < length bytes.now → 0 < count) }
+        ensures empty { length bytes.now ≡ 0 → result ≡ Ok 0 }
+        ensures written { ◌≡◌ {A = Option (List ℕ)} None (append_known None (take (moved result) bytes.now)) }
+        ensures cause { HasCause self.old.faults self.new.faults result }
+    {
         if bytes.is_empty() {
             return Ok(0);
         }
-        match self.out.write_some(bytes) {
+        match self.out.write(bytes) {
             Ok(count) if count > 0 => Ok(count),
             _ => {
                 self.faults = self.faults.saturating_add(1);

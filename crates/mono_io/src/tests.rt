@@ -1,13 +1,13 @@
 ghost use Rattle.std.specs.Prelude.{◌≤◌};
 
 use crate::{
-    Failed, FileShelf, MemoryShelf, MemorySink, ReadRefusal, Shelf, Sink, StdSink, read_whole,
-    write_whole,
+    Failed, FileShelf, MemoryShelf, MemorySink, ReadRefusal, Shelf, Sink, StdSink, SystemFiles,
+    read_whole, write_whole,
 };
 use std::alloc::{AllocError, Global};
-use std::fs;
 use std::process::Abort;
 use std::test::Fail;
+use std::{fs, io};
 
 const DIGITS: &[u8] = b"0123456789";
 
@@ -158,7 +158,7 @@ fn files_are_read(rt: HostRuntime) -> Result<(), Fail> {
     fs::write(&rt, "long", text.as_slice())?;
     fs::write(&rt, "empty", "")?;
     fs::create_dir_all(&rt, "folder")?;
-    let mut shelf = FileShelf::new(&rt);
+    let mut shelf = FileShelf::new(SystemFiles::new(&rt));
     let mut buffer = [0u8; 4];
     assert_eq!(rt; shelf.read(&mut buffer), Err(Failed));
     expect_read(&rt, alloc, &mut shelf, "long", &text)?;
@@ -182,7 +182,7 @@ fn files_are_read(rt: HostRuntime) -> Result<(), Fail> {
 
 #[test]
 fn the_standard_output_is_written(rt: HostRuntime) {
-    let mut sink = StdSink::new(&rt);
+    let mut sink = StdSink::new(io::writer(&rt));
     assert_eq!(rt; sink.write(b""), Ok(0));
     assert_eq!(rt; write_whole(&mut sink, b"ten digits: 0123456789\n"), Ok(()));
 }

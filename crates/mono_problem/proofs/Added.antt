@@ -1,5 +1,5 @@
 -- A problem with one more edge, numbered behind the others, is a problem still.
-use Rattle.std.proofs.Common.{◌≡◌, ◌≢◌, ℕ, ◌+◌, ◌<◌, ◌≤◌, ◌^◌, ◌==◌, true, false, List, [], ◌∷◌, ◌++◌, length, get_or, set, All, arith, refl, subst, sym, ap, ◌∙◌, length-append, inl, inr, Some, position, map, cond, max, IsTrue, length-set}
+use Rattle.std.proofs.Common.{◌≡◌, ◌≢◌, ℕ, ◌+◌, ◌<◌, ◌≤◌, ◌==◌, true, false, List, [], ◌∷◌, ◌++◌, length, get_or, set, All, arith, refl, subst, sym, ap, ◌∙◌, length-append, inl, inr, Some, position, map, cond, max, IsTrue, length-set}
 use Rattle.std.specs.Prelude.{count_by, slice_index, slice_index_or}
 use Rattle.std.specs.List.{list_any}
 use Rattle.std.proofs.Math.ListN.{get_or-append}
@@ -9,14 +9,16 @@ use Rattle.std.proofs.lemmas.List.Sums.{sum_by_push, sum_by-set, sum_by-cons, ge
 use Rattle.std.proofs.lemmas.List.Folds.{list_any-append}
 use Rattle.std.proofs.lemmas.List.Elements.{All-weaker, All-push, All-set, All-get_or, All-head, All-tail}
 use Rattle.std.proofs.lemmas.Bool.{cases_lt, cases_eq, eq-eqb, ne_eqb, or_left, or_right}
+use Rattle.mono_base.specs.declared.limits.TheConstants.{MAX_EDGES, MAX_VARS, MAX_WEIGHT}
 use Rattle.mono_graph.specs.Digraph.{Digraph, IsGraph}
 use Rattle.mono_graph.specs.declared.edge.Edge.{Edge}
 use Rattle.mono_problem.specs.declared.atom.Atom.{Atom}
 use Rattle.mono_problem.specs.declared.atom.Predicate.{Predicate}
 use Rattle.mono_problem.specs.declared.atom.Predicate.TheVariants as kind
 use Rattle.mono_problem.specs.Instance.{Instance, no_graph, graph_at, identity_at, place_named, edges_total, has_number}
-use Rattle.mono_problem.specs.WellFormed.{IsInstance, IsDeclared, IsAtomAt, IsOver, IsLitWithin, count_numbered}
-use Rattle.mono_problem.specs.Growth.{with_edge, graph_with}
+use Rattle.mono_base.specs.Literal.{IsLitWithin}
+use Rattle.mono_problem.specs.WellFormed.{IsInstance, IsDeclared, IsAtomAt, IsOver, count_numbered}
+use Rattle.mono_problem.specs.Growth.{graph_with, with_edge}
 use Rattle.mono_problem.specs.Kept.{AreHomes}
 use Rattle.mono_problem.proofs.Wider.{IsDeclared-wider, AreWithin-wider}
 use Rattle.mono_graph.proofs.GraphGrown.{IsGraph-with_edge}
@@ -62,10 +64,10 @@ pub record IsNext (p : Instance) (k : ℕ) (e : Edge) : Type 0 where
   pub from : e.from < (graph_at p k).nodes
   pub to : e.to < (graph_at p k).nodes
   pub low : 0 < e.var
-  pub high : e.var ≤ 1000000
-  pub weight : e.weight < 2 ^ 32
+  pub high : e.var ≤ MAX_VARS
+  pub weight : e.weight ≤ MAX_WEIGHT
   pub number : e.number ≡ edges_total p + 1
-  pub room : edges_total p < 1000000
+  pub room : edges_total p < MAX_EDGES
 
 module _ (p : Instance) (k : ℕ) (e : Edge) (h : IsInstance p) (next : IsNext p k e) where
   -- the graph at another place is as it was, and the one at the place has the edge
@@ -90,7 +92,7 @@ module _ (p : Instance) (k : ℕ) (e : Edge) (h : IsInstance p) (next : IsNext p
   same_names : map (λ (g : ℕ × Digraph). g.0) (with_edge p k e).graphs ≡ map (λ (g : ℕ × Digraph). g.0) p.graphs
   same_names = map-set_same (λ (g : ℕ × Digraph). g.0) p.graphs k (graph_with (get_or p.graphs k no_graph) e) no_graph refl
 
-  identities : (j : ℕ) → j < length (with_edge p k e).graphs → place_named (with_edge p k e) (identity_at (with_edge p k e) j) ≡ Some j
+  identities : (j : ℕ) → j < length (with_edge p k e).graphs → place_named (with_edge p k e).graphs (identity_at (with_edge p k e) j) ≡ Some j
   identities j low =
       let held : j < length p.graphs = omega (arith, length-set p.graphs k (graph_with (get_or p.graphs k no_graph) e)) in
       let base = h.identities j held in
@@ -112,9 +114,9 @@ module _ (p : Instance) (k : ℕ) (e : Edge) (h : IsInstance p) (next : IsNext p
     to = next.to;
     room = omega (arith, few_at, next.room);
     rising = All-weaker (λ (f : Edge). (f.var ≤ p.vars) × (f.number ≤ edges_total p)) (λ (f : Edge). f.number < e.number) (λ f q. omega (arith, q.1, next.number)) (slice_index_or p.graphs k no_graph).1.edges declared_at.within;
-    number = (omega (arith, next.number), omega (arith, next.number, next.room));
+    number = omega (arith, next.number);
     var = (omega (arith, next.low), omega (arith, next.high));
-    weight = next.weight;
+    weight = omega (arith, next.weight);
   })
 
   declared : All (IsDeclared (max p.vars e.var) (edges_total (with_edge p k e))) (with_edge p k e).graphs

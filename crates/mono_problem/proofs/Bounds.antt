@@ -4,7 +4,8 @@ use Rattle.std.specs.Prelude.{IsTrue}
 use Rattle.std.proofs.lemmas.Bool.{cases_Bool, both_ways, not-true, not_from_false, false_from_ne_true}
 use Rattle.std.proofs.lemmas.List.Elements.{All-from_get_or}
 use Rattle.mono_base.specs.Partial.{Extends, is_true_in, is_false_in, is_open_in}
-use Rattle.mono_base.proofs.Truth.{pos_true, neg_true}
+use Rattle.mono_base.specs.Literal.{lit_true}
+use Rattle.mono_base.proofs.Truth.{at_each, pos_true, neg_true}
 use Rattle.mono_graph.specs.declared.edge.Edge.{Edge}
 use Rattle.mono_graph.specs.Digraph.{Digraph, IsGraph, IsSubpart, enabled, part_by, present, edge_at, no_edge}
 use Rattle.mono_graph.proofs.Parts.{in_part_by, part_by-has, length-part_by}
@@ -15,10 +16,10 @@ use Rattle.mono_problem.specs.Quiet.{under, over}
 
 -- a variable that is true in the list, and one that is false there
 pub true_by_list : (a : ℕ → Bool) (t : List ℤ) (x : ℕ) → Extends a t → 0 < x → IsTrue (is_true_in t (pos x)) → IsTrue (a x)
-true_by_list a t x e p h = sym (pos_true a x p) ∙ e (pos x) h
+true_by_list a t x e p h = sym (pos_true a x p) ∙ at_each (lit_true a) t e (pos x) h
 
 pub false_by_list : (a : ℕ → Bool) (t : List ℤ) (x : ℕ) → Extends a t → 0 < x → IsTrue (is_false_in t (pos x)) → a x ≡ false
-false_by_list a t x e p h = not-true (a x) (sym (neg_true a x p) ∙ e (neg_ℤ (pos x)) h)
+false_by_list a t x e p h = not-true (a x) (sym (neg_true a x p) ∙ at_each (lit_true a) t e (neg_ℤ (pos x)) h)
 
 -- a variable with a value in the list is true or false there
 pub decided : (t : List ℤ) (l : ℤ) → is_open_in t l ≡ false → is_true_in t l ≡ false → IsTrue (is_false_in t l)

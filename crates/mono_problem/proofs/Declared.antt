@@ -9,6 +9,7 @@ use Rattle.std.proofs.lemmas.List.Folds.{position_or_len_push}
 use Rattle.std.proofs.lemmas.List.Sums.{prefix_len-le-length}
 use Rattle.std.proofs.lemmas.List.Elements.{All-weaker, All-push, All-nil}
 use Rattle.std.proofs.lemmas.Bool.{cases_lt, eq-eqb, ne_eqb, ltb-true, ltb-false, lt-ltb}
+use Rattle.mono_base.specs.declared.limits.TheConstants.{MAX_GRAPHS, MAX_NODES, MAX_VARS, MAX_WEIGHT}
 use Rattle.mono_graph.specs.Digraph.{Digraph, IsGraph}
 use Rattle.mono_graph.specs.declared.edge.Edge.{Edge}
 use Rattle.mono_problem.specs.declared.atom.Atom.{Atom}
@@ -65,16 +66,16 @@ length-names [] = refl
 length-names (f ∷ fs) = ap suc (length-names fs)
 
 -- a graph with no edges
-no_edges : (n : ℕ) → 0 < n → n ≤ 1000000 → IsGraph (record { nodes = n; edges = [] })
+no_edges : (n : ℕ) → 0 < n → n ≤ MAX_NODES → IsGraph (record { nodes = n; edges = [] })
 no_edges n some few = record {
   some_node = omega arith;
   few_nodes = few;
   few_edges = omega arith;
   ends = All-nil (λ (e : Edge). (e.from < n) × (e.to < n));
   rising = λ i j a b. absurd (omega arith);
-  numbers = All-nil (λ (e : Edge). (1 ≤ e.number) × (e.number ≤ 1000000));
-  vars = All-nil (λ (e : Edge). (1 ≤ e.var) × (e.var ≤ 1000000));
-  weights = All-nil (λ (e : Edge). e.weight < 2 ^ 32);
+  numbers = All-nil (λ (e : Edge). 1 ≤ e.number);
+  vars = All-nil (λ (e : Edge). (1 ≤ e.var) × (e.var ≤ MAX_VARS));
+  weights = All-nil (λ (e : Edge). e.weight ≤ MAX_WEIGHT);
 }
 
 -- the number i is first at the place k
@@ -92,7 +93,7 @@ module _ (p : Instance) (id n : ℕ) (h : IsInstance p) where
   names_of : List ℕ
   names_of = map (λ (g : ℕ × Digraph). g.0) p.graphs
 
-  identities : place_named p id ≡ None → (k : ℕ) → k < length (with_graph p id n).graphs → place_named (with_graph p id n) (identity_at (with_graph p id n) k) ≡ Some k
+  identities : place_named p.graphs id ≡ None → (k : ℕ) → k < length (with_graph p id n).graphs → place_named (with_graph p id n).graphs (identity_at (with_graph p id n) k) ≡ Some k
   identities new k low =
       let all = names-append p.graphs (id, record { nodes = n; edges = [] }) in
       let Q : ℕ → List ℕ → Type 0 = λ i names. IsFirstAt i names k in
@@ -111,7 +112,7 @@ module _ (p : Instance) (id n : ℕ) (h : IsInstance p) where
   same_edges : edges_total (with_graph p id n) ≡ edges_total p
   same_edges = sum_by_push (λ (g : ℕ × Digraph). length g.1.edges) p.graphs (id, record { nodes = n; edges = [] }) ∙ omega arith
 
-  declared : id < 2 ^ 32 → 0 < n → nodes_total p + n ≤ 1000000 → All (IsDeclared p.vars (edges_total (with_graph p id n))) (with_graph p id n).graphs
+  declared : id < 2 ^ 32 → 0 < n → nodes_total p + n ≤ MAX_NODES → All (IsDeclared p.vars (edges_total (with_graph p id n))) (with_graph p id n).graphs
   declared id_low some few =
       let g : ℕ × Digraph = (id, record { nodes = n; edges = [] }) in
       All-push (IsDeclared p.vars (edges_total (with_graph p id n))) p.graphs (id, record { nodes = n; edges = [] })
@@ -130,7 +131,7 @@ module _ (p : Instance) (id n : ℕ) (h : IsInstance p) where
         high = x.high;
       }
 
-  pub IsInstance-graph : place_named p id ≡ None → id < 2 ^ 32 → 0 < n → nodes_total p + n ≤ 1000000 → length p.graphs < 1024 → IsInstance (with_graph p id n)
+  pub IsInstance-graph : place_named p.graphs id ≡ None → id < 2 ^ 32 → 0 < n → nodes_total p + n ≤ MAX_NODES → length p.graphs < MAX_GRAPHS → IsInstance (with_graph p id n)
   IsInstance-graph new id_low some few room = record {
     vars = h.vars;
     few_graphs = omega (arith, length-append p.graphs ((id, record { nodes = n; edges = [] }) ∷ []));

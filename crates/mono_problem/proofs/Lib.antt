@@ -9,3 +9,5 @@ pub mod AllUses
 pub mod Bounds
 pub mod Monotone
 pub mod QuietAtoms
+pub mod EdgeUses
+pub mod Homes

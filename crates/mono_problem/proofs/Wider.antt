@@ -6,11 +6,13 @@ use Rattle.std.proofs.lemmas.List.{get_or_push}
 use Rattle.std.proofs.lemmas.List.Sums.{sum_by_push}
 use Rattle.std.proofs.lemmas.List.Elements.{All-weaker, All-push}
 use Rattle.std.proofs.lemmas.Bool.{cases_lt as less_or_not}
+use Rattle.mono_base.specs.declared.limits.TheConstants.{MAX_ATOMS, MAX_CLAUSES, MAX_LITERALS, MAX_VARS}
 use Rattle.mono_graph.specs.Digraph.{Digraph}
 use Rattle.mono_graph.specs.declared.edge.Edge.{Edge}
 use Rattle.mono_problem.specs.declared.atom.Atom.{Atom}
 use Rattle.mono_problem.specs.Instance.{Instance, literals_total}
-use Rattle.mono_problem.specs.WellFormed.{IsInstance, IsDeclared, IsAtomAt, IsLitWithin}
+use Rattle.mono_base.specs.Literal.{IsLitWithin}
+use Rattle.mono_problem.specs.WellFormed.{IsInstance, IsDeclared, IsAtomAt}
 
 pub IsLitWithin-wider : (v w : ℕ) → v ≤ w → (l : ℤ) → IsLitWithin v l → IsLitWithin w l
 IsLitWithin-wider v w up l h = (h.0, omega (arith, h.1))
@@ -26,7 +28,7 @@ IsDeclared-wider v w m n up more g h = record {
 }
 
 -- more variables
-pub IsInstance-wider : (p : Instance) (w : ℕ) → p.vars ≤ w → w ≤ 1000000 → IsInstance p → IsInstance (record p { vars = w })
+pub IsInstance-wider : (p : Instance) (w : ℕ) → p.vars ≤ w → w ≤ MAX_VARS → IsInstance p → IsInstance (record p { vars = w })
 IsInstance-wider p w up high h = record {
   vars = high;
   few_graphs = h.few_graphs;
@@ -43,7 +45,7 @@ IsInstance-wider p w up high h = record {
 }
 
 -- one more clause
-pub IsInstance-clause : (p : Instance) (c : List ℤ) → IsInstance p → length p.clauses < 8000000 → literals_total p + length c ≤ 16000000 → All (IsLitWithin p.vars) c → IsInstance (record p { clauses = p.clauses ++ c ∷ [] })
+pub IsInstance-clause : (p : Instance) (c : List ℤ) → IsInstance p → length p.clauses < MAX_CLAUSES → literals_total p + length c ≤ MAX_LITERALS → All (IsLitWithin p.vars) c → IsInstance (record p { clauses = p.clauses ++ c ∷ [] })
 IsInstance-clause p c h room lits within = record {
   vars = h.vars;
   few_graphs = h.few_graphs;
@@ -70,7 +72,7 @@ atom_kept p x h here k d low =
           subst P (sym (get_or_push p.atoms x d k at)) (let Q : ℕ → Type 0 = λ j. IsAtomAt p j x in subst Q at here)
     ]
 
-pub IsInstance-atom : (p : Instance) (x : Atom) → IsInstance p → length p.atoms < 100000 → IsAtomAt p (length p.atoms) x → IsInstance (record p { atoms = p.atoms ++ x ∷ [] })
+pub IsInstance-atom : (p : Instance) (x : Atom) → IsInstance p → length p.atoms < MAX_ATOMS → IsAtomAt p (length p.atoms) x → IsInstance (record p { atoms = p.atoms ++ x ∷ [] })
 IsInstance-atom p x h room here = record {
   vars = h.vars;
   few_graphs = h.few_graphs;

@@ -1,7 +1,7 @@
 -- How a problem grows, one part at a time.
 use Rattle.std.specs.Prelude.{ℕ, max, ℤ, nat_abs, List, [], ◌∷◌, ◌++◌, fold, slice_index_or, slice_set}
 use Rattle.mono_graph.specs.declared.edge.Edge.{Edge}
-use Rattle.mono_graph.specs.Digraph.{Digraph}
+use Rattle.mono_graph.specs.Digraph.{Digraph, with_edge as longer}
 use Rattle.mono_problem.specs.declared.atom.Atom.{Atom}
 use Rattle.mono_problem.specs.Instance.{Instance, no_graph}
 
@@ -19,7 +19,7 @@ with_graph p id n = record p { graphs = p.graphs ++ (id, record { nodes = n; edg
 
 -- a graph with one more edge, beside its identity
 abbrev pub graph_with : ℕ × Digraph → Edge → ℕ × Digraph
-graph_with g e = (g.0, record g.1 { edges = g.1.edges ++ e ∷ [] })
+graph_with g e = (g.0, longer g.1 e)
 
 -- one more edge of the graph at the place
 abbrev pub with_edge : Instance → ℕ → Edge → Instance

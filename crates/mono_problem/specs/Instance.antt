@@ -23,9 +23,9 @@ graph_at p k = (slice_index_or p.graphs k no_graph).1
 abbrev pub identity_at : Instance → ℕ → ℕ
 identity_at p k = (slice_index_or p.graphs k no_graph).0
 
--- the place of the graph with this identity
-abbrev pub place_named : Instance → ℕ → Option ℕ
-place_named p id = position (λ k. id == k) (map (λ g. g.0) p.graphs)
+-- the place of the first item that stands with this identity
+abbrev pub place_named : {A : Type 0} → List (ℕ × A) → ℕ → Option ℕ
+place_named items id = position (λ k. id == k) (map (λ x. x.0) items)
 
 -- the item of a number, from 1, if there is one
 abbrev pub numbered : {A : Type 0} → List A → ℕ → Option A

@@ -17,10 +17,18 @@ over g t = part_by (λ e. not (is_false_in t (pos e.var))) g
 abbrev pub Forces : Digraph → Atom → List ℤ → ℤ → Type 0
 Forces g x t l = ((l ≡ pos x.var) × Holds g (under g t) x.predicate) ⊎ ((l ≡ neg_ℤ (pos x.var)) × ¬ Holds g (over g t) x.predicate)
 
+-- each literal that the atom forces is true in the list
+abbrev pub HasForcedTrue : Digraph → List ℤ → Atom → Type 0
+HasForcedTrue g t x = (l : ℤ) → Forces g x t l → IsTrue (is_true_in t l)
+
 -- the atom forces nothing that the list doesn't say: its variable is true in the list where its predicate holds with the edges
 -- that are surely present, and its predicate holds with those that are possibly present where its variable isn't false
 abbrev pub IsQuietAtom : Digraph → List ℤ → Atom → Type 0
 IsQuietAtom g t x = (Holds g (under g t) x.predicate → IsTrue (is_true_in t (pos x.var))) × (is_false_in t (pos x.var) ≡ false → Holds g (over g t) x.predicate)
+
+-- the same, where of the predicate with the possibly present edges no more is said than that it doesn't fail
+abbrev pub IsNearlyQuiet : Digraph → List ℤ → Atom → Type 0
+IsNearlyQuiet g t x = (Holds g (under g t) x.predicate → IsTrue (is_true_in t (pos x.var))) × (is_false_in t (pos x.var) ≡ false → ¬ ¬ Holds g (over g t) x.predicate)
 
 -- no atom forces anything that the list doesn't say
 abbrev pub TheoryQuiet : Digraph → List Atom → List ℤ → Type 0

@@ -1,6 +1,6 @@
 -- What a variable switches or stands for.
-use Rattle.std.specs.Prelude.{◌≡◌, ◌<◌, ◌≤◌, ℕ, slice_index, slice_index_or, ◌==◌, if◌then◌else◌, List, [], ◌∷◌, ◌++◌, length, map, filter, flat_map}
-use Rattle.std.specs.List.{range_with_len}
+use Rattle.std.specs.Prelude.{◌≡◌, ◌<◌, ◌≤◌, ℕ, Bool, false, ◌&&◌, slice_index, slice_index_or, ◌==◌, if◌then◌else◌, List, [], ◌∷◌, ◌++◌, length, map, filter, flat_map}
+use Rattle.std.specs.List.{list_any, range_with_len}
 use Rattle.mono_graph.specs.Digraph.{Digraph, edge_at}
 use Rattle.mono_problem.specs.declared.atom.Atom.{Atom}
 use Rattle.mono_problem.specs.declared.uses.Use.{Use}
@@ -32,6 +32,14 @@ picked x us = map (λ u. u.at) (filter (λ u. u.var == x) us)
 
 abbrev pub uses_of : Instance → ℕ → List Use
 uses_of p x = picked x (all_uses p)
+
+-- a use is that of the edge at the place j of the graph at the place k; some use of a list is
+abbrev pub is_edge_use : ℕ → ℕ → Use → Bool
+is_edge_use k j (use_of.Edge g e) = g == k && e == j
+is_edge_use k j (use_of.Atom n) = false
+
+abbrev pub has_edge_use : ℕ → ℕ → List Use → Bool
+has_edge_use k j us = list_any (is_edge_use k j) us
 
 -- the same of two lists side by side, the variables and their uses
 abbrev pub chosen : ℕ → List ℕ → List Use → List Use

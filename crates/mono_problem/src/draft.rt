@@ -5,9 +5,10 @@
 
 ghost use Rattle.std.specs.Prelude.{◌≡◌, ◌<◌, ◌≤◌, ◌+◌, ◌^◌, length, IfOk, OnErr, OnOk, IfSome, None, All, slice_index_or, slice_set, ◌++◌, map};
 ghost use Rattle.mono_problem.specs.Instance.{no_graph, graph_at, place_named, nodes_total, edges_total, literals_total, totals_of};
-ghost use Rattle.mono_problem.specs.WellFormed.{IsInstance, IsOver, IsLitWithin};
+ghost use Rattle.mono_base.specs.Literal.{IsLitWithin};
+ghost use Rattle.mono_problem.specs.WellFormed.{IsInstance, IsOver};
 ghost use Rattle.mono_problem.specs.Growth.{nothing, raised, with_graph, with_edge, with_atom, with_clause, graph_with, greatest_var as greatest_of};
-ghost use Rattle.mono_graph.proofs.GraphGrown.{IsNewEdge};
+ghost use Rattle.mono_graph.specs.Digraph.{IsNewEdge};
 ghost use Rattle.mono_problem.specs.Uses.{graph_uses, atom_use, edges_used as uses_of_edges};
 
 use crate::clause_list::ClauseList;
@@ -15,6 +16,9 @@ use crate::uses::{Use, UseTable, VarUse};
 use crate::{Atom, Predicate, Problem, Totals};
 use indexmap::IndexMap;
 use mono_base::Lit;
+use mono_base::limits::{
+    MAX_ATOMS, MAX_CLAUSES, MAX_EDGES, MAX_GRAPHS, MAX_LITERALS, MAX_NODES, MAX_VARS, MAX_WEIGHT,
+};
 use mono_graph::{Edge, EdgeRefusal, Graph};
 use std::alloc::{AllocError, Global};
 use std::marker::Model;
@@ -38,19 +42,19 @@ impl Model for Draft {
 
     ghost Value = { Instance };
 
-    ghost use Rattle.mono_problem.specs.Kept.{draft_of, IsDraft};
+    ghost use Rattle.mono_problem.specs.Kept.{IsDraft};
 
-    ghost view = { draft_of };
+    ghost view = { λ d. record { vars = d.var_count; graphs = d.graphs.entries; atoms = d.atoms.items; clauses = d.clauses } };
 
-    ghost invariant = { IsDraft };
+    ghost invariant = { λ d. IsDraft (record { vars = d.var_count; graphs = d.graphs.entries; atoms = d.atoms.items; clauses = d.clauses }) d.node_count d.homes.items };
 }
 
 // The greatest variable of the literals, or `vars` where it is greater.
 fn greatest_var(vars: u32, lits: &[Lit]) -> u32
-    requires { vars ≤ 1000000 }
+    requires { vars ≤ MAX_VARS }
     ensures value { result ≡ greatest_of vars lits.now }
     ensures low { vars ≤ result }
-    ensures high { result ≤ 1000000 }
+    ensures high { result ≤ MAX_VARS }
     ensures within { All (IsLitWithin result) lits.now }
 {
     let mut most = vars;
@@ -106,7 +110,7 @@ fn held_at(graphs: &IndexMap<u32, Graph>, place: usize) -> &Graph
 
 // The uses of all edges, graph after graph.
 fn edges_used(alloc: Global, graphs: &IndexMap<u32, Graph>) -> Result<Vec<VarUse>, AllocError>
-    requires { length graphs.now.entries ≤ 1024 }
+    requires { length graphs.now.entries ≤ MAX_GRAPHS }
     ensures { IfOk result (λ all. all.items ≡ uses_of_edges graphs.now.entries (length graphs.now.entries)) }
 {
     let mut all = Vec::new(alloc);
@@ -164,7 +168,7 @@ impl Draft {
 
     /// The place of the graph with an identity, from 0: `None` exactly where no graph has it.
     pub fn graph_of(&self, id: u32) -> Option<u32>
-        ensures place { result ≡ place_named self.now id }
+        ensures place { result ≡ place_named self.now.graphs id }
         ensures within { IfSome result (λ k. k < length self.now.graphs) }
     {
         match self.graphs.get_index_of(&id) {
@@ -186,7 +190,7 @@ impl Draft {
 
     /// Makes the number of variables at least `vars`.
     pub fn raise_vars(&mut self, vars: u32)
-        requires { vars ≤ 1000000 }
+        requires { vars ≤ MAX_VARS }
         ensures { self.new ≡ raised self.old vars }
     {
         self.var_count = self.var_count.max(vars);
@@ -194,10 +198,10 @@ impl Draft {
 
     /// Declares a graph of so many nodes, with no edges yet, and answers its place.
     pub fn add_graph(&mut self, id: u32, nodes: u32) -> Result<u32, AllocError>
-        requires new { place_named self.old id ≡ None }
+        requires new { place_named self.old.graphs id ≡ None }
         requires some { 0 < nodes }
-        requires node_room { nodes_total self.old + nodes ≤ 1000000 }
-        requires graph_room { length self.old.graphs < 1024 }
+        requires node_room { nodes_total self.old + nodes ≤ MAX_NODES }
+        requires graph_room { length self.old.graphs < MAX_GRAPHS }
         ensures place { IfOk result (λ place. place ≡ length self.old.graphs) }
         ensures ok { OnOk result (self.new ≡ with_graph self.old id nodes) }
         ensures err { OnErr result (self.new ≡ self.old) }
@@ -223,9 +227,9 @@ impl Draft {
         requires from { from < (graph_at self.old graph).nodes }
         requires to { to < (graph_at self.old graph).nodes }
         requires var_low { 0 < var }
-        requires var_high { var ≤ 1000000 }
-        requires weight { weight < 2 ^ 32 }
-        requires room { edges_total self.old < 1000000 }
+        requires var_high { var ≤ MAX_VARS }
+        requires weight { weight ≤ MAX_WEIGHT }
+        requires room { edges_total self.old < MAX_EDGES }
         ensures number { IfOk result (λ n. n ≡ edges_total self.old + 1) }
         ensures ok { IfOk result (λ n. self.new ≡ with_edge self.old graph (record { number = n; from = from; to = to; var = var; weight = weight })) }
         ensures err { OnErr result (self.new ≡ self.old) }
@@ -255,8 +259,8 @@ impl Draft {
         requires graph { graph < length self.old.graphs }
         requires over { IsOver (graph_at self.old graph) predicate }
         requires var_low { 0 < var }
-        requires var_high { var ≤ 1000000 }
-        requires room { length self.old.atoms < 100000 }
+        requires var_high { var ≤ MAX_VARS }
+        requires room { length self.old.atoms < MAX_ATOMS }
         ensures number { IfOk result (λ n. n ≡ length self.old.atoms + 1) }
         ensures ok { IfOk result (λ n. self.new ≡ with_atom self.old (record { number = n; graph = graph; var = var; predicate = predicate })) }
         ensures err { OnErr result (self.new ≡ self.old) }
@@ -274,8 +278,8 @@ impl Draft {
 
     /// Adds a clause, and answers its number. The variables of its literals become the problem's.
     pub fn add_clause(&mut self, lits: &[Lit]) -> Result<u32, AllocError>
-        requires clause_room { length self.old.clauses < 8000000 }
-        requires literal_room { literals_total self.old + length lits.now ≤ 16000000 }
+        requires clause_room { length self.old.clauses < MAX_CLAUSES }
+        requires literal_room { literals_total self.old + length lits.now ≤ MAX_LITERALS }
         ensures number { IfOk result (λ n. n ≡ length self.old.clauses + 1) }
         ensures ok { OnOk result (self.new ≡ with_clause self.old lits.now) }
         ensures err { OnErr result (self.new ≡ self.old) }

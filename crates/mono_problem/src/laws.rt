@@ -4,14 +4,14 @@
 //! variables their values decides a predicate from both sides: it holds whatever the other variables are where it holds
 //! with the edges that are surely present, and fails where it fails with those that are possibly present.
 
-ghost use Rattle.std.specs.Prelude.{◌≡◌, ℕ, ◌<◌, Bool, false, ◌⊎◌, ◌↔◌, ℤ, pos, List, IsTrue, All};
+ghost use Rattle.std.specs.Prelude.{◌≡◌, ℕ, ◌<◌, Bool, false, ◌↔◌, ℤ, pos, List, IsTrue, All};
 ghost use Rattle.mono_base.specs.Literal.{lit_true};
-ghost use Rattle.mono_base.specs.Partial.{Extends, is_true_in, is_open_in};
+ghost use Rattle.mono_base.specs.Partial.{Extends, is_open_in};
 ghost use Rattle.mono_graph.specs.Digraph.{Digraph, IsGraph, IsSubpart, enabled};
 ghost use Rattle.mono_problem.specs.declared.atom.Atom.{Atom};
 ghost use Rattle.mono_problem.specs.declared.atom.Predicate.{Predicate};
 ghost use Rattle.mono_problem.specs.Holds.{Holds};
-ghost use Rattle.mono_problem.specs.Quiet.{under, over, Forces, TheoryQuiet};
+ghost use Rattle.mono_problem.specs.Quiet.{under, over, Forces, HasForcedTrue, IsNearlyQuiet, TheoryQuiet};
 
 /// Predicates are monotonic: one that holds in a part holds in each larger part.
 pub fn predicates_are_monotonic()
@@ -36,12 +36,13 @@ pub fn forced_literals_are_true()
     ensures { (g : Digraph) (x : Atom) (t : List ℤ) (l : ℤ) (a : ℕ → Bool) → IsGraph g → 0 < x.var → Extends a t → (IsTrue (a x.var) ↔ Holds g (enabled a g) x.predicate) → Forces g x t l → IsTrue (lit_true a l) }
 {}
 
-/// Where no atom forces anything beyond the list, each forced literal is true in it.
-///
-/// The other way round too, for atoms of which it is known whether they hold with the possibly present edges.
+/// Where no atom forces anything beyond the list, each forced literal is true in it. The other way round too, except that
+/// of a predicate whose variable isn't false this shows no more than that it doesn't fail with the possibly present edges.
+/// For predicates that hold where they don't fail, both are one.
 pub fn quiet_atoms_force_nothing_more()
-    ensures forced { (g : Digraph) (atoms : List Atom) (t : List ℤ) → TheoryQuiet g atoms t → All (λ x. (l : ℤ) → Forces g x t l → IsTrue (is_true_in t l)) atoms }
-    ensures quiet { (g : Digraph) (atoms : List Atom) (t : List ℤ) → All (λ x. Holds g (over g t) x.predicate ⊎ ¬ Holds g (over g t) x.predicate) atoms → All (λ x. (l : ℤ) → Forces g x t l → IsTrue (is_true_in t l)) atoms → TheoryQuiet g atoms t }
+    ensures forced { (g : Digraph) (atoms : List Atom) (t : List ℤ) → TheoryQuiet g atoms t → All (HasForcedTrue g t) atoms }
+    ensures nearly { (g : Digraph) (atoms : List Atom) (t : List ℤ) → All (HasForcedTrue g t) atoms ↔ All (IsNearlyQuiet g t) atoms }
+    ensures quiet { (g : Digraph) (atoms : List Atom) (t : List ℤ) → All (λ x. ¬ ¬ Holds g (over g t) x.predicate → Holds g (over g t) x.predicate) atoms → All (HasForcedTrue g t) atoms → TheoryQuiet g atoms t }
 {}
 
 /// Where the variables of all edges and of the atoms have values in a list, and no atom forces anything beyond it, the

@@ -1,10 +1,11 @@
 //! Problems: what a draft made, to be read.
 
-ghost use Rattle.std.specs.Prelude.{◌≡◌, ◌<◌, ◌≤◌, ◌+◌, ◌-◌, ◌↔◌, ◌≢◌, ℕ, [], All, IsTrue, IfSome, length, nat_abs, not, position, slice_index_or};
-ghost use Rattle.mono_base.specs.Literal.{lit_true, clause_true, value_in, first_false};
+ghost use Rattle.std.specs.Prelude.{◌≡◌, ◌==◌, ◌<◌, ◌≤◌, ◌+◌, ◌-◌, ◌↔◌, ◌≢◌, ℕ, [], All, IsTrue, IfSome, length, nat_abs, not, position, slice_index_or};
+ghost use Rattle.mono_base.specs.Literal.{IsLitWithin, lit_true, clause_true, value_in, first_false};
+ghost use Rattle.mono_graph.specs.Digraph.{edge_at};
 ghost use Rattle.mono_problem.specs.Instance.{Instance, graph_at, identity_at, has_number, edges_total};
-ghost use Rattle.mono_problem.specs.WellFormed.{IsInstance, IsLitWithin};
-ghost use Rattle.mono_problem.specs.Uses.{uses_of};
+ghost use Rattle.mono_problem.specs.WellFormed.{IsInstance};
+ghost use Rattle.mono_problem.specs.Uses.{uses_of, has_edge_use};
 ghost use Rattle.mono_problem.specs.Read.{atom_numbered, clause_numbered};
 
 use crate::clause_list::ClauseList;
@@ -35,11 +36,11 @@ impl Model for Problem {
 
     ghost Value = { Instance };
 
-    ghost use Rattle.mono_problem.specs.Kept.{problem_of, IsProblem};
+    ghost use Rattle.mono_problem.specs.Kept.{IsProblem};
 
-    ghost view = { problem_of };
+    ghost view = { λ p. record { vars = p.var_count; graphs = p.graphs.entries; atoms = p.atoms.items; clauses = p.clauses } };
 
-    ghost invariant = { IsProblem };
+    ghost invariant = { λ p. IsProblem (record { vars = p.var_count; graphs = p.graphs.entries; atoms = p.atoms.items; clauses = p.clauses }) p.homes.items p.uses };
 }
 
 fn lit_is_true(lit: Lit, model: &[bool]) -> bool
@@ -122,7 +123,7 @@ impl Problem {
         requires low { 0 < number }
         requires high { number ≤ edges_total self.now }
         ensures held { result < length self.now.graphs }
-        ensures has { IsTrue (has_number (graph_at self.now result) number) }
+        ensures exact { (k : ℕ) → k < length self.now.graphs → has_number (graph_at self.now k) number ≡ (k == result) }
     {
         self.homes.as_slice()[number as usize - 1]
     }
@@ -148,7 +149,9 @@ impl Problem {
 
     /// What a variable switches or stands for: the edges graph after graph, each in order, then the predicates.
     pub fn uses(&self, var: u32) -> &[Use]
-        ensures { result.now ≡ uses_of self.now var }
+        ensures uses { result.now ≡ uses_of self.now var }
+        ensures edges { (k j : ℕ) → k < length self.now.graphs → j < length (graph_at self.now k).edges → has_edge_use k j result.now ≡ ((edge_at (graph_at self.now k) j).var == var) }
+        ensures places { (k j : ℕ) → k < length self.now.graphs → IsTrue (has_edge_use k j result.now) → j < length (graph_at self.now k).edges }
     {
         self.uses.of(var)
     }

@@ -7,7 +7,8 @@ use Rattle.std.proofs.lemmas.List.Elements.{filter_map-append}
 use Rattle.mono_base.specs.Literal.{within}
 use Rattle.mono_problem.specs.Instance.{Instance, numbered}
 use Rattle.mono_steps.specs.Chains.{resolvent, end_from, chain_end}
-use Rattle.mono_steps.specs.ChainSteps.{clauses_named, covers, names_vars, names_clauses, chain_fault, first_failed}
+use Rattle.mono_steps.specs.ChainSteps.{clauses_named, covers, names_vars, names_clauses, chain_fault}
+use Rattle.mono_steps.specs.Faults.{first_failed}
 use Rattle.mono_steps.specs.Current.{IsSetOf, HasCome}
 use Rattle.mono_steps.specs.declared.step.Chain.{Chain}
 use Rattle.mono_steps.specs.declared.fault.StepFault.TheVariants as fault

@@ -4,7 +4,16 @@ pub mod Clashes
 pub mod SetSteps
 pub mod Ends
 pub mod Soundness
-pub mod StepFaults
+pub mod ChainFaults
 pub mod Witnessed
 pub mod LemmaFaults
 pub mod LemmaTruth
+pub mod StepFaults
+pub mod StepTruth
+pub mod StepLists
+pub mod Ranks
+pub mod NeededSteps
+pub mod TrimmedSteps
+pub mod Switched
+pub mod Placed
+pub mod ClauseParts

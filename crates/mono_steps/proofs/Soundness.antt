@@ -1,4 +1,4 @@
--- The clauses of justified steps are true wherever every clause of the problem is.
+-- The clause of a justified chain is true wherever every clause before it is.
 use Rattle.std.proofs.Common.{◌≡◌, ℕ, suc, zero, Bool, true, ◌&&◌, ◌==◌, List, [], ◌∷◌, ◌++◌, length, map, Option, Some, None, refl, subst, ◌∙◌, ℤ, arith}
 use Rattle.std.specs.Prelude.{IsTrue, slice_get}
 use Rattle.std.specs.List.{cons_option}
@@ -7,10 +7,9 @@ use Rattle.std.proofs.lemmas.List.Folds.{list_all-append}
 use Rattle.mono_base.specs.Literal.{clause_true, all_true}
 use Rattle.mono_base.proofs.Truth.{wider}
 use Rattle.mono_problem.specs.Instance.{Instance, numbered}
-use Rattle.mono_steps.specs.declared.step.Step.{Step}
-use Rattle.mono_steps.specs.declared.step.Step.TheVariants as step
+use Rattle.mono_steps.specs.declared.step.Chain.{Chain}
 use Rattle.mono_steps.specs.Chains.{chain_end}
-use Rattle.mono_steps.specs.ChainSteps.{covers, clauses_named, names_vars, names_clauses, is_justified_step, are_justified_after, clause_of, is_empty_chain, ends_empty}
+use Rattle.mono_steps.specs.ChainSteps.{covers, clauses_named, names_vars, names_clauses, is_justified_chain}
 use Rattle.mono_steps.proofs.Sets.{within-has}
 use Rattle.mono_steps.proofs.Resolution.{HoldsOf, chain_end_true}
 
@@ -35,29 +34,7 @@ named_true a earlier (n ∷ ns) h = by_item (numbered earlier n) (λ x e. number
     by_item None each rest = rest
     by_item (Some x) each rest = and_from (clause_true a x) (all_true a (clauses_named earlier ns)) (each x refl) rest
 
-pub step_true : (p : Instance) (a : ℕ → Bool) (earlier : List (List ℤ)) (s : Step) → IsTrue (all_true a earlier) → IsTrue (is_justified_step p earlier s) → IsTrue (clause_true a (clause_of s))
-step_true p a earlier (step.Chain c) h j =
+pub chain_true : (p : Instance) (a : ℕ → Bool) (earlier : List (List ℤ)) (c : Chain) → IsTrue (all_true a earlier) → IsTrue (is_justified_chain p earlier c) → IsTrue (clause_true a c.clause)
+chain_true p a earlier c h j =
     let b = and_parts (names_vars p c.clause && names_clauses earlier c.used) (covers c.clause (chain_end (clauses_named earlier c.used))) j in
     covers_true a c.clause (chain_end (clauses_named earlier c.used)) (chain_end_true a (clauses_named earlier c.used) (named_true a earlier c.used h)) b.1
-
-all_true-push : (a : ℕ → Bool) (cs : List (List ℤ)) (c : List ℤ) → IsTrue (all_true a cs) → IsTrue (clause_true a c) → IsTrue (all_true a (cs ++ c ∷ []))
-all_true-push a cs c h k = list_all-append (clause_true a) cs (c ∷ []) ∙ and_from (all_true a cs) (all_true a (c ∷ [])) h (and_from (clause_true a c) true k refl)
-
-pub steps_true : (p : Instance) (a : ℕ → Bool) (earlier : List (List ℤ)) (ss : List Step) → IsTrue (are_justified_after p earlier ss) → IsTrue (all_true a earlier) → IsTrue (all_true a (map clause_of ss))
-steps_true p a earlier [] j h = refl
-steps_true p a earlier (s ∷ ss) j h =
-    let b = and_parts (is_justified_step p earlier s) (are_justified_after p (earlier ++ clause_of s ∷ []) ss) j in
-    let t = step_true p a earlier s h b.0 in
-    and_from (clause_true a (clause_of s)) (all_true a (map clause_of ss)) t (steps_true p a (earlier ++ clause_of s ∷ []) ss b.1 (all_true-push a earlier (clause_of s) h t))
-
-empty_false : (a : ℕ → Bool) (s : Step) → IsTrue (is_empty_chain s) → IsTrue (clause_true a (clause_of s)) → ⊥
-empty_false a (step.Chain c) e h = no_literal c.clause e h
-  where
-    no_literal : (ls : List ℤ) → IsTrue (length ls == 0) → IsTrue (clause_true a ls) → ⊥
-    no_literal [] e h = cc
-    no_literal (m ∷ ms) e h = let z : suc (length ms) ≡ 0 = eqb-true (suc (length ms)) 0 e in omega arith
-
-pub never_all : (a : ℕ → Bool) (ss : List Step) → IsTrue (ends_empty ss) → IsTrue (all_true a (map clause_of ss)) → ⊥
-never_all a [] e h = cc
-never_all a (s ∷ []) e h = empty_false a s e (and_parts (clause_true a (clause_of s)) true h).0
-never_all a (s ∷ t ∷ ss) e h = never_all a (t ∷ ss) e (and_parts (clause_true a (clause_of s)) (all_true a (map clause_of (t ∷ ss))) h).1

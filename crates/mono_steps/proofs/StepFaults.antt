@@ -1,30 +1,13 @@
--- A step has no fault exactly where it is justified.
-use Rattle.std.proofs.Common.{◌≡◌, Bool, true, false, not, ◌&&◌, ◌||◌, List, [], ◌∷◌, Option, Some, None, is_none, refl, ◌↔◌, ℤ}
+-- A step is justified exactly where its labels and amounts are small and it has no fault.
+use Rattle.std.proofs.Common.{◌≡◌, List, None, refl, ◌↔◌, ℤ}
 use Rattle.std.specs.Prelude.{IsTrue}
 use Rattle.mono_problem.specs.Instance.{Instance}
-use Rattle.mono_steps.specs.declared.step.Chain.{Chain}
 use Rattle.mono_steps.specs.declared.step.Step.{Step}
 use Rattle.mono_steps.specs.declared.step.Step.TheVariants as step
-use Rattle.mono_steps.specs.declared.fault.StepFault.TheVariants as fault
-use Rattle.mono_steps.specs.Chains.{chain_end}
-use Rattle.mono_steps.specs.ChainSteps.{chain_fault, step_fault, first_failed, names_vars, names_clauses, clauses_named, covers, is_justified_chain, is_justified_step}
+use Rattle.mono_steps.specs.Steps.{is_justified_step, is_small_step, step_fault}
+use Rattle.mono_steps.proofs.ChainFaults.{no_fault_in}
+use Rattle.mono_steps.proofs.LemmaFaults.{justified_no_fault}
 
-by_checks : (v n u k : Bool) → (u ≡ true → k ≡ false) → (first_failed ((not v || not n, fault.UnknownNumber) ∷ (u, fault.ChainStuck) ∷ (not k, fault.NotCovered) ∷ []) ≡ None) ↔ IsTrue (v && n && k)
-by_checks false n u k h = (λ e. absurd cc, λ e. absurd cc)
-by_checks true false u k h = (λ e. absurd cc, λ e. absurd cc)
-by_checks true true true false h = (λ e. absurd cc, λ e. absurd cc)
-by_checks true true true true h = absurd (let e = h refl in cc)
-by_checks true true false false h = (λ e. absurd cc, λ e. absurd cc)
-by_checks true true false true h = (λ e. refl, λ e. refl)
-
-not_covered : (c : List ℤ) (o : Option (List ℤ)) → is_none o ≡ true → covers c o ≡ false
-not_covered c None h = refl
-not_covered c (Some e) h = absurd cc
-
-pub no_fault_in : (p : Instance) (earlier : List (List ℤ)) (c : Chain) → (chain_fault p earlier c ≡ None) ↔ IsTrue (is_justified_chain p earlier c)
-no_fault_in p earlier c =
-    let end = chain_end (clauses_named earlier c.used) in
-    by_checks (names_vars p c.clause) (names_clauses earlier c.used) (is_none end) (covers c.clause end) (not_covered c.clause end)
-
-pub no_fault : (p : Instance) (earlier : List (List ℤ)) (s : Step) → (step_fault p earlier s ≡ None) ↔ IsTrue (is_justified_step p earlier s)
-no_fault p earlier (step.Chain c) = no_fault_in p earlier c
+pub justified_without_fault : (p : Instance) (earlier : List (List ℤ)) (s : Step) → IsTrue (is_justified_step p earlier s) ↔ (IsTrue (is_small_step s) × (step_fault p earlier s ≡ None))
+justified_without_fault p earlier (step.Lemma l) = justified_no_fault p l
+justified_without_fault p earlier (step.Chain c) = let no_fault = no_fault_in p earlier c in (λ j. (refl, no_fault.1 j), λ h. no_fault.0 h.1)

@@ -3,7 +3,8 @@ use Rattle.std.proofs.Common.{◌≡◌, ℕ, Bool, false, List, int_le, length,
 use Rattle.std.specs.Prelude.{IsTrue}
 use Rattle.std.proofs.lemmas.Bool.{and_parts, and_from, cases_Bool, both_ways, false_from_ne_true}
 use Rattle.mono_graph.specs.Digraph.{Digraph, IsGraph, IsSubpart}
-use Rattle.mono_graph.specs.Walks.{is_walk, is_light, Free, Steps, Weight}
+use Rattle.mono_graph.specs.declared.limit.Limit.TheVariants as limit
+use Rattle.mono_graph.specs.Walks.{is_walk, is_light}
 use Rattle.mono_graph.specs.Flows.{is_flow, value_of, amount_at}
 use Rattle.mono_graph.proofs.Membership.{same_truth}
 use Rattle.mono_graph.proofs.Places.{present_below}
@@ -19,7 +20,7 @@ use Rattle.mono_problem.specs.WellFormed.{IsOver}
 use Rattle.mono_problem.specs.Holds.{Holds}
 use Rattle.mono_steps.specs.declared.lemma.Witness.{Witness}
 use Rattle.mono_steps.specs.declared.lemma.Witness.TheVariants as by
-use Rattle.mono_steps.specs.Witnesses.{serves, passes, easiest_part, is_positive, placed, placed_amounts, labels_of}
+use Rattle.mono_steps.specs.Witnesses.{serves, passes, easiest_part, is_positive, placed, placed_amounts}
 
 pub positive_holds : (g : Digraph) (P : List Bool) (q : Predicate) (w : Witness) → IsTrue (is_positive w) → IsTrue (passes g P q w) → Holds g P q
 positive_holds g P (kind.Reach u v) (by.Path es) i h = (placed g es, h)
@@ -36,14 +37,14 @@ positive_holds g P q w i h = absurd cc
 pub negative_excludes : (g : Digraph) (P : List Bool) (q : Predicate) (w : Witness) → IsGraph g → IsOver g q → length P ≡ length g.edges
     → is_positive w ≡ false → IsTrue (passes g P q w) → Holds g P q → ⊥
 negative_excludes g P (kind.Reach u v) (by.Cut us) ok over fits i h (walk, is-path) =
-    cut_excludes g P u v us walk (omega arith) h (and_parts (is_walk g P u v walk) (is_light Free g walk) is-path).0
+    cut_excludes g P u v us walk h (and_parts (is_walk g P u v walk) (is_light limit.Free g walk) is-path).0
 negative_excludes g P (kind.Steps u v most) (by.Label ls) ok over fits i h (walk, is-path) =
-    labelling_excludes g P u v (Steps most) (labels_of ls) walk (omega arith) (λ e. cc) h is-path
+    labelling_excludes g P u v (limit.Steps most) ls walk (λ e. cc) h is-path
 negative_excludes g P (kind.Distance u v most) (by.Label ls) ok over fits i h (walk, is-path) =
-    labelling_excludes g P u v (Weight most) (labels_of ls) walk (omega arith) (λ e. cc) h is-path
+    labelling_excludes g P u v (limit.Weight most) ls walk (λ e. cc) h is-path
 negative_excludes g P (kind.Flow s t least) (by.FlowCut us) ok over fits i h (f, is-flow) = flow_cut_excludes g P s t least f us ok.ends over.0 h is-flow
-negative_excludes g P (kind.Tree most) (by.Split us) ok over fits i h (ks, is-tree) = split_excludes g P most us ks (omega arith) h is-tree
-negative_excludes g P (kind.Tree most) (by.Least es) ok over fits i h (ks, is-tree) = least_excludes g P most (placed g es) ks (omega arith) h is-tree
+negative_excludes g P (kind.Tree most) (by.Split us) ok over fits i h (ks, is-tree) = split_excludes g P most us ks h is-tree
+negative_excludes g P (kind.Tree most) (by.Least es) ok over fits i h (ks, is-tree) = least_excludes g P most (placed g es) ks h is-tree
 negative_excludes g P q w ok over fits i h holds = absurd cc
 
 pub passing_serves : (g : Digraph) (P : List Bool) (q : Predicate) (w : Witness) → IsTrue (passes g P q w) → IsTrue (serves w q)
@@ -63,17 +64,17 @@ passing_serves g P q w h = absurd cc
 -- ---- from part to part
 
 pub passes-larger : (g : Digraph) (P Q : List Bool) (q : Predicate) (w : Witness) → IsSubpart P Q → IsTrue (is_positive w) → IsTrue (passes g P q w) → IsTrue (passes g Q q w)
-passes-larger g P Q (kind.Reach u v) (by.Path es) sub i h = is_path-larger g P Q sub u v Free (placed g es) h
-passes-larger g P Q (kind.Steps u v most) (by.Path es) sub i h = is_path-larger g P Q sub u v (Steps most) (placed g es) h
-passes-larger g P Q (kind.Distance u v most) (by.Path es) sub i h = is_path-larger g P Q sub u v (Weight most) (placed g es) h
+passes-larger g P Q (kind.Reach u v) (by.Path es) sub i h = is_path-larger g P Q sub u v limit.Free (placed g es) h
+passes-larger g P Q (kind.Steps u v most) (by.Path es) sub i h = is_path-larger g P Q sub u v (limit.Steps most) (placed g es) h
+passes-larger g P Q (kind.Distance u v most) (by.Path es) sub i h = is_path-larger g P Q sub u v (limit.Weight most) (placed g es) h
 passes-larger g P Q (kind.Flow s t least) (by.Flow ms) sub i h = is_flow_of-larger g P Q sub s t least (placed_amounts g ms) h
 passes-larger g P Q (kind.Tree most) (by.Tree es) sub i h = is_tree-larger g P Q sub most (placed g es) h
 passes-larger g P Q q w sub i h = absurd cc
 
 pub passes-smaller : (g : Digraph) (P Q : List Bool) (q : Predicate) (w : Witness) → IsSubpart P Q → is_positive w ≡ false → IsTrue (passes g Q q w) → IsTrue (passes g P q w)
 passes-smaller g P Q (kind.Reach u v) (by.Cut us) sub i h = is_cut-smaller g P Q sub u v us h
-passes-smaller g P Q (kind.Steps u v most) (by.Label ls) sub i h = is_labelling-smaller g P Q sub u v (Steps most) (labels_of ls) h
-passes-smaller g P Q (kind.Distance u v most) (by.Label ls) sub i h = is_labelling-smaller g P Q sub u v (Weight most) (labels_of ls) h
+passes-smaller g P Q (kind.Steps u v most) (by.Label ls) sub i h = is_labelling-smaller g P Q sub u v (limit.Steps most) ls h
+passes-smaller g P Q (kind.Distance u v most) (by.Label ls) sub i h = is_labelling-smaller g P Q sub u v (limit.Weight most) ls h
 passes-smaller g P Q (kind.Flow s t least) (by.FlowCut us) sub i h = is_flow_cut-smaller g P Q sub s t least us h
 passes-smaller g P Q (kind.Tree most) (by.Split us) sub i h = is_split-smaller g P Q sub us h
 passes-smaller g P Q (kind.Tree most) (by.Least es) sub i h = is_least-smaller g P Q sub most (placed g es) h

@@ -1,7 +1,13 @@
 pub mod Chains
 pub mod ChainSteps
 pub mod Current
-pub mod Worked
-pub mod Witnesses
+pub mod Faults
 pub mod Steps
+pub mod Witnesses
+pub mod Worked
 pub mod WorkedLemmas
+pub mod Trimmed
+pub mod Needed
+pub mod Switching
+pub mod Placing
+pub mod Checkers

@@ -1,21 +1,25 @@
 -- Lemmas: what a witness shows over a part of its predicate's graph, what justifies a lemma, and what is wrong with one.
-use Rattle.std.specs.Prelude.{ℕ, ◌^◌, Bool, true, false, not, ◌&&◌, nat_le, nat_lt, ℤ, pos, neg_ℤ, if◌then◌else◌, List, map, Option, Some, None, unwrap_or, is_some, length}
+use Rattle.std.specs.Prelude.{ℕ, Bool, true, false, not, ◌&&◌, ◌||◌, nat_le, nat_lt, ℤ, pos, neg_ℤ, if◌then◌else◌, List, [], ◌∷◌, map, Option, Some, None, unwrap_or, is_some, length}
 use Rattle.std.specs.List.{list_all}
+use Rattle.mono_base.specs.declared.limits.TheConstants.{MAX_WITNESS_VALUE}
 use Rattle.mono_base.specs.Literal.{has_lit}
 use Rattle.mono_graph.specs.Digraph.{Digraph, part_by, place_of}
-use Rattle.mono_graph.specs.Walks.{is_path, is_cut, is_labelling, Free, Steps, Weight}
+use Rattle.mono_graph.specs.declared.amount.Amount.{Amount}
+use Rattle.mono_graph.specs.declared.limit.Limit.TheVariants as limit
+use Rattle.mono_graph.specs.Walks.{is_path, is_cut, is_labelling}
 use Rattle.mono_graph.specs.Flows.{is_flow_of, is_flow_cut}
 use Rattle.mono_graph.specs.Trees.{is_tree, is_split, is_least}
 use Rattle.mono_problem.specs.declared.atom.Atom.{Atom}
 use Rattle.mono_problem.specs.declared.atom.Predicate.{Predicate}
 use Rattle.mono_problem.specs.declared.atom.Predicate.TheVariants as kind
 use Rattle.mono_problem.specs.Instance.{Instance, graph_at, numbered}
-use Rattle.mono_steps.specs.declared.lemma.Label.{Label}
-use Rattle.mono_steps.specs.declared.lemma.Amount.{Amount}
 use Rattle.mono_steps.specs.declared.lemma.Lemma.{Lemma}
 use Rattle.mono_steps.specs.declared.lemma.Witness.{Witness}
 use Rattle.mono_steps.specs.declared.lemma.Witness.TheVariants as by
+use Rattle.mono_steps.specs.declared.fault.StepFault.{StepFault}
+use Rattle.mono_steps.specs.declared.fault.StepFault.TheVariants as fault
 use Rattle.mono_steps.specs.ChainSteps.{names_vars}
+use Rattle.mono_steps.specs.Faults.{first_failed}
 
 -- whether the word serves the predicate
 abbrev pub serves : Witness → Predicate → Bool
@@ -51,8 +55,8 @@ names_edges g es = list_all (λ n. is_some (place_of g n)) es
 abbrev pub names_known : Digraph → Witness → Bool
 names_known g (by.Path es) = names_edges g es
 names_known g (by.Cut us) = names_nodes g us
-names_known g (by.Label ls) = names_nodes g (map (λ l. l.node) ls)
-names_known g (by.Flow ms) = names_edges g (map (λ m. m.edge) ms)
+names_known g (by.Label ls) = list_all (λ l. nat_lt l.node g.nodes) ls
+names_known g (by.Flow ms) = list_all (λ m. is_some (place_of g m.edge)) ms
 names_known g (by.FlowCut us) = names_nodes g us
 names_known g (by.Tree es) = names_edges g es
 names_known g (by.Split us) = names_nodes g us
@@ -60,8 +64,8 @@ names_known g (by.Least es) = names_edges g es
 
 -- labels and amounts are at most 2^60
 abbrev pub is_small : Witness → Bool
-is_small (by.Label ls) = list_all (λ l. nat_le l.value (2 ^ 60)) ls
-is_small (by.Flow ms) = list_all (λ m. nat_le m.amount (2 ^ 60)) ms
+is_small (by.Label ls) = list_all (λ l. nat_le l.value MAX_WITNESS_VALUE) ls
+is_small (by.Flow ms) = list_all (λ m. nat_le m.amount MAX_WITNESS_VALUE) ms
 is_small w = true
 
 -- the place of the edge with this number. A number that no edge has becomes a place that no edge has
@@ -71,22 +75,19 @@ place_or_end g n = unwrap_or (place_of g n) (length g.edges)
 abbrev pub placed : Digraph → List ℕ → List ℕ
 placed g es = map (place_or_end g) es
 
-abbrev pub placed_amounts : Digraph → List Amount → List (ℕ × ℕ)
-placed_amounts g ms = map (λ m. (place_or_end g m.edge, m.amount)) ms
-
-abbrev pub labels_of : List Label → List (ℕ × ℕ)
-labels_of ls = map (λ l. (l.node, l.value)) ls
+abbrev pub placed_amounts : Digraph → List Amount → List Amount
+placed_amounts g ms = map (λ m. record { edge = place_or_end g m.edge; amount = m.amount }) ms
 
 -- ---- what passes
 
 -- the witness passes over a part of the graph. One whose word doesn't serve the predicate never does
 abbrev pub passes : Digraph → List Bool → Predicate → Witness → Bool
-passes g P (kind.Reach u v) (by.Path es) = is_path g P u v Free (placed g es)
-passes g P (kind.Steps u v most) (by.Path es) = is_path g P u v (Steps most) (placed g es)
-passes g P (kind.Distance u v most) (by.Path es) = is_path g P u v (Weight most) (placed g es)
+passes g P (kind.Reach u v) (by.Path es) = is_path g P u v limit.Free (placed g es)
+passes g P (kind.Steps u v most) (by.Path es) = is_path g P u v (limit.Steps most) (placed g es)
+passes g P (kind.Distance u v most) (by.Path es) = is_path g P u v (limit.Weight most) (placed g es)
 passes g P (kind.Reach u v) (by.Cut us) = is_cut g P u v us
-passes g P (kind.Steps u v most) (by.Label ls) = is_labelling g P u v (Steps most) (labels_of ls)
-passes g P (kind.Distance u v most) (by.Label ls) = is_labelling g P u v (Weight most) (labels_of ls)
+passes g P (kind.Steps u v most) (by.Label ls) = is_labelling g P u v (limit.Steps most) ls
+passes g P (kind.Distance u v most) (by.Label ls) = is_labelling g P u v (limit.Weight most) ls
 passes g P (kind.Flow s t least) (by.Flow ms) = is_flow_of g P s t least (placed_amounts g ms)
 passes g P (kind.Flow s t least) (by.FlowCut us) = is_flow_cut g P s t least us
 passes g P (kind.Tree most) (by.Tree es) = is_tree g P most (placed g es)
@@ -126,27 +127,22 @@ justifies_by p x l = names_vars p l.clause && is_shown (graph_at p x.graph) x l
 abbrev pub justifies : Instance → Lemma → Bool
 justifies p l = elim (numbered p.atoms l.atom) [ None ↦ false | Some x ↦ justifies_by p x l ]
 
--- ---- the first fault of a lemma, in the order of the checks
-
-pub data LemmaFault : Type 0 where
-  UnknownAtom : LemmaFault
-  WrongKind : LemmaFault
-  UnknownNumber : LemmaFault
-  WitnessFails : LemmaFault
-  MissingLiteral : LemmaFault
+-- ---- the first fault of a lemma
 
 -- the part over which the witness passes if it passes over any: all edges where its word shows that the predicate holds, and else none
 abbrev pub easiest_part : Digraph → Witness → List Bool
 easiest_part g w = part_by (λ e. is_positive w) g
 
-abbrev pub lemma_fault_by : Instance → Atom → Lemma → Option LemmaFault
+-- the first fault of a lemma of the predicate x, in the order of the checks
+abbrev pub lemma_fault_by : Instance → Atom → Lemma → Option StepFault
 lemma_fault_by p x l =
     let g = graph_at p x.graph in
-    if not (serves l.witness x.predicate) then Some WrongKind
-    else if not (names_vars p l.clause && names_known g l.witness) then Some UnknownNumber
-    else if not (passes g (easiest_part g l.witness) x.predicate l.witness) then Some WitnessFails
-    else if not (shows_clause g x l.clause l.witness) then Some MissingLiteral
-    else None
+    first_failed (
+    (not (serves l.witness x.predicate), fault.WrongKind)
+    ∷ (not (names_vars p l.clause) || not (names_known g l.witness), fault.UnknownNumber)
+    ∷ (not (passes g (easiest_part g l.witness) x.predicate l.witness), fault.WitnessFails)
+    ∷ (not (shows_clause g x l.clause l.witness), fault.MissingLiteral) ∷ []
+    )
 
-abbrev pub lemma_fault : Instance → Lemma → Option LemmaFault
-lemma_fault p l = elim (numbered p.atoms l.atom) [ None ↦ Some UnknownAtom | Some x ↦ lemma_fault_by p x l ]
+abbrev pub lemma_fault : Instance → Lemma → Option StepFault
+lemma_fault p l = elim (numbered p.atoms l.atom) [ None ↦ Some fault.UnknownAtom | Some x ↦ lemma_fault_by p x l ]

@@ -3,7 +3,7 @@ use Rattle.std.specs.Prelude.{ℕ, ℤ, List, [], Option}
 use Rattle.mono_problem.specs.Instance.{Instance}
 use Rattle.mono_steps.specs.declared.fault.StepFault.{StepFault}
 use Rattle.mono_steps.specs.declared.step.Step.TheVariants as step
-use Rattle.mono_steps.specs.ChainSteps.{step_fault}
+use Rattle.mono_steps.specs.Steps.{step_fault}
 
 -- the problem of these clauses over the variables 1 to `vars`
 abbrev pub clauses_over : ℕ → List (List ℤ) → Instance

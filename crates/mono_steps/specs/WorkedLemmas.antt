@@ -8,7 +8,8 @@ use Rattle.mono_problem.specs.Instance.{Instance}
 use Rattle.mono_steps.specs.declared.lemma.Lemma.{Lemma}
 use Rattle.mono_steps.specs.declared.lemma.Witness.{Witness}
 use Rattle.mono_steps.specs.declared.lemma.Witness.TheVariants as by
-use Rattle.mono_steps.specs.Steps.{AnyStep, LemmaStep, ChainStep}
+use Rattle.mono_steps.specs.declared.step.Step.{Step}
+use Rattle.mono_steps.specs.declared.step.Step.TheVariants as step
 
 -- ten variables, one graph, and one predicate over it with the variable x
 abbrev pub asks : Digraph → Predicate → ℕ → Instance
@@ -27,8 +28,8 @@ abbrev pub barred : Instance
 barred = record (asks (round_trip 2 3) (kind.Reach 0 1) 3) { clauses = (pos 1 ∷ []) ∷ (minus 3 ∷ []) ∷ [] }
 
 -- from edge 1 it follows that node 1 can be reached
-abbrev pub edge_1_reaches : AnyStep
-edge_1_reaches = LemmaStep (of_1 (minus 1 ∷ pos 3 ∷ []) (by.Path (1 ∷ [])))
+abbrev pub edge_1_reaches : Step
+edge_1_reaches = step.Lemma (of_1 (minus 1 ∷ pos 3 ∷ []) (by.Path (1 ∷ [])))
 
-abbrev pub chain : List ℤ → List ℕ → AnyStep
-chain c ns = ChainStep (record { clause = c; used = ns })
+abbrev pub chain : List ℤ → List ℕ → Step
+chain c ns = step.Chain (record { clause = c; used = ns })

@@ -1,25 +1,11 @@
 //! Lemmas: clauses that a predicate over a graph makes true, and what shows it (Bayless et al. 2015).
 
+ghost use Rattle.std.specs.Prelude.{◌≡◌, IfOk};
+
 use crate::Clause;
 use mono_base::Row;
-
-/// A node and its label, a bound on what walks to it cost.
-#[derive(Clone, Copy, Debug, PartialEq, Eq)]
-pub struct Label {
-    /// The node, from 0.
-    pub node: u32,
-    /// At most 2^60.
-    pub value: u64,
-}
-
-/// An edge and what a flow carries over it.
-#[derive(Clone, Copy, Debug, PartialEq, Eq)]
-pub struct Amount {
-    /// The edge's number, from 1.
-    pub edge: u32,
-    /// At most 2^60.
-    pub amount: u64,
-}
+use mono_graph::{Amount, Label};
+use std::alloc::{AllocError, Global};
 
 /// What shows that a predicate holds or fails. Edges are named by their numbers, from 1, nodes from 0.
 ///
@@ -54,4 +40,43 @@ pub struct Lemma {
     pub clause: Clause,
     /// Why it does.
     pub witness: Witness,
+}
+
+fn copy_row<T: Copy + Drop>(alloc: Global, row: &Row<T>) -> Result<Row<T>, AllocError>
+    ensures { IfOk result (λ copy. copy ≡ row.now) }
+{
+    Ok(Row::from_vec(Vec::from_slice(alloc, row.as_slice())?))
+}
+
+impl Witness {
+    /// An equal witness.
+    pub fn copy(&self, alloc: Global) -> Result<Witness, AllocError>
+        ensures { IfOk result (λ copy. copy ≡ self.now) }
+    {
+        match self {
+            Witness::Path(edges) => Ok(Witness::Path(copy_row(alloc, edges)?)),
+            Witness::Cut(nodes) => Ok(Witness::Cut(copy_row(alloc, nodes)?)),
+            Witness::Label(labels) => Ok(Witness::Label(copy_row(alloc, labels)?)),
+            Witness::Flow(amounts) => Ok(Witness::Flow(copy_row(alloc, amounts)?)),
+            Witness::FlowCut(nodes) => Ok(Witness::FlowCut(copy_row(alloc, nodes)?)),
+            Witness::Tree(edges) => Ok(Witness::Tree(copy_row(alloc, edges)?)),
+            Witness::Split(nodes) => Ok(Witness::Split(copy_row(alloc, nodes)?)),
+            Witness::Least(edges) => Ok(Witness::Least(copy_row(alloc, edges)?)),
+        }
+    }
+}
+
+impl Lemma {
+    /// An equal lemma.
+    pub fn copy(&self) -> Result<Lemma, AllocError>
+        ensures { IfOk result (λ copy. copy ≡ self.now) }
+    {
+        let clause = self.clause.copy()?;
+        let witness = self.witness.copy(clause.allocator())?;
+        Ok(Lemma {
+            atom: self.atom,
+            clause,
+            witness,
+        })
+    }
 }

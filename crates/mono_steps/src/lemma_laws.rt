@@ -1,18 +1,17 @@
-//! What lemmas and steps with lemmas show.
+//! What lemmas show.
 
-ghost use Rattle.std.specs.Prelude.{◌≡◌, ◌↔◌, ℕ, ℤ, Bool, false, List, length, map, IsTrue, Some, None};
-ghost use Rattle.mono_base.specs.Literal.{clause_true, all_true};
+ghost use Rattle.std.specs.Prelude.{◌≡◌, ℕ, Bool, false, List, length, IsTrue, Some};
+ghost use Rattle.mono_base.specs.Literal.{clause_true};
 ghost use Rattle.mono_graph.specs.Digraph.{Digraph, IsGraph, IsSubpart};
 ghost use Rattle.mono_problem.specs.declared.atom.Atom.{Atom};
 ghost use Rattle.mono_problem.specs.declared.atom.Predicate.{Predicate};
 ghost use Rattle.mono_problem.specs.Instance.{Instance, graph_at, numbered};
 ghost use Rattle.mono_problem.specs.WellFormed.{IsInstance, IsOver};
-ghost use Rattle.mono_problem.specs.Holds.{Holds, HasNoModel, Agrees, Satisfies};
+ghost use Rattle.mono_problem.specs.Holds.{Holds, Agrees};
 ghost use Rattle.mono_steps.specs.declared.lemma.Lemma.{Lemma};
 ghost use Rattle.mono_steps.specs.declared.lemma.Witness.{Witness};
 ghost use Rattle.mono_steps.specs.ChainSteps.{names_vars};
-ghost use Rattle.mono_steps.specs.Witnesses.{is_positive, is_small, serves, passes, easiest_part, is_shown, justifies, lemma_fault};
-ghost use Rattle.mono_steps.specs.Steps.{AnyStep, clause_of, are_justified, is_refutation};
+ghost use Rattle.mono_steps.specs.Witnesses.{is_positive, serves, passes, easiest_part, is_shown, justifies};
 
 /// A `Path`, `Flow` or `Tree` that passes over a part shows that the predicate holds there. A witness of another word
 /// that passes shows that it fails there.
@@ -39,11 +38,6 @@ pub fn easiest_part_decides_failure()
     ensures { (g : Digraph) (P : List Bool) (q : Predicate) (w : Witness) → length P ≡ length g.edges → passes g (easiest_part g w) q w ≡ false → passes g P q w ≡ false }
 {}
 
-/// A lemma is justified exactly where its labels and amounts are at most 2^60 and it has no fault.
-pub fn no_fault_is_justified_lemma()
-    ensures { (p : Instance) (l : Lemma) → IsTrue (justifies p l) ↔ (IsTrue (is_small l.witness) × (lemma_fault p l ≡ None)) }
-{}
-
 /// A lemma that a graph and a predicate alone show is justified in each problem that has the predicate, over that graph,
 /// and the variables of the lemma's clause.
 pub fn shown_lemmas_are_justified()
@@ -53,14 +47,4 @@ pub fn shown_lemmas_are_justified()
 /// The clause of a justified lemma is true in each assignment that agrees with the graphs.
 pub fn lemmas_are_true()
     ensures { (p : Instance) (a : ℕ → Bool) (l : Lemma) → IsInstance p → Agrees p a → IsTrue (justifies p l) → IsTrue (clause_true a l.clause) }
-{}
-
-/// The clauses of justified steps are true in each assignment that satisfies the problem.
-pub fn justified_steps_are_true()
-    ensures { (p : Instance) (a : ℕ → Bool) (steps : List AnyStep) → IsInstance p → IsTrue (are_justified p steps) → Satisfies p a → IsTrue (all_true a (map clause_of steps)) }
-{}
-
-/// Where there is a refutation, no assignment satisfies the problem.
-pub fn refutation_means_no_model()
-    ensures { (p : Instance) (steps : List AnyStep) → IsInstance p → IsTrue (is_refutation p steps) → HasNoModel p }
 {}

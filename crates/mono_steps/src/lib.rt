@@ -1,10 +1,11 @@
 //! Steps of a refutation, and what justifies them.
 //!
-//! A step gives a clause that follows from earlier ones: a chain by resolution. A refutation is a list of justified
-//! steps that ends in a chain with the empty clause; no assignment makes every clause of its problem true.
+//! A step gives a clause that follows: a lemma from what one predicate says of its graph, a chain from earlier clauses by
+//! resolution. A refutation is a list of justified steps that ends in a chain with the empty clause; no assignment
+//! satisfies its problem.
 #![tactic(auto)]
 
-/// Whether a chain is justified, with one set of literals for all chains.
+/// Whether steps are justified, with room for all of them.
 mod checker;
 /// Clauses.
 mod clause;
@@ -12,29 +13,47 @@ mod clause;
 mod examining;
 /// What is wrong with a step.
 mod fault;
+/// What is wrong with a lemma about one graph.
+mod graph_checker;
+/// The steps that a search made.
+mod journal;
 /// What justified steps show.
 pub mod laws;
 /// Lemmas and their witnesses.
 mod lemma;
-/// What lemmas and steps with lemmas show.
+/// What lemmas show.
 pub mod lemma_laws;
 /// Clauses by their numbers.
 mod numbered;
+/// What a witness names.
+mod placing;
 /// Resolution on a set of literals.
 mod resolving;
+/// Which witnesses serve which predicates.
+mod serving;
 /// Chains and steps.
 mod step;
+/// Edges that come into a part, or leave it, with the literals of a clause.
+mod switching;
 /// Tables that were worked by hand.
 #[cfg(test)]
 mod tests;
+/// A refutation without the steps that it doesn't rest on.
+mod trimming;
+/// Whether a witness passes over a part.
+mod witness_checker;
 /// Rows that were worked by hand, as the definitions compute them.
 pub mod worked;
 /// Lemmas that were worked by hand, as the definitions compute them.
 pub mod worked_lemmas;
+/// Which word serves which predicate, worked by hand.
+pub mod worked_words;
 
-pub use checker::ChainChecker;
+pub use checker::StepChecker;
 pub use clause::Clause;
 pub use examining::examine;
 pub use fault::StepFault;
-pub use lemma::{Amount, Label, Lemma, Witness};
+pub use journal::Journal;
+pub use lemma::{Lemma, Witness};
+pub use mono_graph::{Amount, Label};
 pub use step::{Chain, Step};

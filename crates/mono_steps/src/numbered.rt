@@ -1,13 +1,14 @@
-//! Clauses by their numbers: first those of a problem, from 1, and then those of the steps before.
+//! Clauses by their numbers, first those of a problem, from 1, and then those of the steps before; predicates by theirs.
 
-ghost use Rattle.std.specs.Prelude.{◌≡◌, ◌≤◌, ◌++◌, ◌+◌, All, IsTrue, Some, length};
-ghost use Rattle.mono_problem.specs.Instance.{numbered};
-ghost use Rattle.mono_problem.specs.WellFormed.{IsLitWithin};
+ghost use Rattle.std.specs.Prelude.{◌≡◌, ◌<◌, ◌≤◌, ◌++◌, ◌+◌, All, IfSome, IsTrue, Some, length};
+ghost use Rattle.mono_problem.specs.Instance.{graph_at, numbered};
+ghost use Rattle.mono_base.specs.Literal.{IsLitWithin};
+ghost use Rattle.mono_problem.specs.WellFormed.{IsOver};
 ghost use Rattle.mono_steps.specs.ChainSteps.{names_vars as are_vars, names_clauses as are_clauses};
 
 use crate::Clause;
 use mono_base::Lit;
-use mono_problem::Problem;
+use mono_problem::{Atom, Problem};
 
 /// The literals of the clause of a number.
 pub(crate) fn clause_at<'a>(problem: &'a Problem, earlier: &'a [Clause], number: u64) -> &'a [Lit]
@@ -45,4 +46,20 @@ pub(crate) fn names_clauses(problem: &Problem, earlier: &[Clause], used: &[u64])
 {
     let count = clause_count(problem, earlier);
     used.iter().all(|number| 1 <= *number && *number <= count)
+}
+
+/// The predicate of a number: `None` exactly where no predicate has it.
+pub(crate) fn atom_at(problem: &Problem, number: u32) -> Option<Atom>
+    ensures atom { result ≡ numbered problem.now.atoms number }
+    ensures graph { IfSome result (λ x. x.graph < length problem.now.graphs) }
+    ensures over { IfSome result (λ x. IsOver (graph_at problem.now x.graph) x.predicate) }
+    ensures low { IfSome result (λ x. 0 < x.var) }
+    ensures high { IfSome result (λ x. x.var ≤ problem.now.vars) }
+{
+    let _ = problem.vars();
+    if number == 0 || number > problem.atom_count() {
+        None
+    } else {
+        Some(problem.atom(number))
+    }
 }

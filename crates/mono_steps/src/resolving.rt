@@ -5,8 +5,7 @@
 
 ghost use Rattle.std.specs.Prelude.{◌≡◌, ◌≤◌, ◌++◌, ◌||◌, ◌==◌, ℤ, pos, neg_ℤ, nat_abs, not, find, option_map, [], All, IfSome};
 ghost use Rattle.std.specs.List.{list_all};
-ghost use Rattle.mono_base.specs.Literal.{has_lit, var_of, without, within};
-ghost use Rattle.mono_base.specs.LitSet.{IsLitWithin};
+ghost use Rattle.mono_base.specs.Literal.{has_lit, var_of, without, within, IsLitWithin};
 ghost use Rattle.mono_steps.specs.Chains.{clashing, only_var, resolvent};
 ghost use Rattle.mono_steps.specs.Current.{HasCome, IsSetOf};
 

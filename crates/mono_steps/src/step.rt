@@ -1,9 +1,9 @@
 //! Chains and steps.
 
 ghost use Rattle.std.specs.Prelude.{◌≡◌, IfOk};
-ghost use Rattle.mono_steps.specs.ChainSteps.{clause_of};
+ghost use Rattle.mono_steps.specs.Steps.{clause_of, is_full_chain};
 
-use crate::Clause;
+use crate::{Clause, Lemma};
 use mono_base::Row;
 use std::alloc::AllocError;
 
@@ -34,6 +34,8 @@ impl Chain {
 /// A step of a refutation.
 #[derive(Drop)]
 pub enum Step {
+    /// The clause follows from what a predicate says of its graph.
+    Lemma(Lemma),
     /// The clause follows from earlier ones by resolution.
     Chain(Chain),
 }
@@ -44,6 +46,7 @@ impl Step {
         ensures { result.now ≡ clause_of self.now }
     {
         match self {
+            Step::Lemma(lemma) => &lemma.clause,
             Step::Chain(chain) => &chain.clause,
         }
     }
@@ -53,7 +56,18 @@ impl Step {
         ensures { IfOk result (λ step. step ≡ self.now) }
     {
         match self {
+            Step::Lemma(lemma) => Ok(Step::Lemma(lemma.copy()?)),
             Step::Chain(chain) => Ok(Step::Chain(chain.copy()?)),
+        }
+    }
+
+    /// Whether it is a chain whose clause isn't empty.
+    pub(crate) fn is_full_chain(&self) -> bool
+        ensures { result ≡ is_full_chain self.now }
+    {
+        match self {
+            Step::Lemma(_) => false,
+            Step::Chain(chain) => !chain.clause.lits().is_empty(),
         }
     }
 }

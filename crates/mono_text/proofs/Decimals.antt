@@ -1,17 +1,15 @@
 -- A number that is written in decimal digits is read as that number.
-use Rattle.std.proofs.Common.{◌≡◌, ℕ, suc, ◌+◌, ◌-◌, ◌*◌, ◌%◌, ◌^◌, ◌<◌, ◌≤◌, true, false, List, [], ◌∷◌, ◌++◌, length, refl, ap, ◌∙◌, arith, decimal, Some, Ok, ltb, le-leb, ℤ, pos, negsuc, neg_ℤ, nat_abs, eqb, length-append, option_map, map}
+use Rattle.std.proofs.Common.{◌≡◌, ℕ, suc, ◌+◌, ◌-◌, ◌*◌, ◌%◌, ◌^◌, ◌<◌, ◌≤◌, true, false, List, [], ◌∷◌, ◌++◌, length, refl, ap, ◌∙◌, arith, decimal, Some, Ok, ltb, le-leb, ℤ, pos, negsuc, neg_ℤ, nat_abs, eqb, eq-eqb, length-append, option_map, map}
 use Rattle.std.specs.Prelude.{FitsSigned}
 use Rattle.std.specs.Int.{w64}
 use Rattle.std.specs.Fmt.{signed_decimal}
 use Rattle.std.specs.List.{list_all}
-use Rattle.std.proofs.Math.Seq.{drop-append_seam}
 use Rattle.std.proofs.lemmas.Fmt.{decimal_by_steps}
 use Rattle.std.proofs.lemmas.List.Sums.{fold-append}
 use Rattle.std.proofs.lemmas.Bool.Decides.{nat_tests}
 use Rattle.std.specs.Char.{is_ascii_digit}
 use Rattle.mono_text.specs.Numbers.{digits_value, natural, signed, within, signed_within}
-use Rattle.mono_text.specs.Fields.{field_at, fields_from, fields_of, onto, placed}
-use Rattle.mono_text.proofs.FieldSteps.{fields_of-counted}
+use Rattle.mono_text.specs.Fields.{fields_from, fields_of, onto}
 use Rattle.mono_text.proofs.Spaced.{IsWord, IsToken}
 
 -- every byte is a digit
@@ -97,18 +95,18 @@ AreWithin [] (n ∷ ns) = ⊥
 AreWithin (l ∷ ls) [] = ⊥
 AreWithin (l ∷ ls) (n ∷ ns) = (n ≤ l) × (n < 2 ^ 64) × AreWithin ls ns
 
-field_at-decimal : (k limit n : ℕ) → n ≤ limit → n < 2 ^ 64 → field_at k limit (decimal n) ≡ Ok n
-field_at-decimal k limit n low h =
+within-decimal : (limit n : ℕ) → n ≤ limit → n < 2 ^ 64 → within limit (natural (decimal n)) ≡ Ok n
+within-decimal limit n low h =
     let test : ltb limit n ≡ false = grind (arith, nat_tests) in
-    ap (λ o. placed k (within limit o)) (natural-decimal n h) ∙ rw test refl
+    ap (within limit) (natural-decimal n h) ∙ rw test refl
 
 fields_from-decimal : (k : ℕ) (limits ns : List ℕ) → AreWithin limits ns → fields_from k limits (map decimal ns) ≡ Ok ns
 fields_from-decimal k [] [] h = refl
 fields_from-decimal k [] (n ∷ ns) h = absurd h
 fields_from-decimal k (l ∷ ls) [] h = absurd h
 fields_from-decimal k (l ∷ ls) (n ∷ ns) h =
-    ap (λ r. onto r (fields_from (k + 1) ls (map decimal ns))) (field_at-decimal k l n h.0 h.1)
-    ∙ ap (onto (Ok n)) (fields_from-decimal (k + 1) ls ns h.2)
+    ap (λ r. onto k r (fields_from (k + 1) ls (map decimal ns))) (within-decimal l n h.0 h.1)
+    ∙ ap (onto k (Ok n)) (fields_from-decimal (k + 1) ls ns h.2)
 
 length-within : (limits ns : List ℕ) → AreWithin limits ns → length (map decimal ns) ≡ length limits
 length-within [] [] h = refl
@@ -116,9 +114,8 @@ length-within [] (n ∷ ns) h = absurd h
 length-within (l ∷ ls) [] h = absurd h
 length-within (l ∷ ls) (n ∷ ns) h = ap suc (length-within ls ns h.2)
 
--- numbers within their limits, written behind other tokens, are read as fields
-pub fields_of-decimal : (front : List (List ℕ)) (limits ns : List ℕ) → AreWithin limits ns → fields_of (length front) limits (front ++ map decimal ns) ≡ Ok ns
-fields_of-decimal front limits ns h =
-    let counted : length (front ++ map decimal ns) ≡ length front + length limits = length-append front (map decimal ns) ∙ ap (λ n. length front + n) (length-within limits ns h) in
-    fields_of-counted (length front) limits (front ++ map decimal ns) counted
-    ∙ (ap (fields_from 0 limits) (drop-append_seam front (map decimal ns)) ∙ fields_from-decimal 0 limits ns h)
+-- numbers within their limits, as they are written, are read as fields
+pub fields_of-decimal : (limits ns : List ℕ) → AreWithin limits ns → fields_of limits (map decimal ns) ≡ Ok ns
+fields_of-decimal limits ns h =
+    let counted = eq-eqb (length (map decimal ns)) (length limits) (length-within limits ns h) in
+    rw counted (fields_from-decimal 0 limits ns h)

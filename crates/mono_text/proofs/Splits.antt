@@ -1,11 +1,11 @@
 -- The lines of a text and the tokens of a line, one after the other.
-use Rattle.std.proofs.Common.{◌≡◌, ℕ, ◌+◌, ◌<◌, ◌≤◌, Bool, true, false, cond, not, List, [], ◌∷◌, length, take, drop, refl, sym, ap, ◌∙◌, arith, filter, inl, inr}
+use Rattle.std.proofs.Common.{◌≡◌, ℕ, ◌+◌, ◌<◌, ◌≤◌, Bool, true, false, cond, not, List, [], ◌∷◌, length, take, drop, refl, sym, ap, ◌∙◌, arith, filter, inl, inr, get_or, Some, None}
 use Rattle.std.specs.List.{slice_split, onto_first, position_or_len, before_first, after_first}
 use Rattle.std.proofs.Math.Numerals.{one-add, add-one}
 use Rattle.std.proofs.lemmas.List.Sums.{count_by-le-length, length-filter}
 use Rattle.std.proofs.lemmas.List.Splits.{length-slice_split}
 use Rattle.std.proofs.lemmas.Bool.{cases_Bool}
-use Rattle.mono_text.specs.Text.{is_blank, is_line_feed, is_empty, tokens_of, lines_of, without_empty_end, numbered_from}
+use Rattle.mono_text.specs.Text.{is_blank, is_line_feed, is_empty, tokens_of, first_byte, lines_of, without_empty_end, numbered_from}
 
 -- ---- the parts of a text
 
@@ -22,7 +22,7 @@ slice_split-first p (x ∷ xs) =
       | false ↦ rw (one-add) (ap (onto_first x) (slice_split-first p xs))
     ]
 
-after_first-cons : {X : Type 0} (p : X → Bool) (x : X) (xs : List X) → after_first p (x ∷ xs) ≡ cond (p x) xs (after_first p xs)
+pub after_first-cons : {X : Type 0} (p : X → Bool) (x : X) (xs : List X) → after_first p (x ∷ xs) ≡ cond (p x) xs (after_first p xs)
 after_first-cons p x xs =
     elim (p x) as (λ b. drop (cond (not b) (1 + position_or_len p xs) 0 + 1) (x ∷ xs) ≡ cond b xs (after_first p xs)) [
       | true ↦ refl
@@ -44,17 +44,17 @@ some_tokens (b ∷ bs) =
 abbrev pub from_token : List ℕ → List ℕ
 from_token s = drop (position_or_len (λ b. not (is_blank b)) s) s
 
-from_token-blank : (b : ℕ) (bs : List ℕ) → is_blank b ≡ true → from_token (b ∷ bs) ≡ from_token bs
+pub from_token-blank : (b : ℕ) (bs : List ℕ) → is_blank b ≡ true → from_token (b ∷ bs) ≡ from_token bs
 from_token-blank b bs e = rw (e, one-add) refl
 
-from_token-token : (b : ℕ) (bs : List ℕ) → is_blank b ≡ false → from_token (b ∷ bs) ≡ b ∷ bs
+pub from_token-token : (b : ℕ) (bs : List ℕ) → is_blank b ≡ false → from_token (b ∷ bs) ≡ b ∷ bs
 from_token-token b bs e = rw e refl
 
-tokens_of-blank : (b : ℕ) (bs : List ℕ) → is_blank b ≡ true → tokens_of (b ∷ bs) ≡ tokens_of bs
+pub tokens_of-blank : (b : ℕ) (bs : List ℕ) → is_blank b ≡ true → tokens_of (b ∷ bs) ≡ tokens_of bs
 tokens_of-blank b bs e = rw e refl
 
 -- a line that begins with a token
-tokens_of-token : (b : ℕ) (bs : List ℕ) → is_blank b ≡ false → tokens_of (b ∷ bs) ≡ before_first is_blank (b ∷ bs) ∷ tokens_of (after_first is_blank (b ∷ bs))
+pub tokens_of-token : (b : ℕ) (bs : List ℕ) → is_blank b ≡ false → tokens_of (b ∷ bs) ≡ before_first is_blank (b ∷ bs) ∷ tokens_of (after_first is_blank (b ∷ bs))
 tokens_of-token b bs e =
     let start : before_first is_blank (b ∷ bs) ≡ b ∷ before_first is_blank bs = rw (e, one-add) refl in
     rw (slice_split-first, some_tokens, start) refl
@@ -75,6 +75,29 @@ tokens_of-none (b ∷ bs) h =
       | inl e ↦ tokens_of-blank b bs e ∙ tokens_of-none bs (ap length (sym (from_token-blank b bs e)) ∙ h)
       | inr e ↦ absurd (omega (arith, h, ap length (from_token-token b bs e)))
     ]
+
+-- passing the blanks leaves the tokens
+pub tokens_of-from : (s : List ℕ) → tokens_of (from_token s) ≡ tokens_of s
+tokens_of-from [] = refl
+tokens_of-from (b ∷ bs) =
+    elim (cases_Bool (is_blank b)) [
+      | inl e ↦ rw (from_token-blank b bs e, tokens_of-blank b bs e) (tokens_of-from bs)
+      | inr e ↦ rw (from_token-token b bs e) refl
+    ]
+
+-- the first token begins with the first byte that is no blank
+pub first_byte-some : (s : List ℕ) (d : ℕ) → 0 < length (from_token s) → first_byte (tokens_of s) ≡ Some (get_or (from_token s) 0 d)
+first_byte-some [] d h = absurd (omega (arith, h))
+first_byte-some (b ∷ bs) d h =
+    elim (cases_Bool (is_blank b)) [
+      | inl e ↦ rw (from_token-blank b bs e, tokens_of-blank b bs e) (first_byte-some bs d (omega (arith, h, ap length (from_token-blank b bs e))))
+      | inr e ↦
+          let start : before_first is_blank (b ∷ bs) ≡ b ∷ before_first is_blank bs = rw (e, one-add) refl in
+          rw (from_token-token b bs e, tokens_of-token b bs e, start) refl
+    ]
+
+pub first_byte-none : (s : List ℕ) → length (from_token s) ≡ 0 → first_byte (tokens_of s) ≡ None
+first_byte-none s h = ap first_byte (tokens_of-none s h)
 
 -- ---- lines
 

@@ -1,5 +1,5 @@
 -- Lines and tokens of a text.
-use Rattle.std.specs.Prelude.{ℕ, Bool, true, false, not, ◌||◌, List, [], ◌∷◌, ◌++◌, filter, map, ◌==◌, if◌then◌else◌, codes, bytes_eq}
+use Rattle.std.specs.Prelude.{ℕ, Bool, true, false, not, ◌||◌, List, [], ◌∷◌, ◌++◌, filter, map, ◌==◌, if◌then◌else◌, codes, bytes_eq, Option, Some, None}
 use Rattle.std.specs.List.{slice_split, enumerate_from}
 
 abbrev pub is_empty : List ℕ → Bool
@@ -35,14 +35,24 @@ is_blank b = b == 32 || b == 9 || b == 13
 abbrev pub tokens_of : List ℕ → List (List ℕ)
 tokens_of line = filter (λ t. not (is_empty t)) (slice_split is_blank line)
 
+-- the byte that the first token begins with
+abbrev pub first_byte : List (List ℕ) → Option ℕ
+first_byte [] = None
+first_byte ([] ∷ ts) = None
+first_byte ((b ∷ bs) ∷ ts) = Some b
+
 -- the lines as lists of tokens; line k stands at place k - 1
 abbrev pub token_lines : List ℕ → List (List (List ℕ))
 token_lines text = map tokens_of (lines_of text)
 
--- of a line's tokens: a line without tokens is blank, and one whose first token is exactly `c` is a comment
+-- of a first token: one that is exactly `c` makes its line a comment
+abbrev pub is_comment : List ℕ → Bool
+is_comment t = bytes_eq t (codes "c")
+
+-- of a line's tokens: a line without tokens is blank, and a comment says nothing either
 abbrev pub is_skipped : List (List ℕ) → Bool
 is_skipped [] = true
-is_skipped (t ∷ ts) = bytes_eq t (codes "c")
+is_skipped (t ∷ ts) = is_comment t
 
 -- ---- what is written
 

@@ -1,18 +1,17 @@
-//! The numbers behind a line's first tokens.
+//! Numbers in a row, one for each limit.
 //!
-//! A line form is a table of limits, one for each field. The tokens are cut twice: once to count
-//! them, since a wrong count comes before every fault of a field, and once to read them.
+//! A form of lines is a row of limits, one for each field. The tokens are cut once. A refused number waits until all
+//! tokens are cut, since a wrong count comes before every fault of a field.
 
-ghost use Rattle.std.specs.Prelude.{◌≡◌, ◌<◌, ◌≤◌, drop, IfOk, ℕ, slice_index};
-ghost use Rattle.mono_text.specs.Text.{tokens_of};
-ghost use Rattle.mono_text.specs.Fields.{field_at, fields_of};
+ghost use Rattle.std.specs.Prelude.{◌≡◌, ◌<◌, ◌≤◌, nat_le, length, drop, IfOk, ℕ, slice_index};
+ghost use Rattle.mono_text.specs.Fields.{refused, first_fields, fields_of};
 
-use crate::{Line, NumberRefusal, Tokens, natural};
+use crate::{NumberRefusal, Tokens};
 
-/// Why a line hasn't these fields.
+/// Why tokens aren't these fields.
 #[derive(Clone, Copy, PartialEq, Eq, Debug)]
 pub enum FieldRefusal {
-    /// There aren't as many tokens as fields behind those skipped.
+    /// There aren't as many tokens as fields.
     Count,
     /// The first field that fails, by its place from 0, isn't one or more digits.
     NotNumber(usize),
@@ -20,52 +19,75 @@ pub enum FieldRefusal {
     TooLarge(usize),
 }
 
-fn field(token: &[u8], limit: u64, place: usize) -> Result<u64, FieldRefusal>
-    ensures value { result ≡ field_at place limit token.now }
-    ensures within { IfOk result (λ value. value ≤ limit) }
+fn refused(place: usize, refusal: NumberRefusal) -> FieldRefusal
+    ensures { result ≡ refused place refusal }
 {
-    match natural(token, limit) {
-        Ok(value) => Ok(value),
-        Err(NumberRefusal::NotNumber) => Err(FieldRefusal::NotNumber(place)),
-        Err(NumberRefusal::TooLarge) => Err(FieldRefusal::TooLarge(place)),
+    match refusal {
+        NumberRefusal::NotNumber => FieldRefusal::NotNumber(place),
+        NumberRefusal::TooLarge => FieldRefusal::TooLarge(place),
     }
 }
 
-fn tokens_behind<'a>(line: &Line<'a>, skip: usize) -> Tokens<'a>
-    ensures { result ≡ drop skip (tokens_of line.now.text.now) }
+// Gives so many tokens, and whether there were as many.
+fn pass(tokens: &mut Tokens<'_>, count: usize) -> bool
+    ensures enough { result ≡ nat_le count (length tokens.old) }
+    ensures rest { tokens.new ≡ drop count tokens.old }
 {
-    let mut tokens = line.tokens();
-    for _passed in 0..skip {
-        let _ = tokens.next();
+    for _passed in 0..count {
+        match tokens.next() {
+            None => return false,
+            Some(_) => {}
+        }
     }
-    tokens
+    true
 }
 
-/// The naturals behind the first `skip` tokens of a line, one for each limit and up to it.
+/// The naturals that the next `N` tokens are, one for each limit and up to it.
 ///
-/// `Count` exactly where the line hasn't `skip + N` tokens. Otherwise the first field from the left
-/// that isn't a natural up to its limit is named by its place, from 0. `skip` is at most 4.
-pub fn fields<const N: usize>(
-    line: &Line<'_>,
-    skip: usize,
+/// `Count` exactly where fewer than `N` tokens are left. Otherwise the first field from the left that isn't a natural
+/// up to its limit is named by its place, from 0. The `N` tokens are given, whatever they are.
+#[inline(always)]
+pub fn first_fields<const N: usize>(
+    tokens: &mut Tokens<'_>,
     limits: &[u64; N],
 ) -> Result<[u64; N], FieldRefusal>
-    requires { skip ≤ 4 }
-    ensures value { result ≡ fields_of skip limits.now (tokens_of line.now.text.now) }
+    ensures value { result ≡ first_fields limits.now tokens.old }
     ensures within { IfOk result (λ values.
         (k : ℕ) → k < N → slice_index values k ≤ slice_index limits.now k) }
+    ensures rest { tokens.new ≡ drop N tokens.old }
 {
-    let count = line.token_count();
-    if count < skip || count - skip != N {
-        return Err(FieldRefusal::Count);
-    }
-    let mut tokens = tokens_behind(line, skip);
     let mut values = [0u64; N];
     for place in 0..N {
-        match tokens.next() {
-            Some(token) => values[place] = field(token, limits[place], place)?,
+        match tokens.next_natural(limits[place]) {
+            Some(Ok(value)) => values[place] = value,
+            Some(Err(refusal)) => {
+                if pass(tokens, N - 1 - place) {
+                    return Err(refused(place, refusal));
+                }
+                return Err(FieldRefusal::Count);
+            }
             None => return Err(FieldRefusal::Count),
         }
     }
     Ok(values)
+}
+
+/// The naturals that the tokens left are, one for each limit and up to it.
+///
+/// `Count` exactly where there aren't `N` tokens. Otherwise the first field from the left that isn't a natural up to its
+/// limit is named by its place, from 0.
+#[inline(always)]
+pub fn fields<const N: usize>(
+    mut tokens: Tokens<'_>,
+    limits: &[u64; N],
+) -> Result<[u64; N], FieldRefusal>
+    ensures value { result ≡ fields_of limits.now tokens.entry }
+    ensures within { IfOk result (λ values.
+        (k : ℕ) → k < N → slice_index values k ≤ slice_index limits.now k) }
+{
+    let read = first_fields(&mut tokens, limits);
+    match tokens.next() {
+        None => read,
+        Some(_) => Err(FieldRefusal::Count),
+    }
 }

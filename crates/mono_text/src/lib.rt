@@ -7,8 +7,10 @@
 
 /// Numbers appended to a text.
 mod decimal;
-/// The numbers behind a line's first tokens.
+/// Numbers in a row.
 mod field;
+/// A number at the front of a line's rest.
+mod front;
 /// What the definitions say, worked out, and what is written read back.
 mod laws;
 /// A line with its number.
@@ -24,12 +26,13 @@ mod tests;
 mod tokens;
 
 pub use decimal::{push_natural, push_signed};
-pub use field::{FieldRefusal, fields};
+pub use field::{FieldRefusal, fields, first_fields};
 pub use laws::{
-    natural_of_decimal, printed_numbers, signed_of_decimal, worked_lines, worked_numbers,
+    natural_of_decimal, printed_numbers, signed_of_decimal, worked_comments, worked_fields,
+    worked_first_numbers, worked_limits, worked_lines, worked_numbers, worked_other_numbers,
     worked_tokens,
 };
-pub use line::Line;
+pub use line::{Line, is_comment};
 pub use lines::Lines;
 pub use number::{NumberRefusal, natural, signed};
 pub use tokens::Tokens;

@@ -3,11 +3,12 @@
 //! A line ends before a line feed or at the end of the text, and an empty rest is no line. So what is
 //! left of a text is all that `Lines` keeps, beside how many lines were given.
 
-ghost use Rattle.std.specs.Prelude.{◌≡◌, position};
-ghost use Rattle.std.specs.List.{before_first, after_first};
+ghost use Rattle.std.specs.Prelude.{◌≡◌};
+ghost use Rattle.std.specs.List.{before_first, after_first, position_or_len};
 ghost use Rattle.mono_text.specs.Text.{is_line_feed, lines_of, numbered_from};
 
 use crate::Line;
+use memchr::memchr;
 use std::marker::Model;
 
 /// The lines of a text that are left, in order, numbered from 1. It takes no memory, and each byte is
@@ -29,10 +30,14 @@ impl<'a> Model for Lines<'a> {
     ghost invariant = { λ l. l.read + length l.rest.now < 2 ^ 63 };
 }
 
-fn first_line_feed(text: &[u8]) -> Option<usize>
-    ensures { result ≡ position is_line_feed text.now }
+// Where the first line ends: at its line feed, or at the end of the text.
+fn line_end(text: &[u8]) -> usize
+    ensures { result ≡ position_or_len is_line_feed text.now }
 {
-    text.iter().position(|byte| *byte == b'\n')
+    match memchr(b'\n', text) {
+        Some(end) => end,
+        None => text.len(),
+    }
 }
 
 // What stands before the first line feed, and what follows it.
@@ -40,9 +45,11 @@ fn split_at_line_feed(text: &[u8]) -> (&[u8], &[u8])
     ensures before { result.0.now ≡ before_first is_line_feed text.now }
     ensures after { result.1.now ≡ after_first is_line_feed text.now }
 {
-    match first_line_feed(text) {
-        Some(end) => (&text[..end], &text[end + 1..]),
-        None => (text, &[]),
+    let end = line_end(text);
+    if end < text.len() {
+        (&text[..end], &text[end + 1..])
+    } else {
+        (text, &[])
     }
 }
 

@@ -144,24 +144,51 @@ fn line_of(text: &[u8]) -> Line<'_> {
 
 #[test]
 fn fields_of_lines(rt: HostRuntime) {
-    let pairs: [(&[u8], usize, Result<[u64; 2], FieldRefusal>); 10] = [
-        (b"p 5 9", 1, Ok([5, 9])),
-        (b"5\t009\r", 0, Ok([5, 9])),
-        (b"a b c d 0 0", 4, Ok([0, 0])),
-        (b"p 5", 1, Err(FieldRefusal::Count)),
-        (b"p x 9 9", 1, Err(FieldRefusal::Count)),
-        (b"", 1, Err(FieldRefusal::Count)),
-        (b"p 6 x", 1, Err(FieldRefusal::TooLarge(0))),
-        (b"p x 10", 1, Err(FieldRefusal::NotNumber(0))),
-        (b"p 5 10", 1, Err(FieldRefusal::TooLarge(1))),
-        (b"p 5 -9", 1, Err(FieldRefusal::NotNumber(1))),
+    let pairs: [(&[u8], Result<[u64; 2], FieldRefusal>); 9] = [
+        (b"5 9", Ok([5, 9])),
+        (b"5\t009\r", Ok([5, 9])),
+        (b"5", Err(FieldRefusal::Count)),
+        (b"x 9 9", Err(FieldRefusal::Count)),
+        (b"", Err(FieldRefusal::Count)),
+        (b"6 x", Err(FieldRefusal::TooLarge(0))),
+        (b"x 10", Err(FieldRefusal::NotNumber(0))),
+        (b"5 10", Err(FieldRefusal::TooLarge(1))),
+        (b"5 -9", Err(FieldRefusal::NotNumber(1))),
     ];
-    for (text, skip, want) in pairs {
-        assert_eq!(rt; fields(&line_of(text), skip, &[5, 9]), want);
+    for (text, want) in pairs {
+        assert_eq!(rt; fields(line_of(text).tokens(), &[5, 9]), want);
     }
-    assert_eq!(rt; fields(&line_of(b"a"), 1, &[]), Ok([]));
-    assert_eq!(rt; fields(&line_of(b"a"), 2, &[]), Err(FieldRefusal::Count));
-    assert_eq!(rt; fields(&line_of(b"a"), 0, &[]), Err(FieldRefusal::Count));
+    assert_eq!(rt; fields(line_of(b" ").tokens(), &[]), Ok([]));
+    assert_eq!(rt;
+        fields(line_of(b"a").tokens(), &[]),
+        Err(FieldRefusal::Count)
+    );
+}
+
+#[test]
+fn numbers_of_tokens(rt: HostRuntime) {
+    let line = line_of(b" 12\t-7 99999999999999999 100000000000000000 18446744073709551616 1x 4");
+    let mut tokens = line.tokens();
+    assert_eq!(rt; tokens.left(), 7);
+    assert_eq!(rt; tokens.first_byte(), Some(b'1'));
+    assert_eq!(rt; tokens.next_natural(12), Some(Ok(12)));
+    assert_eq!(rt; tokens.next_signed(6), Some(Err(NumberRefusal::TooLarge)));
+    assert_eq!(rt;
+        tokens.next_signed(1 << 62),
+        Some(Ok(99_999_999_999_999_999))
+    );
+    assert_eq!(rt;
+        tokens.next_natural(u64::MAX),
+        Some(Ok(100_000_000_000_000_000))
+    );
+    assert_eq!(rt;
+        tokens.next_natural(u64::MAX),
+        Some(Err(NumberRefusal::TooLarge))
+    );
+    assert_eq!(rt; tokens.next_signed(9), Some(Err(NumberRefusal::NotNumber)));
+    assert_eq!(rt; tokens.next_signed(9), Some(Ok(4)));
+    assert_eq!(rt; tokens.first_byte(), None);
+    assert_eq!(rt; tokens.next_natural(9), None);
 }
 
 #[test]
@@ -203,7 +230,7 @@ fn many_blanks(rt: HostRuntime) -> Result<(), AllocError> {
     let mut text = Vec::from_elem(rt.alloc(), b' ', 1_000_000)?;
     text.push(b'x')?;
     let line = line_of(&text);
-    assert_eq!(rt; line.token_count(), 1);
+    assert_eq!(rt; line.tokens().left(), 1);
     assert_eq!(rt; line.tokens().next(), Some(b"x".as_slice()));
     Ok(())
 }

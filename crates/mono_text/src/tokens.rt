@@ -3,10 +3,13 @@
 //! A token is a longest run of bytes that are no blanks, and `Tokens` keeps what is left of the line.
 //! To give one it passes the blanks, and cuts at the first blank after them.
 
-ghost use Rattle.std.specs.Prelude.{◌≡◌, position, not, drop};
+ghost use Rattle.std.specs.Prelude.{◌≡◌, ◌≤◌, ◌^◌, position, not, drop, length, nat_abs, IfSome, IfOk};
 ghost use Rattle.std.specs.List.{before_first, after_first, position_or_len};
-ghost use Rattle.mono_text.specs.Text.{is_blank as is_blank_byte, tokens_of};
+ghost use Rattle.mono_text.specs.Text.{is_blank as is_blank_byte, tokens_of, first_byte};
+ghost use Rattle.mono_text.specs.Numbers.{IsFirstNatural, IsFirstSigned};
 
+use crate::NumberRefusal;
+use crate::front::{natural_front, signed_front};
 use std::marker::Model;
 
 /// The tokens of a line that are left, in order. It takes no memory, and each byte is read once.
@@ -24,7 +27,7 @@ impl<'a> Model for Tokens<'a> {
     ghost view = { λ t. tokens_of t.rest.now };
 }
 
-fn is_blank(byte: u8) -> bool
+pub(crate) fn is_blank(byte: u8) -> bool
     ensures { result ≡ is_blank_byte byte }
 {
     byte == b' ' || byte == b'\t' || byte == b'\r'
@@ -53,7 +56,7 @@ fn without_blanks(text: &[u8]) -> &[u8]
 }
 
 // What stands before the first blank, and what follows it.
-fn split_at_blank(text: &[u8]) -> (&[u8], &[u8])
+pub(crate) fn split_at_blank(text: &[u8]) -> (&[u8], &[u8])
     ensures before { result.0.now ≡ before_first is_blank_byte text.now }
     ensures after { result.1.now ≡ after_first is_blank_byte text.now }
 {
@@ -69,6 +72,57 @@ impl<'a> Tokens<'a> {
         ensures { result ≡ tokens_of text.now }
     {
         Tokens { rest: text }
+    }
+
+    /// How many tokens are left. It gives none.
+    pub fn left(&self) -> usize
+        ensures { result ≡ length self.now }
+    {
+        Tokens::new(self.rest).count()
+    }
+
+    /// The byte that the next token begins with. It gives no token.
+    #[inline(always)]
+    pub fn first_byte(&mut self) -> Option<u8>
+        ensures same { self.new ≡ self.old }
+        ensures byte { result ≡ first_byte self.old }
+    {
+        self.rest = without_blanks(self.rest);
+        if self.rest.is_empty() {
+            return None;
+        }
+        Some(self.rest[0])
+    }
+
+    /// The next token as a natural up to the limit, by one pass over its bytes.
+    #[inline(always)]
+    pub fn next_natural(&mut self, limit: u64) -> Option<Result<u64, NumberRefusal>>
+        ensures first { IsFirstNatural limit self.old result self.new }
+        ensures within { IfSome result (λ number. IfOk number (λ n. n ≤ limit)) }
+    {
+        self.rest = without_blanks(self.rest);
+        if self.rest.is_empty() {
+            return None;
+        }
+        let (number, rest) = natural_front(self.rest, limit);
+        self.rest = rest;
+        Some(number)
+    }
+
+    /// The next token as a signed number of a magnitude up to the limit, by one pass over its bytes.
+    #[inline(always)]
+    pub fn next_signed(&mut self, limit: u64) -> Option<Result<i64, NumberRefusal>>
+        requires { limit ≤ 2 ^ 62 }
+        ensures first { IsFirstSigned limit self.old result self.new }
+        ensures within { IfSome result (λ number. IfOk number (λ z. nat_abs z ≤ limit)) }
+    {
+        self.rest = without_blanks(self.rest);
+        if self.rest.is_empty() {
+            return None;
+        }
+        let (number, rest) = signed_front(self.rest, limit);
+        self.rest = rest;
+        Some(number)
     }
 }
 

@@ -13,16 +13,64 @@ const MODEL: &[u8] = b"s SATISFIABLE\nv -1 2 0\n";
 
 const OTHER: &[u8] = b"s SATISFIABLE\nv 1 2 0\n";
 
+/// The run of these words over a shelf that holds the file `f` alone ends so.
+fn ends_without_answer(
+    rt: &(impl Abort + AllocGlobal),
+    line: &[&str],
+    input: &[u8],
+    text: &[u8],
+    status: Status,
+) -> Result<(), Fail> {
+    let mut shelf = MemoryShelf::new(rt.alloc());
+    shelf.put("f", input)?;
+    let mut out = MemorySink::new(rt.alloc(), 100)?;
+    let words = words_of(rt.alloc(), line)?;
+    let found = run(rt.alloc(), words.as_slice(), &mut shelf, &mut out);
+    assert_eq!(rt; out.bytes(), text);
+    assert_eq!(rt; found, status);
+    Ok(())
+}
+
 #[test]
 fn a_missing_file_is_a_read_fault(rt: HostRuntime) -> Result<(), Fail> {
-    let mut shelf = MemoryShelf::new(rt.alloc());
-    shelf.put("a", MODEL)?;
-    let mut out = MemorySink::new(rt.alloc(), 100)?;
-    let words = words_of(rt.alloc(), &["check", "missing", "a"])?;
-    let status = run(rt.alloc(), words.as_slice(), &mut shelf, &mut out);
-    assert_eq!(rt; out.bytes(), b"read fault\n".as_slice());
-    assert_eq!(rt; status, Status::ReadFault);
-    Ok(())
+    let text = b"read fault\n";
+    ends_without_answer(
+        &rt,
+        &["check", "missing", "f"],
+        INPUT,
+        text,
+        Status::ReadFault,
+    )?;
+    ends_without_answer(
+        &rt,
+        &["check", "f", "missing"],
+        INPUT,
+        text,
+        Status::ReadFault,
+    )
+}
+
+#[test]
+fn a_fault_of_the_input_comes_before_a_missing_answer(rt: HostRuntime) -> Result<(), Fail> {
+    ends_without_answer(
+        &rt,
+        &["check", "f", "missing"],
+        b"1 0\nbogus\n",
+        b"refused 2 UnknownWord\n",
+        Status::Refused,
+    )
+}
+
+#[test]
+fn an_input_beyond_its_limit_comes_before_a_missing_answer(rt: HostRuntime) -> Result<(), Fail> {
+    let spaces = vec![in rt.alloc(); b' '; (1 << 28) + 1]?;
+    ends_without_answer(
+        &rt,
+        &["check", "f", "missing"],
+        spaces.as_slice(),
+        b"too long\n",
+        Status::TooLong,
+    )
 }
 
 /// Each call on the shelf fails in turn, until a run makes no further call.
@@ -115,19 +163,6 @@ fn a_full_output_keeps_a_prefix(rt: HostRuntime) -> Result<(), Fail> {
     let status = run(rt.alloc(), words.as_slice(), &mut shelf, &mut out);
     assert_eq!(rt; out.bytes(), b"p gn".as_slice());
     assert_eq!(rt; status, Status::WriteFault);
-    Ok(())
-}
-
-#[test]
-fn a_file_beyond_its_limit_is_too_long(rt: HostRuntime) -> Result<(), Fail> {
-    let spaces = vec![in rt.alloc(); b' '; (1 << 28) + 1]?;
-    let mut shelf = MemoryShelf::new(rt.alloc());
-    shelf.put("f", spaces.as_slice())?;
-    let mut out = MemorySink::new(rt.alloc(), 100)?;
-    let words = words_of(rt.alloc(), &["print", "f"])?;
-    let status = run(rt.alloc(), words.as_slice(), &mut shelf, &mut out);
-    assert_eq!(rt; out.bytes(), b"too long\n".as_slice());
-    assert_eq!(rt; status, Status::TooLong);
     Ok(())
 }
 

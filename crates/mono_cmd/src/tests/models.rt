@@ -1,6 +1,6 @@
 //! Models, judged.
 
-use super::{checks, outcome_of};
+use super::checks;
 use crate::status::Status;
 use std::test::Fail;
 
@@ -193,13 +193,20 @@ fn edges_without_predicates_are_free_variables(rt: HostRuntime) -> Result<(), Fa
 }
 
 #[test]
-fn a_model_of_predicates_is_not_judged_yet(rt: HostRuntime) -> Result<(), Fail> {
+fn models_of_predicates_are_judged(rt: HostRuntime) -> Result<(), Fail> {
     let input = b"digraph int 2 1 0\nedge 0 0 1 1\nreach 0 0 1 2\n1 0\n";
     checks(
         &rt,
         input,
         b"s SATISFIABLE\nv 1 2 0\n",
-        b"rejected 2 NotBuilt\n",
+        b"accepted model\n",
+        Status::Accepted,
+    )?;
+    checks(
+        &rt,
+        input,
+        b"s SATISFIABLE\nv 1 -2 0\n",
+        b"rejected 2 AtomWrong 1\n",
         Status::Rejected,
     )?;
     checks(
@@ -209,16 +216,4 @@ fn a_model_of_predicates_is_not_judged_yet(rt: HostRuntime) -> Result<(), Fail> 
         b"rejected 2 ClauseFalse 1\n",
         Status::Rejected,
     )
-}
-
-#[test]
-fn memory_is_found(rt: HostRuntime) -> Result<(), Fail> {
-    let found = outcome_of(
-        rt.alloc(),
-        &["check", "f", "a"],
-        INPUT,
-        b"s SATISFIABLE\nv -1 2 0\n",
-    )?;
-    assert_ne!(rt; found.status, Status::Memory);
-    Ok(())
 }

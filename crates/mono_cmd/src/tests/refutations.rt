@@ -32,7 +32,7 @@ fn a_refutation_by_chains_is_accepted(rt: HostRuntime) -> Result<(), Fail> {
         &rt,
         input,
         b"s UNSATISFIABLE\npath 1 1 0\n",
-        b"rejected 2 NotBuilt\n",
+        b"rejected 2 UnknownAtom\n",
         Status::Rejected,
     )?;
     checks(

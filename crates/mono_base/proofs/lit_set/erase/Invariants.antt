@@ -1,6 +1,6 @@
 use Rattle.std.proofs.Common.{◌≡◌, ◌<◌, ℕ, length, get_or}
 use Rattle.std.specs.Prelude.{pos}
-use Rattle.mono_base.specs.LitSet.{slot}
+use Rattle.mono_base.specs.Literal.{slot}
 use Rattle.mono_base.proofs.lit_set.erase.Given as goal
 
 abbrev pub invariant-loop-lit : goal.invariant-loop-lit

@@ -1,8 +1,8 @@
-use Rattle.std.proofs.Common.{◌≡◌, ◌++◌, take}
-use Rattle.std.specs.Prelude.{IsTrue}
-use Rattle.mono_check.specs.Values.{are_values}
+use Rattle.std.proofs.Common.{◌≡◌, ◌++◌, take, List, ℤ}
+use Rattle.mono_check.specs.Values.{literals_among}
+use Rattle.mono_check.specs.Seen.{AreMembers}
 use Rattle.mono_check.proofs.values.add_literals.Given as goal
 
-abbrev pub invariant-loop-lit : goal.invariant-loop-lit
-invariant-loop-lit l =
-    (l.set.vars ≡ l.fn.set.vars) × (l.set.members ≡ l.fn.set.members ++ take l.lit-index l.lits) × IsTrue (are_values l.problem (l.fn.set.members ++ take l.lit-index l.lits))
+abbrev pub invariant-loop-number : goal.invariant-loop-number
+invariant-loop-number l =
+    (l.set.vars ≡ l.fn.set.vars) × ((lits : List ℤ) → AreMembers l.problem lits l.fn.set → AreMembers l.problem (lits ++ literals_among (take l.number-index l.numbers)) l.set)

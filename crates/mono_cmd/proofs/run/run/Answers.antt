@@ -1,12 +1,29 @@
-use Rattle.std.proofs.Common.{◌∙◌, ap, sym, List, ℕ, map, string_bytes}
-use Rattle.std.specs.Io.KnownBytes.{append_known}
+use Rattle.std.proofs.Common.{map, string_bytes}
 use Rattle.mono_cmd.specs.Commands.{command_of}
-use Rattle.mono_cmd.proofs.Sound.{sound}
+use Rattle.mono_cmd.proofs.Stages.{ends_begun, ends_faults}
+use Rattle.mono_cmd.proofs.Needs.{no_read_fault, steady, complete}
+use Rattle.mono_cmd.proofs.Sound.{refutes, models}
 use Rattle.mono_cmd.proofs.run.run.Goals as goal
 
-pub returns-in-Ok-write_whole-clause-sound : goal.returns-in-Ok-write_whole-clause-sound
-returns-in-Ok-write_whole-clause-sound g c =
-    let text = c.as_slice.ensures.value ∙ c.in-Ok-into_text.ensures in
-    let written = c.in-Ok-write_whole.ensures.whole ∙ ap (λ (t : List ℕ). append_known (g.K.Sink.written c.args.out.now) t) text in
-    sound (command_of (map string_bytes c.args.words.now)) (g.S.Shelf.texts c.args.shelf.now) _ _ c.status-status.result (g.K.Sink.written c.args.out.now) (g.K.Sink.written c.write_whole.new.sink)
-    (record { ending = c.in-Ok.ending; ends = c.in-Ok.ensures.ends; status_is = sym c.status-status.ensures; written = written })
+pub returns-clause-begun : goal.returns-clause-begun
+returns-clause-begun g c = ends_begun _ _ _ c.ending_of-ending.result c.ending_of-ending.ensures
+
+pub returns-clause-refutes : goal.returns-clause-refutes
+returns-clause-refutes g c =
+    refutes (command_of (map string_bytes c.args.words.now)) (g.S.Shelf.seen c.args.shelf.now) (g.S.Shelf.seen c.ending_of-ending.new.shelf) c.write_ending.result (g.K.Sink.written c.args.out.now) (g.K.Sink.written c.write_ending.new.out)
+    (record { ending = c.ending_of-ending.result; ends = c.ending_of-ending.ensures; writes = c.write_ending.ensures.writes })
+
+pub returns-clause-models : goal.returns-clause-models
+returns-clause-models g c =
+    models (command_of (map string_bytes c.args.words.now)) (g.S.Shelf.seen c.args.shelf.now) (g.S.Shelf.seen c.ending_of-ending.new.shelf) c.write_ending.result (g.K.Sink.written c.args.out.now) (g.K.Sink.written c.write_ending.new.out)
+    (record { ending = c.ending_of-ending.result; ends = c.ending_of-ending.ensures; writes = c.write_ending.ensures.writes })
+
+pub returns-clause-no_read_fault : goal.returns-clause-no_read_fault
+returns-clause-no_read_fault g c = λ other no_fault.
+    ends_faults _ _ _ c.ending_of-ending.result (no_read_fault c.ending_of-ending.result c.write_ending.result _ _ c.write_ending.ensures.writes other no_fault) c.ending_of-ending.ensures
+
+pub returns-clause-steady : goal.returns-clause-steady
+returns-clause-steady g c = steady _ _ _ c.ending_of-ending.result c.write_ending.result _ _ c.ending_of-ending.ensures c.write_ending.ensures.writes
+
+pub returns-clause-complete : goal.returns-clause-complete
+returns-clause-complete g c = complete _ _ _ c.ending_of-ending.result c.write_ending.result _ _ c.ending_of-ending.ensures c.write_ending.ensures.writes

@@ -3,7 +3,7 @@ use Rattle.std.specs.Prelude.{ℤ, nat_abs}
 use Rattle.std.proofs.lemmas.List.Sums.{fold_more}
 use Rattle.std.proofs.lemmas.List.Elements.{All-more, All-weaker}
 use Rattle.mono_problem.specs.Growth.{greatest_var}
-use Rattle.mono_problem.specs.WellFormed.{IsLitWithin}
+use Rattle.mono_base.specs.Literal.{IsLitWithin}
 use Rattle.mono_problem.proofs.draft.greatest_var.Goals as goal
 
 value_more : (v : ℕ) (xs : List ℤ) (i : ℕ) (x : ℤ) → i < length xs → x ≡ get_or xs i x → greatest_var v (take (i + 1) xs) ≡ max (greatest_var v (take i xs)) (nat_abs x)

@@ -8,7 +8,7 @@ use Rattle.mono_steps.proofs.resolving.join.Goals as goal
 use Rattle.mono_steps.proofs.resolving.join.Goals.{then-ne, else-ne}
 
 pub loop-lit-init : goal.loop-lit-init
-loop-lit-init c = (ap (λ (s : LiteralSet). s.vars) c.remove.ensures.value, λ l. c.remove.ensures.has l ∙ taken_out c.args.set.now.members c.args.out l)
+loop-lit-init c = (c.remove.ensures.vars, λ l. c.remove.ensures.has l ∙ taken_out c.args.set.now.members c.args.out l)
 
 pub loop-lit-preserved : goal.loop-lit-preserved
 loop-lit-preserved c =
@@ -19,7 +19,7 @@ loop-lit-preserved c =
     elim c.if-ne.branch [
       | then-ne w ↦
           subst (λ (s : LiteralSet). s.vars ≡ c.args.set.now.vars × IsJoinedTo old s.members next c.args.out c.args.other (i + 1)) (sym w.set-is) (
-            ap (λ (s : LiteralSet). s.vars) w.insert.ensures.value ∙ c.loop-lit.invariant.0,
+            w.insert.ensures.vars ∙ c.loop-lit.invariant.0,
             join_put old c.loop-lit.set.members w.insert.new.self.members next c.args.out c.args.other i x c.loop-lit.invariant.1 c.loop-lit-test.true (sym c.lit-item.is) (not-true (int_eq x c.args.other) (sym w.if-ne.ensures)) w.insert.ensures.has,
           )
       | else-ne w ↦

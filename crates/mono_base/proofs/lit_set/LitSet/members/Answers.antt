@@ -3,7 +3,8 @@ use Rattle.std.specs.Prelude.{pos, All}
 use Rattle.std.specs.Ordering.{int_eq}
 use Rattle.std.specs.List.{IsDistinct}
 use Rattle.std.proofs.lemmas.List.{get_or_default}
-use Rattle.mono_base.specs.LitSet.{LiteralSet, IsLitWithin}
+use Rattle.mono_base.specs.Literal.{IsLitWithin}
+use Rattle.mono_base.specs.LitSet.{LiteralSet}
 use Rattle.mono_base.proofs.Sparse.{distinct_members}
 use Rattle.mono_base.proofs.lit_set.LitSet.members.Goals as goal
 

@@ -9,4 +9,4 @@ use Rattle.mono_gnf.proofs.reader.Reader.put_atom.Goals as goal
 pub returns-in-Some : goal.returns-in-Some
 returns-in-Some c =
     let P : Result Seen GnfFault → Type 0 = λ step. Moves step c.put_atom_at.new.self c.put_atom_at.result in
-    subst P (sym (put_atom-known c.args.self.now c.args.graph c.args.var c.args.predicate c.in-Some.place (c.in-Some.ensures.place ∙ ap (λ (s : Seen). place_named s.problem c.args.graph) c.self.view_is))) c.put_atom_at.ensures
+    subst P (sym (put_atom-known c.args.self.now c.args.graph c.args.var c.args.predicate c.in-Some.place (c.in-Some.ensures.place ∙ ap (λ (s : Seen). place_named s.problem.graphs c.args.graph) c.self.view_is))) c.put_atom_at.ensures

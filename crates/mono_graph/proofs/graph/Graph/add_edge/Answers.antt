@@ -1,10 +1,11 @@
 use Rattle.std.proofs.Common.{◌≡◌, ◌∷◌, ◌++◌, [], ◌<◌, length, get_or, set, ◌∙◌, sym, ap, subst, arith}
 use Rattle.std.specs.Prelude.{All}
 use Rattle.std.proofs.lemmas.Grind.{common_steps}
+use Rattle.mono_base.specs.declared.limits.TheConstants.{MAX_EDGES}
 use Rattle.mono_graph.specs.declared.edge.Edge.{Edge}
-use Rattle.mono_graph.specs.Digraph.{Digraph}
+use Rattle.mono_graph.specs.Digraph.{Digraph, IsNewEdge}
 use Rattle.mono_graph.specs.Kept.{shown}
-use Rattle.mono_graph.proofs.GraphGrown.{IsNewEdge, IsGraph-with_edge}
+use Rattle.mono_graph.proofs.GraphGrown.{IsGraph-with_edge}
 use Rattle.mono_graph.proofs.NodeLists.{listed-with_edge}
 use Rattle.mono_graph.proofs.graph.Graph.add_edge.Goals as goal
 
@@ -21,7 +22,7 @@ invariant_of-self-2 c =
     let new : IsNewEdge g e = record {
       from = from;
       to = to;
-      room = subst (λ (h : Digraph). length h.edges < 1000000) (sym c.self.view_is) c.requires.room;
+      room = subst (λ (h : Digraph). length h.edges < MAX_EDGES) (sym c.self.view_is) c.requires.room;
       rising = subst (λ (h : Digraph). All (λ f. f.number < e.number) h.edges) (sym c.self.view_is) c.requires.rising;
       number = c.requires.number;
       var = c.requires.var;

@@ -1,0 +1,5 @@
+pub mod TokenSteps
+pub mod Printing
+pub mod ReadBack
+pub mod RoundTrip
+pub mod SmallSteps

@@ -1,0 +1,4 @@
+pub mod Items
+pub mod Readings
+pub mod Printed
+pub mod Behind

@@ -1,0 +1,172 @@
+//! The part of a graph that an assignment enables, and whether predicates hold in it.
+
+ghost use Rattle.std.specs.Prelude.{◌≡◌, ◌<◌, ◌≤◌, ◌↔◌, ◌==◌, ◌&&◌, ◌||◌, ℕ, IsTrue, IfOk, OnOk, length};
+ghost use Rattle.mono_base.specs.Literal.{value_in};
+ghost use Rattle.mono_graph.specs.Digraph.{edge_at, enabled, present};
+ghost use Rattle.mono_problem.specs.Instance.{graph_at};
+ghost use Rattle.mono_problem.specs.WellFormed.{IsOver};
+ghost use Rattle.mono_problem.specs.Holds.{Holds};
+ghost use Rattle.mono_problem.specs.Read.{atom_numbered};
+ghost use Rattle.mono_check.specs.Atoms.{IsJudged};
+ghost use Rattle.mono_check.specs.Enabled.{IsEnabled};
+
+use crate::predicates::{carries, reaches, reaches_in_steps, reaches_in_weight, spans};
+use mono_flows::FlowFinder;
+use mono_graph::{Graph, Part};
+use mono_paths::WalkFinder;
+use mono_problem::{Predicate, Problem};
+use mono_trees::TreeFinder;
+use std::alloc::{AllocError, Global};
+
+/// The part of a problem's graph that an assignment enables, with room for searches.
+#[derive(Drop)]
+pub(crate) struct EnabledPart {
+    /// The place of the graph.
+    graph: u32,
+    part: Part,
+    walks: WalkFinder,
+    flows: FlowFinder,
+    trees: TreeFinder,
+}
+
+/// The value of a variable.
+fn value(model: &[bool], var: u32) -> bool
+    requires low { 0 < var }
+    requires high { var ≤ length model.now }
+    ensures { result ≡ value_in model.now var }
+{
+    model[var as usize - 1]
+}
+
+/// Puts the place into the part, where it is to be there.
+fn put_if(part: &mut Part, place: u32, is_there: bool)
+    requires { place < length part.old }
+    ensures size { length part.new ≡ length part.old }
+    ensures places { (k : ℕ) → present part.new k ≡ ((is_there && k == place) || present part.old k) }
+{
+    if is_there {
+        part.put(place);
+    }
+}
+
+/// The edges whose variable is true.
+fn enabled_edges(alloc: Global, graph: &Graph, model: &[bool]) -> Result<Part, AllocError>
+    requires { (k : ℕ) → k < length graph.now.edges → (edge_at graph.now k).var ≤ length model.now }
+    ensures { IfOk result (λ part. part ≡ enabled (value_in model.now) graph.now) }
+{
+    let mut part = Part::none(alloc, graph.edge_count())?;
+    for place in 0..graph.edge_count() {
+        let is_there = value(model, graph.edge(place).var);
+        put_if(&mut part, place, is_there);
+    }
+    Ok(part)
+}
+
+impl EnabledPart {
+    /// The part of the graph at a place, where variable x has the value `model[x - 1]`.
+    pub(crate) fn new(
+        alloc: Global,
+        problem: &Problem,
+        model: &[bool],
+        place: u32,
+    ) -> Result<EnabledPart, AllocError>
+        requires model { length model.now ≡ problem.now.vars }
+        requires place { place < length problem.now.graphs }
+        ensures enabled { IfOk result (IsEnabled problem.now (value_in model.now)) }
+        ensures graph { IfOk result (λ part. part.graph ≡ place) }
+    {
+        let _ = problem.vars();
+        let graph = problem.graph(place);
+        let nodes = graph.nodes();
+        Ok(EnabledPart {
+            graph: place,
+            part: enabled_edges(alloc, graph, model)?,
+            walks: WalkFinder::new(alloc, nodes)?,
+            flows: FlowFinder::new(alloc, nodes)?,
+            trees: TreeFinder::new(alloc, nodes)?,
+        })
+    }
+
+    /// Turns to the graph at a place. Nothing is done where it is that one already.
+    fn turn_to(
+        &mut self,
+        alloc: Global,
+        problem: &Problem,
+        model: &[bool],
+        place: u32,
+    ) -> Result<(), AllocError>
+        requires model { length model.now ≡ problem.now.vars }
+        requires place { place < length problem.now.graphs }
+        requires enabled { IsEnabled problem.now (value_in model.now) self.old }
+        ensures enabled { OnOk result (IsEnabled problem.now (value_in model.now) self.new) }
+        ensures graph { OnOk result (self.new.graph ≡ place) }
+    {
+        if self.graph != place {
+            *self = EnabledPart::new(alloc, problem, model, place)?;
+        }
+        Ok(())
+    }
+
+    /// Whether a predicate over the graph holds in the part.
+    fn holds(
+        &mut self,
+        alloc: Global,
+        graph: &Graph,
+        predicate: Predicate,
+    ) -> Result<bool, AllocError>
+        requires over { IsOver graph.now predicate }
+        requires part { length self.old.part ≡ length graph.now.edges }
+        requires walks { self.old.walks ≡ graph.now.nodes }
+        requires flows { self.old.flows ≡ graph.now.nodes }
+        requires trees { self.old.trees ≡ graph.now.nodes }
+        ensures holds { IfOk result (λ yes. IsTrue yes ↔ Holds graph.now self.old.part predicate) }
+        ensures graph { self.new.graph ≡ self.old.graph }
+        ensures part { self.new.part ≡ self.old.part }
+        ensures walks { self.new.walks ≡ self.old.walks }
+        ensures flows { self.new.flows ≡ self.old.flows }
+        ensures trees { self.new.trees ≡ self.old.trees }
+    {
+        let part = &self.part;
+        match predicate {
+            Predicate::Reach { from, to } => reaches(&mut self.walks, graph, part, from, to),
+            Predicate::Steps { from, to, most } => {
+                reaches_in_steps(&mut self.walks, graph, part, from, to, most)
+            }
+            Predicate::Distance { from, to, most } => {
+                reaches_in_weight(&mut self.walks, graph, part, from, to, most)
+            }
+            Predicate::Flow {
+                source,
+                sink,
+                least,
+            } => carries(alloc, &mut self.flows, graph, part, source, sink, least),
+            Predicate::Tree { most } => spans(&mut self.trees, graph, part, most),
+        }
+    }
+
+    /// Whether the variable of the predicate of this number is true exactly where the predicate holds.
+    pub(crate) fn is_right(
+        &mut self,
+        alloc: Global,
+        problem: &Problem,
+        model: &[bool],
+        number: u32,
+    ) -> Result<bool, AllocError>
+        requires model { length model.now ≡ problem.now.vars }
+        requires low { 0 < number }
+        requires high { number ≤ length problem.now.atoms }
+        requires enabled { IsEnabled problem.now (value_in model.now) self.old }
+        ensures right { IfOk result (IsJudged problem.now (value_in model.now) (atom_numbered problem.now number)) }
+        ensures enabled { OnOk result (IsEnabled problem.now (value_in model.now) self.new) }
+    {
+        let _ = problem.vars();
+        let atom = problem.atom(number);
+        self.turn_to(alloc, problem, model, atom.graph)?;
+        let holds = self.holds(alloc, problem.graph(atom.graph), atom.predicate)?;
+        if value(model, atom.var) {
+            Ok(holds)
+        } else {
+            Ok(!holds)
+        }
+    }
+}

@@ -1,0 +1,114 @@
+-- Where the shelf stands as a run ends, by its ending.
+use Rattle.std.proofs.Common.{◌≡◌, ◌≢◌, ◌<◌, ◌≤◌, ◌⊎◌, ◌+◌, ◌^◌, ◌↔◌, ℕ, List, Option, Some, None, IfSome, length, refl, sym, ap, subst, ◌∙◌, inl, inr, arith, max, min}
+use Rattle.mono_base.specs.declared.limits.TheConstants.{MAX_INPUT_BYTES, MAX_ANSWER_BYTES}
+use Rattle.mono_io.specs.Faults.{counted}
+use Rattle.mono_io.specs.Reading.{IsRead}
+use Rattle.mono_io.specs.Shelf.{ShelfView}
+use Rattle.mono_cmd.specs.declared.command.Command.{Command}
+use Rattle.mono_cmd.specs.declared.command.Command.TheVariants as command
+use Rattle.mono_cmd.specs.declared.ending.Ending.{Ending}
+use Rattle.mono_cmd.specs.declared.ending.Ending.TheVariants as ending
+use Rattle.mono_cmd.specs.Runs.{IsJudged, EndsAtText, EndsAtFile, ComesTo, Ends}
+use Rattle.mono_cmd.proofs.Stages.{ends_else, text_begun, file_begun}
+
+-- at a place within the limit the shelf isn't behind it
+not_behind : (place : Option ℕ) (limit : ℕ) → IfSome place (λ at. at ≤ limit) → place ≡ Some (limit + 1) → ⊥
+not_behind None limit within is = absurd cc
+not_behind (Some at) limit within is = absurd (omega (arith, (let same : at ≡ limit + 1 = cc in same)))
+
+text_place : (file : List ℕ) (limit : ℕ) (old new : ShelfView) (e : Ending) → e ≢ ending.TooLong → EndsAtText file limit old new e → IfSome new.place (λ at. at ≤ limit)
+text_place file limit old new ending.ReadFault else ends = ends.place
+text_place file limit old new ending.TooLong else ends = absurd (else refl)
+text_place file limit old new ending.Memory else ends = ends.place
+text_place file limit old new ending.Words else ends = absurd ends
+text_place file limit old new (ending.Refused line fault) else ends = absurd ends
+text_place file limit old new (ending.Judged v) else ends = absurd ends
+text_place file limit old new (ending.Printed text) else ends = absurd ends
+
+read_place : (place : Option ℕ) (limit : ℕ) (text : List ℕ) → place ≡ Some (length text) → length text ≤ limit → IfSome place (λ at. at ≤ limit)
+read_place None limit text is within = absurd cc
+read_place (Some at) limit text is within = let same : at ≡ length text = cc in subst (λ (n : ℕ). n ≤ limit) (sym same) within
+
+file_place : (file : List ℕ) (old new : ShelfView) (e : Ending) → e ≢ ending.TooLong → EndsAtFile file old new e → IfSome new.place (λ at. at ≤ MAX_INPUT_BYTES)
+file_place file old new ending.ReadFault else ends = ends.place
+file_place file old new ending.TooLong else ends = absurd (else refl)
+file_place file old new ending.Memory else ends = ends.place
+file_place file old new ending.Words else ends = absurd ends
+file_place file old new (ending.Refused line fault) else ends = read_place new.place MAX_INPUT_BYTES ends.text ends.read.place ends.read.within
+file_place file old new (ending.Judged v) else ends = absurd ends
+file_place file old new (ending.Printed text) else ends = absurd ends
+
+-- ---- both ways, by whether the run ended there
+
+both_ways : (e : Ending) (place : Option ℕ) (limit : ℕ) → (e ≡ ending.TooLong → place ≡ Some (limit + 1)) → (e ≢ ending.TooLong → IfSome place (λ at. at ≤ limit)) → (e ≡ ending.TooLong) ↔ (place ≡ Some (limit + 1))
+both_ways e place limit behind within = (behind, from e behind within)
+  where
+    from : (d : Ending) → (d ≡ ending.TooLong → place ≡ Some (limit + 1)) → (d ≢ ending.TooLong → IfSome place (λ at. at ≤ limit)) → place ≡ Some (limit + 1) → d ≡ ending.TooLong
+    from ending.TooLong b w is = refl
+    from ending.Words b w is = absurd (not_behind place limit (w (λ same. cc)) is)
+    from ending.ReadFault b w is = absurd (not_behind place limit (w (λ same. cc)) is)
+    from ending.Memory b w is = absurd (not_behind place limit (w (λ same. cc)) is)
+    from (ending.Refused line fault) b w is = absurd (not_behind place limit (w (λ same. cc)) is)
+    from (ending.Judged v) b w is = absurd (not_behind place limit (w (λ same. cc)) is)
+    from (ending.Printed text) b w is = absurd (not_behind place limit (w (λ same. cc)) is)
+
+print_behind : (file : List ℕ) (old new : ShelfView) → ComesTo (Some (command.Print file)) old new ending.TooLong → new.place ≡ Some (MAX_INPUT_BYTES + 1)
+print_behind file old new (inl ends) = ends.place
+print_behind file old new (inr (p, shelf, has, end)) = absurd (cc end.0)
+
+print_within : (file : List ℕ) (old new : ShelfView) (e : Ending) → e ≢ ending.TooLong → ComesTo (Some (command.Print file)) old new e → IfSome new.place (λ at. at ≤ MAX_INPUT_BYTES)
+print_within file old new e else (inl ends) = file_place file old new e else ends
+print_within file old new e else (inr (p, shelf, has, end)) =
+    subst (λ (s : ShelfView). IfSome s.place (λ at. at ≤ MAX_INPUT_BYTES)) (sym end.1) (read_place shelf.place MAX_INPUT_BYTES has.text has.read.place has.read.within)
+
+pub print_too_long : (file : List ℕ) (old new : ShelfView) (e : Ending) → Ends (Some (command.Print file)) old new e → e ≢ ending.Memory → (e ≡ ending.TooLong) ↔ (new.place ≡ Some (MAX_INPUT_BYTES + 1))
+print_too_long file old new e ends else =
+    let comes = ends_else (Some (command.Print file)) old new e else ends in
+    both_ways e new.place MAX_INPUT_BYTES
+    (λ same. print_behind file old new (subst (ComesTo (Some (command.Print file)) old new) same comes))
+    (λ other. print_within file old new e other comes)
+
+-- FILE alone was begun
+pub file_too_long : (file answer : List ℕ) (old new : ShelfView) (e : Ending) → Ends (Some (command.Check file answer)) old new e → e ≢ ending.Memory
+    → old.begun + 2 < 2 ^ 64 → new.begun ≡ counted old.begun → (e ≡ ending.TooLong) ↔ (new.place ≡ Some (MAX_INPUT_BYTES + 1))
+file_too_long file answer old new e ends else few once = by_stage (ends_else (Some (command.Check file answer)) old new e else ends)
+  where
+    file_behind : (f : List ℕ) (a b : ShelfView) → EndsAtFile f a b ending.TooLong → b.place ≡ Some (MAX_INPUT_BYTES + 1)
+    file_behind f a b at = at.place
+
+    by_stage : ComesTo (Some (command.Check file answer)) old new e → (e ≡ ending.TooLong) ↔ (new.place ≡ Some (MAX_INPUT_BYTES + 1))
+    by_stage (inl at) = both_ways e new.place MAX_INPUT_BYTES
+        (λ same. file_behind file old new (subst (EndsAtFile file old new) same at))
+        (λ other. file_place file old new e other at)
+    by_stage (inr (p, read, has, inl at)) = absurd (omega (arith, once, text_begun answer MAX_ANSWER_BYTES read new e at, has.read.once.begun))
+    by_stage (inr (p, read, has, inr (text, shelf, given, end))) = absurd (omega (arith, once, ap (λ (s : ShelfView). s.begun) end.1, given.once.begun, has.read.once.begun))
+
+-- ANSWER was begun too
+pub answer_too_long : (file answer : List ℕ) (old new : ShelfView) (e : Ending) → Ends (Some (command.Check file answer)) old new e → e ≢ ending.Memory
+    → old.begun + 2 < 2 ^ 64 → new.begun ≡ counted (counted old.begun) → (e ≡ ending.TooLong) ↔ (new.place ≡ Some (MAX_ANSWER_BYTES + 1))
+answer_too_long file answer old new e ends else few twice = by_stage (ends_else (Some (command.Check file answer)) old new e else ends)
+  where
+    answer_behind : (a b : ShelfView) → EndsAtText answer MAX_ANSWER_BYTES a b ending.TooLong → b.place ≡ Some (MAX_ANSWER_BYTES + 1)
+    answer_behind a b at = at.place
+
+    judged_within : (text : List ℕ) (read shelf : ShelfView) → IsRead answer MAX_ANSWER_BYTES read shelf text → new ≡ shelf → IfSome new.place (λ at. at ≤ MAX_ANSWER_BYTES)
+    judged_within text read shelf given is =
+        subst (λ (s : ShelfView). IfSome s.place (λ at. at ≤ MAX_ANSWER_BYTES)) (sym is) (read_place shelf.place MAX_ANSWER_BYTES text given.place given.within)
+
+    by_stage : ComesTo (Some (command.Check file answer)) old new e → (e ≡ ending.TooLong) ↔ (new.place ≡ Some (MAX_ANSWER_BYTES + 1))
+    by_stage (inl at) = absurd (omega (arith, twice, file_begun file old new e at))
+    by_stage (inr (p, read, has, inl at)) = both_ways e new.place MAX_ANSWER_BYTES
+        (λ same. answer_behind read new (subst (EndsAtText answer MAX_ANSWER_BYTES read new) same at))
+        (λ other. text_place answer MAX_ANSWER_BYTES read new e other at)
+    by_stage (inr (p, read, has, inr (text, shelf, given, end))) = both_ways e new.place MAX_ANSWER_BYTES
+        (λ same. absurd (subst (IsJudged p text) same end.0))
+        (λ other. judged_within text read shelf given end.1)
+
+-- ---- as a clause of a run
+
+pub past_limit : (found : Option Command) (old new : ShelfView) → ComesTo found old new ending.TooLong → (new.place ≡ Some (MAX_INPUT_BYTES + 1)) ⊎ (new.place ≡ Some (MAX_ANSWER_BYTES + 1))
+past_limit None old new comes = absurd (cc comes.0)
+past_limit (Some (command.Print file)) old new comes = inl (print_behind file old new comes)
+past_limit (Some (command.Check file answer)) old new (inl ends) = inl ends.place
+past_limit (Some (command.Check file answer)) old new (inr (p, read, has, inl ends)) = inr ends.place
+past_limit (Some (command.Check file answer)) old new (inr (p, read, has, inr (text, shelf, given, end))) = absurd end.0

@@ -1,0 +1,19 @@
+use Rattle.std.proofs.Common.{refl}
+use Rattle.std.specs.Fmt.{digits}
+use Rattle.mono_cmd.proofs.worked.worked_texts.Goals as goal
+
+pub returns-clause-refused : goal.returns-clause-refused
+unfolding digits
+returns-clause-refused c = refl
+
+pub returns-clause-progress : goal.returns-clause-progress
+unfolding digits
+returns-clause-progress c = refl
+
+pub returns-clause-rejected : goal.returns-clause-rejected
+unfolding digits
+returns-clause-rejected c = refl
+
+pub returns-clause-clause_false : goal.returns-clause-clause_false
+unfolding digits
+returns-clause-clause_false c = refl

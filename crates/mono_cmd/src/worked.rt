@@ -1,0 +1,118 @@
+//! Rows that were worked by hand, as the definitions compute them.
+
+ghost use Rattle.std.specs.Prelude.{◌≡◌, ℕ, List, [], ◌∷◌, ◌++◌, Option, Some, None, codes};
+ghost use Rattle.mono_io.specs.declared.refusal.ReadRefusal.TheVariants as reading;
+ghost use Rattle.mono_gnf.specs.declared.fault.GnfFault.TheVariants as fault;
+ghost use Rattle.mono_gnf.specs.declared.refusal.GnfRefusal.TheVariants as form;
+ghost use Rattle.mono_check.specs.declared.reason.Reason.TheVariants as reason;
+ghost use Rattle.mono_check.specs.declared.verdict.Verdict.TheVariants as verdict;
+ghost use Rattle.mono_cmd.specs.declared.command.Command.TheVariants as command;
+ghost use Rattle.mono_cmd.specs.declared.status.Status.TheVariants as status;
+ghost use Rattle.mono_cmd.specs.declared.ending.Ending.TheVariants as ending;
+ghost use Rattle.mono_cmd.specs.Commands.{command_of, files_of};
+ghost use Rattle.mono_cmd.specs.Statuses.{code_of};
+ghost use Rattle.mono_cmd.specs.Endings.{status_of, text_of, unread_ending, refused_ending};
+ghost use Rattle.mono_cmd.specs.Runs.{Writes, CheckWrote, IsHeld, IsHeldWithin, HasNoFault, EachReached, begun_for};
+ghost use Rattle.mono_cmd.specs.Worked.{empty_problem};
+
+/// Words, and the files that they name.
+pub fn worked_commands()
+    ensures check { command_of (codes "check" ∷ codes "f" ∷ codes "a" ∷ []) ≡ Some (command.Check (codes "f") (codes "a")) }
+    ensures print { command_of (codes "print" ∷ codes "f" ∷ []) ≡ Some (command.Print (codes "f")) }
+    ensures no_words { command_of [] ≡ None }
+    ensures one_word { command_of (codes "print" ∷ []) ≡ None }
+    ensures other_word { command_of (codes "prints" ∷ codes "f" ∷ []) ≡ None }
+    ensures too_few { command_of (codes "check" ∷ codes "f" ∷ []) ≡ None }
+    ensures too_many { command_of (codes "print" ∷ codes "f" ∷ codes "a" ∷ []) ≡ None }
+    ensures four { command_of (codes "check" ∷ codes "f" ∷ codes "a" ∷ codes "a" ∷ []) ≡ None }
+    ensures dash { command_of (codes "print" ∷ codes "-f" ∷ []) ≡ None }
+    ensures dash_inside { command_of (codes "print" ∷ codes "f-" ∷ []) ≡ Some (command.Print (codes "f-")) }
+    ensures answer_with_dash { command_of (codes "check" ∷ codes "f" ∷ codes "-a" ∷ []) ≡ None }
+    ensures file_with_dash { command_of (codes "check" ∷ codes "-f" ∷ codes "a" ∷ []) ≡ None }
+    ensures empty_name { command_of (codes "print" ∷ [] ∷ []) ≡ None }
+
+    ensures files_of_none { files_of None ≡ [] }
+    ensures files_of_print { files_of (Some (command.Print (codes "f"))) ≡ codes "f" ∷ [] }
+    ensures files_of_check { files_of (Some (command.Check (codes "f") (codes "a"))) ≡ codes "f" ∷ codes "a" ∷ [] }
+    ensures none_begun { begun_for [] 3 ≡ 3 }
+    ensures two_begun { begun_for (codes "f" ∷ codes "a" ∷ []) 3 ≡ 5 }
+{}
+
+/// Each status has its number.
+pub fn worked_statuses()
+    ensures accepted { code_of status.Accepted ≡ 0 }
+    ensures printed { code_of status.Printed ≡ 0 }
+    ensures rejected { code_of status.Rejected ≡ 1 }
+    ensures words { code_of status.Words ≡ 2 }
+    ensures refused { code_of status.Refused ≡ 3 }
+    ensures read_fault { code_of status.ReadFault ≡ 4 }
+    ensures write_fault { code_of status.WriteFault ≡ 5 }
+    ensures memory { code_of status.Memory ≡ 6 }
+    ensures too_long { code_of status.TooLong ≡ 7 }
+{}
+
+/// What a run comes to has its status.
+pub fn worked_endings()
+    ensures words { status_of ending.Words ≡ status.Words }
+    ensures read_fault { status_of ending.ReadFault ≡ status.ReadFault }
+    ensures memory { status_of ending.Memory ≡ status.Memory }
+    ensures too_long { status_of ending.TooLong ≡ status.TooLong }
+    ensures refused { status_of (ending.Refused 3 fault.UnknownWord) ≡ status.Refused }
+    ensures model { status_of (ending.Judged verdict.Model) ≡ status.Accepted }
+    ensures refutation { status_of (ending.Judged verdict.Refutation) ≡ status.Accepted }
+    ensures progress { status_of (ending.Judged (verdict.Progress 0)) ≡ status.Accepted }
+    ensures rejected { status_of (ending.Judged (verdict.Rejected 2 reason.BadLine)) ≡ status.Rejected }
+    ensures printed { status_of (ending.Printed (codes "p gnf 0 0\n")) ≡ status.Printed }
+
+    ensures not_read { unread_ending reading.Fault ≡ ending.ReadFault }
+    ensures not_found { unread_ending reading.Memory ≡ ending.Memory }
+    ensures beyond { unread_ending reading.TooLong ≡ ending.TooLong }
+    ensures out_of_memory { refused_ending form.Memory ≡ ending.Memory }
+    ensures at_line { refused_ending (form.At 3 fault.UnknownWord) ≡ ending.Refused 3 fault.UnknownWord }
+{}
+
+/// What a run comes to has its text.
+pub fn worked_texts()
+    ensures words { text_of ending.Words ≡ codes "usage: check FILE ANSWER | print FILE\n" }
+    ensures read_fault { text_of ending.ReadFault ≡ codes "read fault\n" }
+    ensures memory { text_of ending.Memory ≡ [] }
+    ensures too_long { text_of ending.TooLong ≡ codes "too long\n" }
+    ensures refused { text_of (ending.Refused 30 fault.UnknownWord) ≡ codes "refused 30 UnknownWord\n" }
+    ensures model { text_of (ending.Judged verdict.Model) ≡ codes "accepted model\n" }
+    ensures refutation { text_of (ending.Judged verdict.Refutation) ≡ codes "accepted refutation\n" }
+    ensures progress { text_of (ending.Judged (verdict.Progress 12)) ≡ codes "accepted progress 12\n" }
+    ensures rejected { text_of (ending.Judged (verdict.Rejected 2 reason.BadLine)) ≡ codes "rejected 2 BadLine\n" }
+    ensures clause_false { text_of (ending.Judged (verdict.Rejected 2 (reason.ClauseFalse 5))) ≡ codes "rejected 2 ClauseFalse 5\n" }
+    ensures printed { text_of (ending.Printed (codes "p gnf 0 0\n")) ≡ codes "p gnf 0 0\n" }
+{}
+
+/// The text is written whole, a prefix of it where a write failed, and nothing where memory was wanting.
+pub fn worked_writes()
+    ensures whole { Writes ending.TooLong status.TooLong (Some (codes "x")) (Some (codes "xtoo long\n")) }
+    ensures other_status { ¬ Writes ending.TooLong status.Words (Some (codes "x")) (Some (codes "xtoo long\n")) }
+    ensures other_text { ¬ Writes ending.TooLong status.TooLong (Some (codes "x")) (Some (codes "xread fault\n")) }
+    ensures lost { ¬ Writes ending.TooLong status.TooLong (Some (codes "x")) (Some (codes "x")) }
+    ensures prefix { Writes ending.TooLong status.WriteFault (Some (codes "x")) (Some (codes "xtoo")) }
+    ensures no_memory { Writes ending.Words status.Memory (Some (codes "x")) (Some (codes "x")) }
+    ensures written_without_memory { ¬ Writes ending.Words status.Memory (Some (codes "x")) (Some (codes "xu")) }
+    ensures read_fault_hidden { ¬ Writes ending.ReadFault status.Memory (Some (codes "x")) (Some (codes "x")) }
+
+    ensures wrote { CheckWrote (Some (command.Check (codes "f") (codes "a"))) (Some ((codes "f", codes "") ∷ [])) (Some (codes "x")) (Some (codes "xaccepted model\n")) empty_problem (codes "accepted model\n") }
+{}
+
+/// ANSWER is needed only where FILE has no fault.
+pub fn worked_needs()
+    ensures held { IsHeld (Some ((codes "f", codes "") ∷ [])) (codes "f") 0 }
+    ensures missing { ¬ IsHeld (Some ((codes "f", codes "") ∷ [])) (codes "g") 0 }
+    ensures untold { ¬ IsHeld None (codes "f") 0 }
+    ensures at_limit { IsHeldWithin (Some ((codes "f", codes "0\n") ∷ [])) (codes "f") 2 }
+    ensures beyond { ¬ IsHeldWithin (Some ((codes "f", codes "0\n") ∷ [])) (codes "f") 1 }
+    ensures no_fault { HasNoFault (Some ((codes "f", codes "") ∷ [])) (codes "f") }
+    ensures fault { ¬ HasNoFault (Some ((codes "f", codes "x") ∷ [])) (codes "f") }
+
+    ensures print { EachReached (IsHeld (Some ((codes "f", codes "") ∷ []))) (Some ((codes "f", codes "") ∷ [])) (command.Print (codes "f")) }
+    ensures no_file { ¬ EachReached (IsHeld (Some ((codes "a", codes "") ∷ []))) (Some ((codes "a", codes "") ∷ [])) (command.Check (codes "f") (codes "a")) }
+    ensures no_answer { ¬ EachReached (IsHeld (Some ((codes "f", codes "") ∷ []))) (Some ((codes "f", codes "") ∷ [])) (command.Check (codes "f") (codes "a")) }
+    ensures no_answer_needed { EachReached (IsHeld (Some ((codes "f", codes "x") ∷ []))) (Some ((codes "f", codes "x") ∷ [])) (command.Check (codes "f") (codes "a")) }
+    ensures both { EachReached (IsHeld (Some ((codes "f", codes "") ∷ (codes "a", codes "") ∷ []))) (Some ((codes "f", codes "") ∷ (codes "a", codes "") ∷ [])) (command.Check (codes "f") (codes "a")) }
+{}

@@ -1,0 +1,10 @@
+pub mod OneEdge
+pub mod ListedSums
+pub mod Expand
+pub mod Searches
+pub mod Augmenting
+pub mod Results
+pub mod CutWeights
+pub mod LevelPaths
+pub mod Balances
+pub mod Decides

@@ -1,0 +1,188 @@
+-- A flow of the value that is sought passes, and so does the set of marked nodes where no more can be carried.
+use Rattle.std.proofs.Common.{◌≡◌, ℕ, zero, suc, ◌+◌, ◌<◌, ◌≤◌, Bool, true, false, not, ◌&&◌, ◌||◌, ◌==◌, cond, List, [], ◌∷◌, length, map, filter, replicate, refl, sym, ap, subst, ◌∙◌, inl, inr, arith, ℤ, pos, ◌-ℤ◌, int_lt, int_le}
+use Rattle.std.specs.Prelude.{IsTrue, All, nat_lt, nat_le, if◌then◌else◌}
+use Rattle.std.specs.List.{range_with_len}
+use Rattle.std.proofs.lemmas.Bool.{and_from, and_parts, or_left, or_right, cases_eq, cases_lt, lt-ltb, le-leb, eq-eqb, ne_eqb, not-true, not_from_false, false_from_ne_true, both_ways}
+use Rattle.std.proofs.lemmas.List.{get_or-replicate, length-replicate, get_or_past}
+use Rattle.std.proofs.lemmas.List.Elements.{All-nil, All-cons, All-weaker, All-map, All-filter}
+use Rattle.std.proofs.lemmas.Int.{ints}
+use Rattle.mono_base.specs.declared.limits.TheConstants.{MAX_WITNESS_VALUE}
+use Rattle.mono_graph.specs.Digraph.{Digraph, present, present_by, places, edge_at, has, leads_out, is_distinct, weight_of, HasEnds}
+use Rattle.mono_graph.specs.Flows.{is_flow, is_within, is_conserved, inflow, outflow, value_of, is_flow_of, is_flow_cut, amount_at}
+use Rattle.mono_graph.proofs.Places.{all_of}
+use Rattle.mono_graph.proofs.Membership.{has_filter, filter_has, has_range, range_has}
+use Rattle.mono_graph.proofs.FlowLaws.{total_is}
+use Rattle.mono_flows.proofs.OneEdge.{none, same_inflow, same_outflow, flow_value_reached}
+use Rattle.mono_graph.specs.declared.amount.Amount.{Amount}
+use Rattle.mono_flows.specs.Flowing.{IsFlowing}
+use Rattle.mono_flows.specs.Residual.{capacity, amount_of}
+use Rattle.mono_flows.specs.Visits.{is_marked, IsBlocked}
+
+-- ---- the flow that carries nothing
+
+zero_at : (n k : ℕ) → amount_of (replicate n 0) k ≡ 0
+zero_at n k = elim (cases_lt k n) [
+  | inl lt ↦ get_or-replicate n k 0 0 lt
+  | inr past ↦ get_or_past (replicate n 0) k 0 (let long : length (replicate {A = ℕ} n 0) ≡ n = length-replicate n 0 in omega (arith, long))
+]
+
+pub nothing : (g : Digraph) (P : List Bool) (s t n : ℕ) → IsFlowing g P s t (amount_of (replicate n 0)) 0
+nothing g P s t n =
+    let f : ℕ → ℕ = amount_of (replicate n 0) in
+    let out : (u : ℕ) → outflow g f u ≡ 0 = λ u. total_is f (λ k. (edge_at g k).from == u) (places g) ∙ none f (λ k. (edge_at g k).from == u) 0 (length g.edges) (λ k low high h. zero_at n k) in
+    let into : (u : ℕ) → inflow g f u ≡ 0 = λ u. total_is f (λ k. (edge_at g k).to == u) (places g) ∙ none f (λ k. (edge_at g k).to == u) 0 (length g.edges) (λ k low high h. zero_at n k) in
+    record {
+      within = λ k lt. omega (arith, zero_at n k);
+      balanced = λ u not-s not-t. into u ∙ sym (out u);
+      source = omega (arith, into s, out s);
+      small = λ k. omega (arith, zero_at n k);
+    }
+
+-- ---- the cut
+
+abbrev pub marked_nodes : List Bool → ℕ → List ℕ
+marked_nodes marks n = filter (is_marked marks) (range_with_len 0 n)
+
+marked_has : (marks : List Bool) (n u : ℕ) → u < n → IsTrue (is_marked marks u) → IsTrue (has (marked_nodes marks n) u)
+marked_has marks n u lt h = has_filter (is_marked marks) (range_with_len 0 n) u (has_range 0 n u (omega arith) (omega arith)) h
+
+has_marked : (marks : List Bool) (n u : ℕ) → IsTrue (has (marked_nodes marks n) u) → IsTrue (is_marked marks u)
+has_marked marks n u h = (filter_has (is_marked marks) (range_with_len 0 n) u h).1
+
+below_least : (w v n : ℕ) (least : ℤ) → least ≡ pos n → w ≤ v → v < n → IsTrue (int_lt (pos w) least)
+below_least w v n least e le lt = grind (arith, ints)
+
+pub blocked_cut : (g : Digraph) (P : List Bool) (s t : ℕ) (f : ℕ → ℕ) (value n : ℕ) (least : ℤ) (marks : List Bool) → HasEnds g → s < g.nodes → IsFlowing g P s t f value → least ≡ pos n → value < n
+    → IsBlocked g P f s t marks → IsTrue (is_flow_cut g P s t least (marked_nodes marks g.nodes))
+blocked_cut g P s t f value n least marks graph s-in flow least-is lt b =
+    let set : List ℕ = marked_nodes marks g.nodes in
+    let inside : IsTrue (has set s) = marked_has marks g.nodes s s-in b.from in
+    let outside : has set t ≡ false = false_from_ne_true (has set t) (λ h. both_ways (is_marked marks t) b.to (has_marked marks g.nodes t h)) in
+    let full : (k : ℕ) → k < length g.edges → IsTrue (present P k) → IsTrue (leads_out set (edge_at g k)) → (edge_at g k).weight ≤ f k =
+    λ k low here h.
+    let parts = and_parts (has set (edge_at g k).from) (not (has set (edge_at g k).to)) h in
+    elim (cases_lt (f k) (edge_at g k).weight) [
+      | inr le ↦ le
+      | inl more ↦
+          let cap : capacity g P k ≡ (edge_at g k).weight = ap (λ (c : Bool). if c then (edge_at g k).weight else 0) here in
+          let to-marked : IsTrue (is_marked marks (edge_at g k).to) = b.closed k false low (omega (arith, cap, more)) (has_marked marks g.nodes (edge_at g k).from parts.0) in
+          absurd (both_ways (has set (edge_at g k).to) (not-true (has set (edge_at g k).to) parts.1) (marked_has marks g.nodes (edge_at g k).to (graph k _ low).1 to-marked))
+    ] in
+    let empty : (k : ℕ) → k < length g.edges → IsTrue (has set (edge_at g k).to && not (has set (edge_at g k).from)) → f k ≡ 0 =
+    λ k low h.
+    let parts = and_parts (has set (edge_at g k).to) (not (has set (edge_at g k).from)) h in
+    elim (cases_lt 0 (f k)) [
+      | inr le ↦ omega (arith, le)
+      | inl more ↦
+          let from-marked : IsTrue (is_marked marks (edge_at g k).from) = b.closed k true low more (has_marked marks g.nodes (edge_at g k).to parts.0) in
+          absurd (both_ways (has set (edge_at g k).from) (not-true (has set (edge_at g k).from) parts.1) (marked_has marks g.nodes (edge_at g k).from (graph k _ low).0 from-marked))
+    ] in
+    let reached = flow_value_reached g P s t f set graph s-in (λ u u-in not-s not-t. flow.balanced u not-s not-t) inside outside full empty in
+    let source = flow.source in
+    and_from (has set s && not (has set t)) (int_lt (pos (weight_of g (present_by (leads_out set) g P))) least)
+    (and_from (has set s) (not (has set t)) inside (not_from_false (has set t) outside))
+    (below_least (weight_of g (present_by (leads_out set) g P)) value n least least-is (omega (arith, reached, source)) lt)
+
+range_below : (a m : ℕ) → All (λ u. u < a + m) (range_with_len a m)
+range_below a zero = All-nil (λ u. u < a + 0)
+range_below a (suc m) = All-cons (λ u. u < a + suc m) a (range_with_len (a + 1) m) (omega arith)
+    (All-weaker (λ u. u < (a + 1) + m) (λ u. u < a + suc m) (λ u p. omega arith) (range_with_len (a + 1) m) (range_below (a + 1) m))
+
+pub marked_known : (marks : List Bool) (n : ℕ) → All (λ u. u < n) (marked_nodes marks n)
+marked_known marks n = All-filter (is_marked marks) (λ u. u < n) (range_with_len 0 n) (All-weaker (λ u. u < 0 + n) (λ u. u < n) (λ u p. omega arith) (range_with_len 0 n) (range_below 0 n))
+
+-- ---- the flow
+
+abbrev pub carrying : List ℕ → ℕ → List ℕ
+carrying fs n = filter (λ k. nat_lt 0 (amount_of fs k)) (range_with_len 0 n)
+
+abbrev pub carried_by : List ℕ → ℕ → Amount
+carried_by fs k = record { edge = k; amount = amount_of fs k }
+
+-- the amounts at these places
+abbrev pub listed : List ℕ → List ℕ → List Amount
+listed fs ks = map (carried_by fs) ks
+
+firsts : (fs ks : List ℕ) → map (λ (a : Amount). a.edge) (listed fs ks) ≡ ks
+firsts fs [] = refl
+firsts fs (k ∷ ks) = ap (λ (js : List ℕ). k ∷ js) (firsts fs ks)
+
+range_distinct : (p : ℕ → Bool) (a n : ℕ) → IsTrue (is_distinct (filter p (range_with_len a n)))
+range_distinct p a zero = refl
+range_distinct p a (suc n) = by_test (p a) (range_distinct p (a + 1) n)
+  where
+    by_test : (b : Bool) → IsTrue (is_distinct (filter p (range_with_len (a + 1) n))) → IsTrue (is_distinct (cond b (a ∷ filter p (range_with_len (a + 1) n)) (filter p (range_with_len (a + 1) n))))
+    by_test false rest = rest
+    by_test true rest = and_from (not (has (filter p (range_with_len (a + 1) n)) a)) (is_distinct (filter p (range_with_len (a + 1) n)))
+        (not_from_false (has (filter p (range_with_len (a + 1) n)) a) (false_from_ne_true (has (filter p (range_with_len (a + 1) n)) a)
+        (λ t. let r = range_has (a + 1) n a (filter_has p (range_with_len (a + 1) n) a t).0 in absurd (omega (arith, r.0))))) rest
+
+pub amount_is : (fs : List ℕ) (a n k : ℕ) → a ≤ k → k < a + n → amount_at (listed fs (filter (λ j. nat_lt 0 (amount_of fs j)) (range_with_len a n))) k ≡ amount_of fs k
+amount_is fs a zero k low high = absurd (omega arith)
+amount_is fs a (suc n) k low high = by_test (nat_lt 0 (amount_of fs a)) refl (λ le. amount_is fs (a + 1) n k le (omega arith))
+  where
+    past : (m i : ℕ) → k < i → amount_at (listed fs (filter (λ j. nat_lt 0 (amount_of fs j)) (range_with_len i m))) k ≡ 0
+    past zero i lt = refl
+    past (suc m) i lt = choose (nat_lt 0 (amount_of fs i)) (past m (i + 1) (omega arith))
+      where
+        choose : (b : Bool) → amount_at (listed fs (filter (λ j. nat_lt 0 (amount_of fs j)) (range_with_len (i + 1) m))) k ≡ 0
+            → amount_at (listed fs (cond b (i ∷ filter (λ j. nat_lt 0 (amount_of fs j)) (range_with_len (i + 1) m)) (filter (λ j. nat_lt 0 (amount_of fs j)) (range_with_len (i + 1) m)))) k ≡ 0
+        choose false h = h
+        choose true h = rw (ne_eqb i k (λ e. omega arith)) h
+
+    by_test : (b : Bool) → nat_lt 0 (amount_of fs a) ≡ b → (a + 1 ≤ k → amount_at (listed fs (filter (λ j. nat_lt 0 (amount_of fs j)) (range_with_len (a + 1) n))) k ≡ amount_of fs k)
+        → amount_at (listed fs (cond b (a ∷ filter (λ j. nat_lt 0 (amount_of fs j)) (range_with_len (a + 1) n)) (filter (λ j. nat_lt 0 (amount_of fs j)) (range_with_len (a + 1) n)))) k ≡ amount_of fs k
+    by_test true e h = elim (cases_eq a k) [
+      | inl same ↦ rw (eq-eqb a k same) (ap (λ (x : ℕ). amount_of fs x) same)
+      | inr ne ↦ rw (ne_eqb a k ne) (h (omega arith))
+    ]
+    by_test false e h = elim (cases_eq a k) [
+      | inl same ↦ past n (a + 1) (omega arith) ∙ sym (at_zero same)
+      | inr ne ↦ h (omega arith)
+    ]
+      where
+        at_zero : a ≡ k → amount_of fs k ≡ 0
+        at_zero same = elim (cases_lt 0 (amount_of fs a)) [
+          | inl lt ↦ absurd (both_ways (nat_lt 0 (amount_of fs a)) e (lt-ltb 0 (amount_of fs a) lt))
+          | inr le ↦ let at : amount_of fs a ≡ amount_of fs k = ap (λ (x : ℕ). amount_of fs x) same in omega (arith, at, le)
+        ]
+
+at_least : (i o v n : ℕ) (least : ℤ) → least ≡ pos n → n ≤ v → o ≡ i + v → IsTrue (int_le least (pos o -ℤ pos i))
+at_least i o v n least e le sum = grind (arith, ints)
+
+pub flow_passes : (g : Digraph) (P : List Bool) (s t : ℕ) (fs : List ℕ) (value n : ℕ) (least : ℤ) → IsFlowing g P s t (amount_of fs) value → least ≡ pos n → n ≤ value
+    → IsTrue (is_flow_of g P s t least (listed fs (carrying fs (length g.edges))))
+flow_passes g P s t fs value n least flow least-is enough =
+    let ps : List Amount = listed fs (carrying fs (length g.edges)) in
+    let f : ℕ → ℕ = amount_of fs in
+    let f' : ℕ → ℕ = amount_at ps in
+    let same : (k : ℕ) → k < length g.edges → f' k ≡ f k = λ k lt. amount_is fs 0 (length g.edges) k (omega arith) (omega arith) in
+    let out : (u : ℕ) → outflow g f' u ≡ outflow g f u = λ u. same_outflow g f f' u same in
+    let into : (u : ℕ) → inflow g f' u ≡ inflow g f u = λ u. same_inflow g f f' u same in
+    and_from (is_distinct (map (λ (a : Amount). a.edge) ps) && is_flow g P s t f') (int_le least (value_of g s f'))
+    (and_from (is_distinct (map (λ (a : Amount). a.edge) ps)) (is_flow g P s t f')
+    (subst (λ (ks : List ℕ). IsTrue (is_distinct ks)) (sym (firsts fs (carrying fs (length g.edges)))) (range_distinct (λ k. nat_lt 0 (amount_of fs k)) 0 (length g.edges)))
+    (and_from (is_within g P f') (is_conserved g s t f')
+    (all_of (λ k. nat_le (f' k) (if present P k then (edge_at g k).weight else 0)) 0 (length g.edges) (λ k low high.
+    le-leb (f' k) (capacity g P k) (let w = flow.within k (omega arith) in omega (arith, w, same k (omega arith)))))
+    (all_of (λ u. u == s || u == t || inflow g f' u == outflow g f' u) 0 g.nodes (λ u low high. conserved u (into u) (out u)))))
+    (at_least (inflow g f' s) (outflow g f' s) value n least least-is enough (let source = flow.source in omega (arith, source, into s, out s)))
+  where
+    conserved : (u : ℕ) → inflow g (amount_at (listed fs (carrying fs (length g.edges)))) u ≡ inflow g (amount_of fs) u → outflow g (amount_at (listed fs (carrying fs (length g.edges)))) u ≡ outflow g (amount_of fs) u
+        → IsTrue (u == s || u == t || inflow g (amount_at (listed fs (carrying fs (length g.edges)))) u == outflow g (amount_at (listed fs (carrying fs (length g.edges)))) u)
+    conserved u into out = elim (cases_eq u s) [
+      | inl e ↦ or_left (u == s || u == t) _ (or_left (u == s) (u == t) (eq-eqb u s e))
+      | inr not-s ↦ elim (cases_eq u t) [
+        | inl e ↦ or_left (u == s || u == t) _ (or_right (u == s) (u == t) (eq-eqb u t e))
+        | inr not-t ↦ or_right (u == s || u == t) _ (eq-eqb _ _ (into ∙ (flow.balanced u not-s not-t ∙ sym out)))
+      ]
+    ]
+
+pub carried_known : (fs : List ℕ) (n : ℕ) → All (λ (a : Amount). a.edge < n) (map (carried_by fs) (carrying fs n))
+carried_known fs n = All-map (λ (a : Amount). a.edge < n) (carried_by fs) (carrying fs n)
+    (All-filter (λ k. nat_lt 0 (amount_of fs k)) (λ k. k < n) (range_with_len 0 n) (All-weaker (λ k. k < 0 + n) (λ k. k < n) (λ k p. omega arith) (range_with_len 0 n) (range_below 0 n)))
+
+pub carried_small : (fs : List ℕ) (n v : ℕ) → ((k : ℕ) → amount_of fs k ≤ v) → v ≤ MAX_WITNESS_VALUE → All (λ (a : Amount). a.amount ≤ MAX_WITNESS_VALUE) (map (carried_by fs) (carrying fs n))
+carried_small fs n v small low = All-map (λ (a : Amount). a.amount ≤ MAX_WITNESS_VALUE) (carried_by fs) (carrying fs n)
+    (All-filter (λ k. nat_lt 0 (amount_of fs k)) (λ k. amount_of fs k ≤ MAX_WITNESS_VALUE) (range_with_len 0 n)
+    (All-weaker (λ k. k < 0 + n) (λ k. amount_of fs k ≤ MAX_WITNESS_VALUE) (λ k p. let s = small k in omega arith) (range_with_len 0 n) (range_below 0 n)))

@@ -1,0 +1,48 @@
+use Rattle.std.proofs.Common.{◌≡◌, ◌+◌, ◌-◌, ℕ, List, length, set, sym, subst, ◌∙◌, arith}
+use Rattle.std.proofs.lemmas.List.{get_or_read, length-set}
+use Rattle.mono_flows.specs.declared.visit.Visit.{Visit}
+use Rattle.mono_flows.specs.Flowing.{IsFlowing}
+use Rattle.mono_flows.specs.Residual.{amount_of}
+use Rattle.mono_flows.specs.Visits.{visit_at}
+use Rattle.mono_flows.proofs.Augmenting.{Moving, forth, back, moved}
+use Rattle.mono_flows.proofs.flow.Flow.augment.Goals as goal
+
+pub loop-at-preserved-then-visit : goal.loop-at-preserved-then-visit
+loop-at-preserved-then-visit c =
+    let len : length c.loop-at.self.amounts.items ≡ length c.args.network.now.graph.now.edges = let l = c.loop-at.invariant.len in omega arith in
+    record {
+      len = length-set c.loop-at.self.amounts.items _ _ ∙ c.loop-at.invariant.len;
+      value = c.loop-at.invariant.value;
+      moving = subst (λ (x : ℕ). Moving c.args.network.now.graph.now c.args.network.now.part.now c.args.network.now.sink (visit_at c.args.path.now (length c.args.path.now - 1)).residual c.args.path.now (amount_of c.args.self.now.amounts.items)
+          (amount_of (set c.loop-at.self.amounts.items (visit_at c.args.path.now c.loop-at.at).edge.place (x - (visit_at c.args.path.now (length c.args.path.now - 1)).residual))) (visit_at c.args.path.now c.loop-at.at).before)
+          (sym (get_or_read c.loop-at.self.amounts.items (visit_at c.args.path.now c.loop-at.at).edge.place c.index_mut.result.now (let k = (c.requires.path.tree.steps c.loop-at.at c.loop-at-test.true c.loop-at.invariant.moving.inside).known in omega arith) c.index_mut.ensures.value 0))
+          (back c.args.network.now.graph.now c.args.network.now.part.now c.args.network.now.source c.args.network.now.sink (c.args.goal - c.args.self.now.value) (visit_at c.args.path.now (length c.args.path.now - 1)).residual c.args.path.now (amount_of c.args.self.now.amounts.items)
+          c.loop-at.self.amounts.items c.loop-at.at c.requires.path len c.loop-at-test.true c.loop-at.invariant.moving c.if-visit.true);
+    }
+
+pub loop-at-preserved : goal.loop-at-preserved
+loop-at-preserved c =
+    let len : length c.loop-at.self.amounts.items ≡ length c.args.network.now.graph.now.edges = let l = c.loop-at.invariant.len in omega arith in
+    record {
+      len = length-set c.loop-at.self.amounts.items _ _ ∙ c.loop-at.invariant.len;
+      value = c.loop-at.invariant.value;
+      moving = subst (λ (x : ℕ). Moving c.args.network.now.graph.now c.args.network.now.part.now c.args.network.now.sink (visit_at c.args.path.now (length c.args.path.now - 1)).residual c.args.path.now (amount_of c.args.self.now.amounts.items)
+          (amount_of (set c.loop-at.self.amounts.items (visit_at c.args.path.now c.loop-at.at).edge.place (x + (visit_at c.args.path.now (length c.args.path.now - 1)).residual))) (visit_at c.args.path.now c.loop-at.at).before)
+          (sym (get_or_read c.loop-at.self.amounts.items (visit_at c.args.path.now c.loop-at.at).edge.place c.index_mut-else-visit.result.now (let k = (c.requires.path.tree.steps c.loop-at.at c.loop-at-test.true c.loop-at.invariant.moving.inside).known in omega arith) c.index_mut-else-visit.ensures.value 0))
+          (forth c.args.network.now.graph.now c.args.network.now.part.now c.args.network.now.source c.args.network.now.sink (c.args.goal - c.args.self.now.value) (visit_at c.args.path.now (length c.args.path.now - 1)).residual c.args.path.now (amount_of c.args.self.now.amounts.items)
+          c.loop-at.self.amounts.items c.loop-at.at c.requires.path len c.loop-at-test.true c.loop-at.invariant.moving c.if-visit.false);
+    }
+
+pub returns-clause-flow : goal.returns-clause-flow
+returns-clause-flow c =
+    let n = c.args.network.now in
+    let path : List Visit = c.args.path.now in
+    let extra : ℕ = (visit_at path (length path - 1)).residual in
+    let at-first : c.loop-at.at ≡ 0 = omega arith in
+    record {
+      len = c.loop-at.invariant.len;
+      flowing = subst (λ (value : ℕ). IsFlowing n.graph.now n.part.now n.source n.sink (amount_of c.loop-at.self.amounts.items) (value + extra)) (sym c.loop-at.invariant.value)
+          (moved n.graph.now n.part.now n.source n.sink (c.args.goal - c.args.self.now.value) extra c.args.self.now.value path (amount_of c.args.self.now.amounts.items) (amount_of c.loop-at.self.amounts.items)
+          c.requires.path c.requires.apart c.requires.flow.flowing
+          (subst (λ (at : ℕ). Moving n.graph.now n.part.now n.sink extra path (amount_of c.args.self.now.amounts.items) (amount_of c.loop-at.self.amounts.items) at) at-first c.loop-at.invariant.moving));
+    }

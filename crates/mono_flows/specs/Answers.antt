@@ -1,0 +1,27 @@
+-- What a search for a flow finds.
+use Rattle.std.specs.Prelude.{ℕ, ℤ, ◌<◌, ◌≤◌, Bool, true, false, List, All, IsTrue, length}
+use Rattle.mono_base.specs.declared.limits.TheConstants.{MAX_WITNESS_VALUE}
+use Rattle.mono_graph.specs.Digraph.{Digraph}
+use Rattle.mono_graph.specs.Flows.{is_flow_of, is_flow_cut}
+use Rattle.mono_flows.specs.declared.found.FlowOrCut.{FlowOrCut}
+use Rattle.mono_flows.specs.declared.found.FlowOrCut.TheVariants as found
+
+-- what was found passes its test
+abbrev pub Passes : Digraph → List Bool → ℕ → ℕ → ℤ → FlowOrCut → Type 0
+Passes g P s t least (found.Flow amounts) = IsTrue (is_flow_of g P s t least amounts.items)
+Passes g P s t least (found.Cut set) = IsTrue (is_flow_cut g P s t least set.items)
+
+-- a flow was found, and no cut
+abbrev pub is_flow_found : FlowOrCut → Bool
+is_flow_found (found.Flow amounts) = true
+is_flow_found (found.Cut set) = false
+
+-- its places and nodes are the graph's
+abbrev pub IsKnown : Digraph → FlowOrCut → Type 0
+IsKnown g (found.Flow amounts) = All (λ a. a.edge < length g.edges) amounts.items
+IsKnown g (found.Cut set) = All (λ u. u < g.nodes) set.items
+
+-- its amounts are small
+abbrev pub IsSmall : FlowOrCut → Type 0
+IsSmall (found.Flow amounts) = All (λ a. a.amount ≤ MAX_WITNESS_VALUE) amounts.items
+IsSmall (found.Cut set) = Unit

@@ -1,0 +1,10 @@
+pub mod Residual
+pub mod Visits
+pub mod Flowing
+pub mod Levels
+pub mod Listed
+pub mod Sums
+pub mod Cuts
+pub mod Answers
+pub mod Finder
+pub mod Checker

@@ -1,0 +1,175 @@
+//! The search for a flow, with room that is kept.
+//!
+//! As long as less is carried than is asked for, a breadth-first search looks for an augmenting path. Where it finds
+//! one, more is carried along it and along all others that rise by one level at each step (Dinic, 1970). Where there is
+//! none, the visited nodes are a cut: each present edge that leaves them is full, and each edge that enters them
+//! carries nothing, so what leaves them weighs exactly as much as is carried (Ford and Fulkerson, 1956).
+
+ghost use Rattle.std.specs.Prelude.{◌≡◌, ◌≢◌, ◌<◌, ◌≤◌, ◌+◌, ◌^◌, ◌≤ℤ◌, pos, false, IfOk, IsTrue, length};
+ghost use Rattle.mono_graph.specs.Digraph.{IsPartOf};
+ghost use Rattle.mono_flows.specs.Residual.{amount_of};
+ghost use Rattle.mono_flows.specs.Visits.{IsSearch, IsBlocked};
+ghost use Rattle.mono_flows.specs.Flowing.{IsFlow};
+ghost use Rattle.mono_flows.specs.Levels.{AreLevels};
+ghost use Rattle.mono_flows.specs.Answers.{Passes, IsKnown, IsSmall};
+
+use crate::FlowOrCut;
+use crate::blocking_flow::add_blocking_flow;
+use crate::flow::Flow;
+use crate::level_graph::LevelGraph;
+use crate::listing::{marked_nodes, positive_amounts};
+use crate::network::Network;
+use crate::search::Search;
+use crate::visit::Visit;
+use mono_base::limits::MAX_BOUND;
+use mono_graph::{Graph, Part};
+use std::alloc::{AllocError, Global};
+use std::marker::Model;
+
+/// Finds flows in graphs with one number of nodes, which is what contracts see of it.
+///
+/// It keeps the room of a search by node from one call to the next, and clears only what a call visited.
+#[derive(Drop)]
+pub struct FlowFinder {
+    search: Search,
+    levels: LevelGraph,
+    path: Vec<Visit>,
+}
+
+impl Model for FlowFinder {
+    ghost use Rattle.std.specs.Prelude.{ℕ};
+    ghost use Rattle.mono_flows.specs.Finder.{node_count, IsReady};
+
+    ghost Value = { ℕ };
+
+    ghost view = { node_count };
+
+    ghost invariant = { IsReady };
+}
+
+impl FlowFinder {
+    /// A finder for graphs of this many nodes.
+    pub fn new(alloc: Global, nodes: u32) -> Result<Self, AllocError>
+        ensures { IfOk result (λ finder. finder ≡ nodes) }
+    {
+        Ok(FlowFinder {
+            search: Search::new(alloc, nodes)?,
+            levels: LevelGraph::new(alloc, nodes)?,
+            path: Vec::new(alloc),
+        })
+    }
+
+    /// A flow in the part from the source to the sink with a value of at least `least`, or a cut that shows that there
+    /// is none. `least` is from 0 to 2^53 + 1.
+    ///
+    /// The flow has exactly the value `least`, and lists the edges that carry something by rising place; the cut lists
+    /// its nodes from the least to the greatest. Neither is promised.
+    pub fn find_flow(
+        &mut self,
+        alloc: Global,
+        graph: &Graph,
+        part: &Part,
+        source: u32,
+        sink: u32,
+        least: i64,
+    ) -> Result<FlowOrCut, AllocError>
+        requires finder { self.old ≡ graph.now.nodes }
+        requires part { IsPartOf part.now graph.now }
+        requires source { source < graph.now.nodes }
+        requires sink { sink < graph.now.nodes }
+        requires apart { source ≢ sink }
+        requires low { pos 0 ≤ℤ least }
+        requires high { least ≤ℤ pos (MAX_BOUND + 1) }
+        ensures passes { IfOk result (Passes graph.now part.now source sink least) }
+        ensures known { IfOk result (IsKnown graph.now) }
+        ensures small { IfOk result IsSmall }
+        ensures finder { self.new ≡ self.old }
+    {
+        let network = Network {
+            graph,
+            part,
+            source,
+            sink,
+        };
+        let mut flow = Flow::none(alloc, &network)?;
+        let is_enough = grow(
+            &network,
+            &mut flow,
+            &mut self.search,
+            &mut self.levels,
+            &mut self.path,
+            unsigned(least),
+        )?;
+        if is_enough {
+            let amounts = positive_amounts(alloc, &flow.amounts, graph.edge_count())?;
+            return Ok(FlowOrCut::Flow(amounts));
+        }
+        let nodes = marked_nodes(alloc, &self.search.marks, graph.nodes())?;
+        Ok(FlowOrCut::Cut(nodes))
+    }
+}
+
+/// Makes the flow greater until it carries as much as is asked for, or no augmenting path is left. Whether it carries
+/// as much; if not, the marked nodes are those that can still be reached.
+fn grow(
+    network: &Network,
+    flow: &mut Flow,
+    search: &mut Search,
+    levels: &mut LevelGraph,
+    path: &mut Vec<Visit>,
+    goal: u64,
+) -> Result<bool, AllocError>
+    requires apart { network.now.source ≢ network.now.sink }
+    requires flow { IsFlow network.now flow.old }
+    requires most { flow.old.value ≤ goal }
+    requires search { IsSearch network.now.graph.now.nodes search.old }
+    requires levels { AreLevels network.now.graph.now.nodes levels.old }
+    requires small { goal ≤ MAX_BOUND + 1 }
+    ensures flow { IfOk result (λ _. IsFlow network.now flow.new) }
+    ensures enough { IfOk result (λ is_enough. IsTrue is_enough → flow.new.value ≡ goal) }
+    ensures less { IfOk result (λ is_enough. is_enough ≡ false → flow.new.value < goal) }
+    ensures blocked { IfOk result (λ is_enough. is_enough ≡ false → IsBlocked network.now.graph.now network.now.part.now (amount_of flow.new.amounts.items) network.now.source network.now.sink search.new.marks.items) }
+    ensures search { IsSearch network.now.graph.now.nodes search.new }
+    ensures levels { AreLevels network.now.graph.now.nodes levels.new }
+{
+    while flow.value < goal {
+        levels.clear(&search.visits);
+        if !search.find_path(network, &flow.amounts, goal - flow.value)? {
+            return Ok(false);
+        }
+        flow.augment(network, &search.visits, goal);
+        levels.set_levels(&search.visits, network.source);
+        add_blocking_flow(network, flow, levels, path, goal)?;
+    }
+    Ok(true)
+}
+
+/// A number that isn't negative, as an unsigned one.
+fn unsigned(least: i64) -> u64
+    requires { pos 0 ≤ℤ least }
+    ensures { least ≡ pos result }
+{
+    least as u64
+}
+
+/// A flow of a value of at least `least`, or a cut: `FlowFinder::find_flow` with room of its own.
+pub fn find_flow(
+    alloc: Global,
+    graph: &Graph,
+    part: &Part,
+    source: u32,
+    sink: u32,
+    least: i64,
+) -> Result<FlowOrCut, AllocError>
+    requires part { IsPartOf part.now graph.now }
+    requires source { source < graph.now.nodes }
+    requires sink { sink < graph.now.nodes }
+    requires apart { source ≢ sink }
+    requires low { pos 0 ≤ℤ least }
+    requires high { least ≤ℤ pos (MAX_BOUND + 1) }
+    ensures passes { IfOk result (Passes graph.now part.now source sink least) }
+    ensures known { IfOk result (IsKnown graph.now) }
+    ensures small { IfOk result IsSmall }
+{
+    FlowFinder::new(alloc, graph.nodes())?.find_flow(alloc, graph, part, source, sink, least)
+}

@@ -1,0 +1,104 @@
+//! By node, what a list of amounts makes leave it and enter it.
+//!
+//! Each function goes over the list, and none over the graph: at a node that the list doesn't name both sums are 0, so
+//! it is balanced. Amounts are at most the weights of their edges, and there are at most as many as edges, so no sum
+//! exceeds 10^6 times 2^32, which 64 bits hold.
+
+ghost use Rattle.std.specs.Prelude.{◌≡◌, ◌<◌, ◌≤◌, ◌⊎◌, ◌-ℤ◌, ℕ, pos, All, IfOk, length, slice_index_or, int_le};
+ghost use Rattle.std.specs.List.{list_all};
+ghost use Rattle.mono_flows.specs.Listed.{listed_out, listed_in, has_balanced_ends, is_balanced_at as is_balanced_node};
+ghost use Rattle.mono_flows.specs.Sums.{AreSums, AreZero, AreSumsOf, MayBeSumsOf};
+
+use crate::network::Network;
+use mono_base::limits::{MAX_EDGES, MAX_WEIGHT};
+use mono_graph::{Amount, Graph};
+use std::alloc::{AllocError, Global};
+
+/// By node, how much leaves it and how much enters it.
+#[derive(Drop)]
+pub(crate) struct NodeSums {
+    pub leaving: Vec<u64>,
+    pub entering: Vec<u64>,
+}
+
+impl NodeSums {
+    /// Nothing leaves or enters any of this many nodes.
+    pub fn new(alloc: Global, nodes: u32) -> Result<Self, AllocError>
+        ensures sums { IfOk result (AreSums nodes) }
+        ensures zero { IfOk result AreZero }
+    {
+        Ok(NodeSums {
+            leaving: vec![in alloc; 0; nodes as usize]?,
+            entering: vec![in alloc; 0; nodes as usize]?,
+        })
+    }
+
+    /// Adds each amount at the ends of its edge.
+    pub fn add_amounts(&mut self, graph: &Graph, amounts: &[Amount])
+        requires known { All (λ a. a.edge < length graph.now.edges) amounts.now }
+        requires few { length amounts.now ≤ MAX_EDGES }
+        requires small { All (λ a. a.amount ≤ MAX_WEIGHT) amounts.now }
+        requires sums { AreSums graph.now.nodes self.old }
+        requires zero { AreZero self.old }
+        ensures sums { AreSums graph.now.nodes self.new }
+        ensures listed { AreSumsOf graph.now amounts.now self.new }
+    {
+        for amount in amounts {
+            let edge = graph.edge(amount.edge);
+            self.leaving[edge.from as usize] += amount.amount;
+            self.entering[edge.to as usize] += amount.amount;
+        }
+    }
+
+    /// Whether the node is the source or the sink, or as much enters it as leaves it.
+    fn is_balanced_at(&self, network: &Network, node: u32) -> bool
+        requires sums { AreSums network.now.graph.now.nodes self.now }
+        requires node { node < network.now.graph.now.nodes }
+        ensures { result ≡ is_balanced_node self.now.leaving.items self.now.entering.items network.now.source network.now.sink node }
+    {
+        node == network.source
+            || node == network.sink
+            || self.entering[node as usize] == self.leaving[node as usize]
+    }
+
+    /// Whether the ends of every listed edge are balanced, the source and the sink left out.
+    pub fn are_balanced(&self, network: &Network, amounts: &[Amount]) -> bool
+        requires sums { AreSums network.now.graph.now.nodes self.now }
+        requires known { All (λ a. a.edge < length network.now.graph.now.edges) amounts.now }
+        ensures { result ≡ list_all (has_balanced_ends network.now.graph.now self.now.leaving.items self.now.entering.items network.now.source network.now.sink) amounts.now }
+    {
+        for amount in amounts {
+            let edge = network.graph.edge(amount.edge);
+            if !self.is_balanced_at(network, edge.from) || !self.is_balanced_at(network, edge.to) {
+                return false;
+            }
+        }
+        true
+    }
+
+    /// Whether at least `least` more leaves the node than enters it.
+    pub fn is_enough_at(&self, node: u32, least: i64) -> bool
+        requires leaving { node < length self.now.leaving.items }
+        requires entering { node < length self.now.entering.items }
+        ensures { result ≡ int_le least (pos (slice_index_or self.now.leaving.items node 0) -ℤ pos (slice_index_or self.now.entering.items node 0)) }
+    {
+        let leaving = i128::from(self.leaving[node as usize]);
+        let entering = i128::from(self.entering[node as usize]);
+        leaving - entering >= i128::from(least)
+    }
+
+    /// Sets the sums at the ends of the listed edges back to 0.
+    pub fn clear(&mut self, graph: &Graph, amounts: &[Amount])
+        requires known { All (λ a. a.edge < length graph.now.edges) amounts.now }
+        requires sums { AreSums graph.now.nodes self.old }
+        requires listed { MayBeSumsOf graph.now amounts.now self.old }
+        ensures sums { AreSums graph.now.nodes self.new }
+        ensures zero { AreZero self.new }
+    {
+        for amount in amounts {
+            let edge = graph.edge(amount.edge);
+            self.leaving[edge.from as usize] = 0;
+            self.entering[edge.to as usize] = 0;
+        }
+    }
+}

@@ -1,0 +1,9 @@
+pub mod Trails
+pub mod Expand
+pub mod Searches
+pub mod Ends
+pub mod Queued
+pub mod Cuts
+pub mod NodeLabels
+pub mod Listed
+pub mod Decides

@@ -1,0 +1,9 @@
+pub mod Listed
+pub mod Checkers
+pub mod Found
+pub mod Stays
+pub mod Trails
+pub mod Spread
+pub mod NodeLabels
+pub mod Reaches
+pub mod Queues

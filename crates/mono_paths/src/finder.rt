@@ -1,0 +1,153 @@
+//! Searches that keep their room.
+//!
+//! A finder has labels for the nodes of a graph, a list of visits and a heap. A search takes back what the one before left,
+//! in proportion to what that one reached. So a search costs the edges that it reaches, and not the graph.
+
+ghost use Rattle.std.specs.Prelude.{◌≡◌, ◌<◌, IfOk};
+ghost use Rattle.mono_graph.specs.Digraph.{IsPartOf};
+ghost use Rattle.mono_paths.specs.Found.{IsPathOrCut, IsPathOrLabels, HasKnownNames, HasKnownLabels, HasBound};
+
+use crate::find::{PathOrCut, PathOrLabels, path_or_cut, path_or_labels};
+use crate::labels::Labels;
+use crate::queue::Pending;
+use crate::visit::Visit;
+use mono_graph::{Graph, Limit, Part};
+use std::alloc::{AllocError, Global};
+use std::collections::BinaryHeap;
+use std::marker::Model;
+
+/// Finds walks in graphs with some number of nodes. Contracts see that number.
+///
+/// Its calls are those of the same names, for a caller that makes many: they keep their room from call to call, also
+/// after one that found no memory.
+#[derive(Drop)]
+pub struct WalkFinder {
+    labels: Labels,
+    visits: Vec<Visit>,
+    queue: BinaryHeap<Pending>,
+}
+
+impl Model for WalkFinder {
+    ghost use Rattle.std.specs.Prelude.{ℕ, length};
+
+    ghost Value = { ℕ };
+
+    ghost view = { λ f. length f.labels.each };
+}
+
+impl WalkFinder {
+    /// A finder for graphs with this many nodes.
+    pub fn new(alloc: Global, nodes: u32) -> Result<Self, AllocError>
+        ensures { IfOk result (λ finder. finder ≡ nodes) }
+    {
+        Ok(WalkFinder {
+            labels: Labels::new(alloc, nodes)?,
+            visits: Vec::new(alloc),
+            queue: BinaryHeap::new(alloc),
+        })
+    }
+
+    /// What [`find_path`] gives.
+    pub fn find_path(
+        &mut self,
+        graph: &Graph,
+        part: &Part,
+        from: u32,
+        to: u32,
+    ) -> Result<PathOrCut, AllocError>
+        requires finder { self.old ≡ graph.now.nodes }
+        requires part { IsPartOf part.now graph.now }
+        requires from { from < graph.now.nodes }
+        requires to { to < graph.now.nodes }
+        ensures passes { IfOk result (IsPathOrCut graph.now part.now from to) }
+        ensures known { IfOk result (HasKnownNames graph.now) }
+        ensures finder { self.new ≡ self.old }
+    {
+        let alloc = *self.visits.allocator();
+        path_or_cut(
+            alloc,
+            graph,
+            part,
+            from,
+            to,
+            &mut self.labels,
+            &mut self.visits,
+            &mut self.queue,
+        )
+    }
+
+    /// What [`find_light`] gives.
+    pub fn find_light(
+        &mut self,
+        graph: &Graph,
+        part: &Part,
+        from: u32,
+        to: u32,
+        limit: Limit,
+    ) -> Result<PathOrLabels, AllocError>
+        requires finder { self.old ≡ graph.now.nodes }
+        requires part { IsPartOf part.now graph.now }
+        requires from { from < graph.now.nodes }
+        requires to { to < graph.now.nodes }
+        requires limit { HasBound limit }
+        ensures passes { IfOk result (IsPathOrLabels graph.now part.now from to limit) }
+        ensures known { IfOk result (HasKnownLabels graph.now) }
+        ensures finder { self.new ≡ self.old }
+    {
+        let alloc = *self.visits.allocator();
+        path_or_labels(
+            alloc,
+            graph,
+            part,
+            from,
+            to,
+            limit,
+            &mut self.labels,
+            &mut self.visits,
+            &mut self.queue,
+        )
+    }
+}
+
+/// A walk of present edges from `from` to `to`, or a set of nodes that has `from`, lacks `to`, and that no present edge
+/// leaves: the nodes that are reached.
+///
+/// Breadth first, so it costs the edges of the nodes that it reaches. A walk's edges are named by their places, in order.
+pub fn find_path(
+    alloc: Global,
+    graph: &Graph,
+    part: &Part,
+    from: u32,
+    to: u32,
+) -> Result<PathOrCut, AllocError>
+    requires part { IsPartOf part.now graph.now }
+    requires from { from < graph.now.nodes }
+    requires to { to < graph.now.nodes }
+    ensures passes { IfOk result (IsPathOrCut graph.now part.now from to) }
+    ensures known { IfOk result (HasKnownNames graph.now) }
+{
+    WalkFinder::new(alloc, graph.nodes())?.find_path(graph, part, from, to)
+}
+
+/// A walk of present edges from `from` to `to` within the limit, or labels that show that there is none: those of the
+/// nodes that are reached within the bound.
+///
+/// The limit isn't `Free`, and its bound is from -1 to 2^53; no walk is within -1. Breadth first under `Steps`, by
+/// Dijkstra's method under `Weight`; it goes no further than the bound. The labels' values are at most 2^60.
+pub fn find_light(
+    alloc: Global,
+    graph: &Graph,
+    part: &Part,
+    from: u32,
+    to: u32,
+    limit: Limit,
+) -> Result<PathOrLabels, AllocError>
+    requires part { IsPartOf part.now graph.now }
+    requires from { from < graph.now.nodes }
+    requires to { to < graph.now.nodes }
+    requires limit { HasBound limit }
+    ensures passes { IfOk result (IsPathOrLabels graph.now part.now from to limit) }
+    ensures known { IfOk result (HasKnownLabels graph.now) }
+{
+    WalkFinder::new(alloc, graph.nodes())?.find_light(graph, part, from, to, limit)
+}

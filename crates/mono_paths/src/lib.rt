@@ -1,0 +1,37 @@
+//! Walks in graphs: finding one, or what shows that there is none, and testing either.
+#![tactic(auto)]
+
+/// Tests that keep their room.
+mod checker;
+/// Sets of nodes that no walk leaves.
+mod cut;
+/// What a search gives.
+mod find;
+/// Searches that keep their room.
+mod finder;
+/// Labels that bound what walks cost.
+mod labelling;
+/// Labels of a search.
+mod labels;
+/// What was found decides.
+pub mod laws;
+/// Walks within a limit.
+mod path;
+/// Visits that wait.
+mod queue;
+/// Searches that lower labels.
+mod search;
+/// Labels that are lowered along the edges.
+mod spread;
+/// Labels by node, as a list gives them.
+mod table;
+#[cfg(test)]
+mod tests;
+/// Visits, and the walks that they make.
+mod visit;
+
+pub use checker::{WalkChecker, is_cut, is_labelling};
+pub use find::{PathOrCut, PathOrLabels};
+pub use finder::{WalkFinder, find_light, find_path};
+pub use mono_graph::{Label, Limit};
+pub use path::is_path;

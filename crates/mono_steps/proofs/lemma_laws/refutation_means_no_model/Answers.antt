@@ -1,5 +1,0 @@
-use Rattle.mono_steps.proofs.LemmaTruth.{refutation_excludes}
-use Rattle.mono_steps.proofs.lemma_laws.refutation_means_no_model.Goals as goal
-
-pub returns : goal.returns
-returns c = refutation_excludes

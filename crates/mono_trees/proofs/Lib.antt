@@ -1,0 +1,10 @@
+pub mod Merging
+pub mod Relabelled
+pub mod Outcome
+pub mod Spans
+pub mod Splits
+pub mod Growing
+pub mod Finding
+pub mod Ordering
+pub mod Sweeping
+pub mod Decides

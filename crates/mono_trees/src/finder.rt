@@ -1,0 +1,111 @@
+//! Finds a light spanning tree, or what shows that there is none.
+//!
+//! Where the lightest forest of present edges doesn't join all nodes, those that it joins with node 0 are a split.
+//! Otherwise it is a spanning tree, and the ends of each present edge are joined by edges of it no heavier than that
+//! edge: so where it is too heavy, each spanning tree is.
+
+ghost use Rattle.std.specs.Prelude.{◌≡◌, IfOk, length};
+ghost use Rattle.mono_graph.specs.Digraph.{IsPartOf};
+ghost use Rattle.mono_trees.specs.Found.{Passes, IsKnown};
+
+use crate::components::Components;
+use crate::forest::{first_component, lightest_forest};
+use crate::spanning::is_light;
+use mono_graph::{Graph, Part};
+use std::alloc::{AllocError, Global};
+use std::marker::Model;
+
+/// A light spanning tree, or what shows that there is none. Edges are given by their places, from 0.
+#[derive(Drop)]
+pub enum TreeFound {
+    /// A spanning tree of present edges within the bound.
+    Tree(Vec<u32>),
+    /// Nodes that no present edge joins with the others, each once and in order.
+    Split(Vec<u32>),
+    /// A lightest spanning tree of present edges, where it is too heavy.
+    Least(Vec<u32>),
+}
+
+/// Finds light spanning trees of graphs with one number of nodes, which is its value.
+#[derive(Drop)]
+pub struct TreeFinder {
+    components: Components,
+}
+
+impl Model for TreeFinder {
+    ghost use Rattle.std.specs.Prelude.{ℕ, length};
+
+    ghost Value = { ℕ };
+
+    ghost view = { λ f. length f.components };
+}
+
+impl TreeFinder {
+    /// A finder for graphs with this many nodes.
+    pub fn new(alloc: Global, nodes: u32) -> Result<Self, AllocError>
+        ensures { IfOk result (λ finder. finder ≡ nodes) }
+    {
+        Ok(TreeFinder {
+            components: Components::new(alloc, nodes)?,
+        })
+    }
+
+    /// What [`find_tree`] gives.
+    pub fn find_tree(
+        &mut self,
+        graph: &Graph,
+        part: &Part,
+        most: i64,
+    ) -> Result<TreeFound, AllocError>
+        requires finder { self.old ≡ graph.now.nodes }
+        requires part { IsPartOf part.now graph.now }
+        ensures passes { IfOk result (Passes graph.now part.now most) }
+        ensures known { IfOk result (IsKnown graph.now) }
+        ensures finder { self.new ≡ self.old }
+    {
+        let alloc = self.components.allocator();
+        find(alloc, &mut self.components, graph, part, most)
+    }
+}
+
+fn find(
+    alloc: Global,
+    components: &mut Components,
+    graph: &Graph,
+    part: &Part,
+    most: i64,
+) -> Result<TreeFound, AllocError>
+    requires nodes { length components.old ≡ graph.now.nodes }
+    requires part { IsPartOf part.now graph.now }
+    ensures passes { IfOk result (Passes graph.now part.now most) }
+    ensures known { IfOk result (IsKnown graph.now) }
+    ensures nodes { length components.new ≡ graph.now.nodes }
+{
+    let count = graph.nodes();
+    let chosen = lightest_forest(alloc, components, graph, part)?;
+    if !components.are_all_joined() {
+        let set = first_component(alloc, components, count)?;
+        return Ok(TreeFound::Split(set));
+    }
+    if is_light(graph, &chosen, most) {
+        Ok(TreeFound::Tree(chosen))
+    } else {
+        Ok(TreeFound::Least(chosen))
+    }
+}
+
+/// A spanning tree of present edges that weighs at most `most` in sum, a split where no present edges form a spanning
+/// tree, or a lightest tree where each is heavier.
+pub fn find_tree(
+    alloc: Global,
+    graph: &Graph,
+    part: &Part,
+    most: i64,
+) -> Result<TreeFound, AllocError>
+    requires part { IsPartOf part.now graph.now }
+    ensures passes { IfOk result (Passes graph.now part.now most) }
+    ensures known { IfOk result (IsKnown graph.now) }
+{
+    let mut finder = TreeFinder::new(alloc, graph.nodes())?;
+    finder.find_tree(graph, part, most)
+}

@@ -1,0 +1,26 @@
+//! Spanning trees of parts of a graph, and what shows that there is none, or none that light.
+#![tactic(auto)]
+
+/// Tests, with room that is kept between them.
+mod checker;
+/// The components that edges form.
+mod components;
+/// The search for a light tree.
+mod finder;
+/// Forests of light edges.
+mod forest;
+/// What a search decides.
+pub mod laws;
+/// The test of least trees.
+mod least;
+/// Edges from the lightest to the heaviest.
+mod order;
+/// The test of trees.
+mod spanning;
+/// The test of splits.
+mod split;
+#[cfg(test)]
+mod tests;
+
+pub use checker::{TreeChecker, is_least, is_split, is_tree};
+pub use finder::{TreeFinder, TreeFound, find_tree};
