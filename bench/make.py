@@ -138,13 +138,14 @@ def lemmas(folder):
 
 
 def model(folder):
+    # 4 edges leave each node, and every seventh edge is absent, so that the sources reach most of the graph
     nodes, count, predicates = 250_000, 999_000, 1_000
     edges = [(i % nodes, (i * 7 + 1 + i // nodes) % nodes) for i in range(count)]
     onward = [[] for _ in range(nodes)]
     for n, (u, v) in enumerate(edges):
-        if n % 4:
+        if n % 7:
             onward[u].append(v)
-    values = [n + 1 if n % 4 else -n - 1 for n in range(count)]
+    values = [n + 1 if n % 7 else -n - 1 for n in range(count)]
     with open(os.path.join(folder, "f"), "w") as out:
         out.write("digraph int %d %d 0\n" % (nodes, count))
         for n, (u, v) in enumerate(edges, 1):

@@ -25,11 +25,13 @@ use Rattle.mono_check.specs.declared.reason.Reason.TheVariants as reason
 use Rattle.mono_check.specs.declared.verdict.Verdict.{Verdict}
 use Rattle.mono_check.specs.declared.verdict.Verdict.TheVariants as verdict
 use Rattle.mono_check.specs.Lines.{first_fault, last_line}
-use Rattle.mono_check.specs.Values.{model_line_fault, literals_in, end_line, model_of, false_clause}
+use Rattle.mono_check.specs.Values.{model_line_fault, literals_in, has_ended, end_line, model_of, false_clause}
 use Rattle.mono_check.specs.StepLines.{step_line_fault, steps_line_fault, reason_of, clauses_in, steps_in, step_in, chain_count}
 use Rattle.mono_check.specs.Verdicts.{Outcome, Decided, ValuesIn, IsOutcome, IsVerdict, items_outcome, values_outcome, ended_outcome, model_end, steps_verdict, steps_end, or_rejected}
 use Rattle.mono_check.specs.Answers.{step_item, HasSteps, HasModel}
 use Rattle.mono_check.proofs.AllTrue.{none_false}
+use Rattle.mono_check.proofs.ValueRows.{one_each, as_test, enough, no_end}
+use Rattle.mono_check.proofs.ModelText.{to_faultless, from_faultless, to_rows, from_rows}
 use Rattle.mono_check.proofs.SeenMore.{clauses_push, ended_by_line, unmapped}
 use Rattle.mono_check.proofs.WrongAtoms.{wrong_disagrees, same_wrong}
 
@@ -260,14 +262,31 @@ model_iff p text = (λ h. to (by_status p text verdict.Model model_ok h), from)
     to : IsModelText p text verdict.Model ⊎ AreStepsText p text verdict.Model → ((a : List Bool) × HasModel p text a × Satisfies p (value_in a))
     to (inl t) =
         let e = ended p text verdict.Model model_ok t in
+        let r = to_rows p [] t.lines (to_faultless p [] t.lines t.fault) (ended_by_line t.lines ∙ ap is_some e.is) in
         let a = model_of p (literals_in t.lines) in
-        (a, (t.lines, (t.status, t.is), t.fault, ended_by_line t.lines ∙ ap is_some e.is, refl), ((none_false (value_in a) p.clauses).0 e.clauses, e.atoms))
+        let has : HasModel p text a = record {
+          lines = t.lines;
+          rows = r.rows;
+          lits = r.lits;
+          behind = (t.status, t.is);
+          alone = r.alone;
+          numbers = r.numbers;
+          one_each = one_each p r.lits r.values r.full;
+          true_where = ap (model_of p) r.all;
+        } in
+        (a, has, ((none_false (value_in a) p.clauses).0 e.clauses, e.atoms))
     to (inr t) = absurd (no_steps t t.refutes refl)
 
     from : ((a : List Bool) × HasModel p text a × Satisfies p (value_in a)) → IsVerdict p text verdict.Model
-    from (a, (ls, (n, is), none, done, same), s) =
+    from (a, has, s) =
+        let ls = has.lines in
+        let n = has.behind.0 in
+        let is = has.behind.1 in
+        let f = from_rows p [] has.lits has.rows ls has.alone has.numbers (no_end p has.lits has.one_each.known) (as_test p has.lits has.one_each) (enough p has.lits has.one_each) in
+        let none = from_faultless p [] ls f.faultless in
+        let done : IsTrue (has_ended ls) = f.end in
         let b : List Bool = model_of p (literals_in ls) in
-        let t : Satisfies p (value_in b) = subst (λ (c : List Bool). Satisfies p (value_in c)) same s in
+        let t : Satisfies p (value_in b) = subst (λ (c : List Bool). Satisfies p (value_in c)) (has.true_where ∙ ap (model_of p) (sym f.all)) s in
         let e : items_outcome p (items_of text) ≡ model_end p n ls = ap (items_outcome p) is ∙ ap (λ (o : Option (ℕ × Reason)). or_rejected o (model_end p n ls)) none in
         subst (λ (o : Outcome). IsOutcome p o verdict.Model) (sym e) (by_end (end_line ls) (last_line n ls) b (sym (ended_by_line ls) ∙ done) ((none_false (value_in b) p.clauses).1 t.0) t.1)
       where

@@ -7,4 +7,6 @@ pub mod Found
 pub mod WrongAtoms
 pub mod ModelEnds
 pub mod AllTrue
+pub mod ValueRows
+pub mod ModelText
 pub mod Accepted

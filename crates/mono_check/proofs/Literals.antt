@@ -20,7 +20,7 @@ use Rattle.mono_steps.specs.ChainSteps.{names_vars}
 use Rattle.mono_check.specs.Values.{are_values, is_end, literals_among}
 use Rattle.mono_check.specs.Seen.{AreMembers, fits, is_new}
 
-abbrev is_known : Instance → ℤ → Bool
+abbrev pub is_known : Instance → ℤ → Bool
 is_known p l = nat_le 1 (var_of l) && nat_le (var_of l) p.vars
 
 -- a literal over one more of the problem's variables

@@ -44,7 +44,7 @@ last_more before n i = sym (ap (last_or None) (map-append (λ (l : ℕ × Option
 
 -- ---- the lines of a model
 
-literals_more : (before : List (ℕ × Option Item)) (n : ℕ) (i : Option Item) → literals_in before ++ lits_in i ≡ literals_in (before ++ (n, i) ∷ [])
+pub literals_more : (before : List (ℕ × Option Item)) (n : ℕ) (i : Option Item) → literals_in before ++ lits_in i ≡ literals_in (before ++ (n, i) ∷ [])
 literals_more before n i = sym (flat_map-append (λ (l : ℕ × Option Item). lits_in l.1) before ((n, i) ∷ []) ∙ ap (λ (ls : List ℤ). literals_in before ++ ls) (append-nil (lits_in i)))
 
 end_more : (before : List (ℕ × Option Item)) (n : ℕ) (i : Option Item) → option_or (end_line before) (if ends_in i then Some n else None) ≡ end_line (before ++ (n, i) ∷ [])
@@ -91,7 +91,7 @@ few_more : (b : Bool) (k n : ℕ) → k ≤ n → (if b then k + 1 else k) ≤ n
 few_more true k n h = omega arith
 few_more false k n h = omega arith
 
-all_within : (p : Instance) (c : List ℤ) → IsTrue (names_vars p c) → All (IsLitWithin p.vars) c
+pub all_within : (p : Instance) (c : List ℤ) → IsTrue (names_vars p c) → All (IsLitWithin p.vars) c
 all_within p [] h = All-nil (IsLitWithin p.vars)
 all_within p (l ∷ c) h =
     let a = and_parts (nat_le 1 (var_of l) && nat_le (var_of l) p.vars) (names_vars p c) h in

@@ -1,14 +1,15 @@
 -- What an accepted answer is.
-use Rattle.std.specs.Prelude.{◌≡◌, ℕ, Bool, List, [], ◌∷◌, map, Option, Some, None, IsTrue}
+use Rattle.std.specs.Prelude.{◌≡◌, ◌≤◌, ℕ, ℤ, pos, Bool, List, [], ◌∷◌, ◌++◌, map, flat_map, Option, Some, IsTrue}
+use Rattle.mono_base.specs.Partial.{has_var, is_partial}
 use Rattle.mono_problem.specs.Instance.{Instance}
+use Rattle.mono_steps.specs.ChainSteps.{names_vars}
 use Rattle.mono_steps.specs.declared.step.Step.{Step}
 use Rattle.mono_answer.specs.declared.kind.Kind.{Kind}
 use Rattle.mono_answer.specs.declared.kind.Kind.TheVariants as kind
 use Rattle.mono_answer.specs.declared.item.Item.{Item}
 use Rattle.mono_answer.specs.declared.item.Item.TheVariants as says
 use Rattle.mono_answer.specs.Items.{items_of}
-use Rattle.mono_check.specs.Lines.{first_fault}
-use Rattle.mono_check.specs.Values.{model_line_fault, literals_in, has_ended, model_of}
+use Rattle.mono_check.specs.Values.{model_of}
 
 -- the text is a status line of the kind, and these lines behind it
 abbrev pub HasLines : Kind → List ℕ → List (ℕ × Option Item) → Type 0
@@ -22,6 +23,23 @@ step_item s = Some (says.Step s)
 abbrev pub HasSteps : Kind → List ℕ → List Step → Type 0
 HasSteps k text steps = (ls : List (ℕ × Option Item)) × HasLines k text ls × (map (λ l. l.1) ls ≡ map step_item steps)
 
--- the text says that the problem's variables have these values: no line is at fault, and the ending 0 is there
-abbrev pub HasModel : Instance → List ℕ → List Bool → Type 0
-HasModel p text a = (ls : List (ℕ × Option Item)) × HasLines kind.Model text ls × (first_fault (model_line_fault p) [] ls ≡ None) × IsTrue (has_ended ls) × (a ≡ model_of p (literals_in ls))
+-- a `v` line with these numbers
+abbrev pub values_item : List ℤ → Option Item
+values_item zs = Some (says.Values zs)
+
+-- literals over the problem's variables, one over each
+pub record AreValues (p : Instance) (lits : List ℤ) : Type 0 where
+  pub known : IsTrue (names_vars p lits)
+  pub once : IsTrue (is_partial lits)
+  pub each : (x : ℕ) → 1 ≤ x → x ≤ p.vars → IsTrue (has_var lits x)
+
+-- The text says that the problem's variables have these values: behind the status line there are `v` lines alone, whose numbers are in sum a literal over each variable, in any order, and then the ending 0. A variable is true exactly where it is one of the literals.
+pub record HasModel (p : Instance) (text : List ℕ) (values : List Bool) : Type 0 where
+  pub lines : List (ℕ × Option Item)
+  pub rows : List (List ℤ)
+  pub lits : List ℤ
+  pub behind : HasLines kind.Model text lines
+  pub alone : map (λ l. l.1) lines ≡ map values_item rows
+  pub numbers : flat_map (λ zs. zs) rows ≡ lits ++ pos 0 ∷ []
+  pub one_each : AreValues p lits
+  pub true_where : values ≡ model_of p lits

@@ -1,5 +1,9 @@
+mod Format
 mod Needs
 mod OneEnding
 mod PlaceLaws
+mod Solutions
+mod Solves
 mod Sound
 mod Stages
+mod Values

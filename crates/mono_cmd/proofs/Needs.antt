@@ -3,6 +3,8 @@ use Rattle.std.proofs.Common.{◌≡◌, ◌≢◌, ◌<◌, ◌≤◌, ◌⊎�
 use Rattle.std.specs.Prelude.{IsSomeAnd}
 use Rattle.mono_base.specs.declared.limits.TheConstants.{MAX_INPUT_BYTES, MAX_ANSWER_BYTES}
 use Rattle.mono_problem.specs.Instance.{Instance}
+use Rattle.mono_answer.specs.declared.answer.Answer.{Answer}
+use Rattle.mono_answer.specs.declared.answer.Answer.TheVariants as answer
 use Rattle.mono_check.specs.declared.verdict.Verdict.{Verdict}
 use Rattle.mono_check.specs.declared.verdict.Verdict.TheVariants as verdict
 use Rattle.mono_io.specs.Reading.{IsNotRead, IsTooLong}
@@ -13,8 +15,8 @@ use Rattle.mono_cmd.specs.declared.status.Status.{Status}
 use Rattle.mono_cmd.specs.declared.status.Status.TheVariants as status
 use Rattle.mono_cmd.specs.declared.ending.Ending.{Ending}
 use Rattle.mono_cmd.specs.declared.ending.Ending.TheVariants as ending
-use Rattle.mono_cmd.specs.Endings.{status_of, verdict_status}
-use Rattle.mono_cmd.specs.Runs.{ComesTo, Ends, Writes, HasProblem, HasNoFault, EachReached, IsHeld, IsHeldWithin}
+use Rattle.mono_cmd.specs.Endings.{status_of, answer_status, verdict_status}
+use Rattle.mono_cmd.specs.Runs.{ComesTo, Ends, Writes, HasProblem, HasNoFault, EachReached, IsHeld, IsHeldWithin, IsCarriedOut, IsSolved, EndsAtFile}
 use Rattle.mono_cmd.proofs.Stages.{ends_else}
 
 -- ---- one file
@@ -54,6 +56,8 @@ no_fault file old read p held has = by_texts old.texts held has.read.whole
 
 never_read_fault : (found : Option Command) (old new : ShelfView) → IsTrue old.steady → IsSomeAnd found (EachReached (IsHeld old.texts) old.texts) → ComesTo found old new ending.ReadFault → ⊥
 never_read_fault None old new steady holds comes = holds
+never_read_fault (Some (command.Solve file budget)) old new steady holds (inl ends) = held_not_lacking old.texts file MAX_INPUT_BYTES holds (ends.lacking steady)
+never_read_fault (Some (command.Solve file budget)) old new steady holds (inr (p, shelf, has, end)) = absurd end.0
 never_read_fault (Some (command.Print file)) old new steady holds (inl ends) = held_not_lacking old.texts file MAX_INPUT_BYTES holds (ends.lacking steady)
 never_read_fault (Some (command.Print file)) old new steady holds (inr (p, shelf, has, end)) = absurd (cc end.0)
 never_read_fault (Some (command.Check file answer)) old new steady holds (inl ends) = held_not_lacking old.texts file MAX_INPUT_BYTES holds.0 (ends.lacking steady)
@@ -64,6 +68,8 @@ never_read_fault (Some (command.Check file answer)) old new steady holds (inr (p
 
 never_too_long : (found : Option Command) (old new : ShelfView) → IsSomeAnd found (EachReached (IsHeldWithin old.texts) old.texts) → ComesTo found old new ending.TooLong → ⊥
 never_too_long None old new holds comes = holds
+never_too_long (Some (command.Solve file budget)) old new holds (inl ends) = within_not_longer old.texts file MAX_INPUT_BYTES holds ends.longer
+never_too_long (Some (command.Solve file budget)) old new holds (inr (p, shelf, has, end)) = absurd end.0
 never_too_long (Some (command.Print file)) old new holds (inl ends) = within_not_longer old.texts file MAX_INPUT_BYTES holds ends.longer
 never_too_long (Some (command.Print file)) old new holds (inr (p, shelf, has, end)) = absurd (cc end.0)
 never_too_long (Some (command.Check file answer)) old new holds (inl ends) = within_not_longer old.texts file MAX_INPUT_BYTES holds.0 ends.longer
@@ -74,6 +80,7 @@ never_too_long (Some (command.Check file answer)) old new holds (inr (p, read, h
 
 reached_held : (texts : Option Texts) (found : Option Command) → IsSomeAnd found (EachReached (IsHeldWithin texts) texts) → IsSomeAnd found (EachReached (IsHeld texts) texts)
 reached_held texts None holds = holds
+reached_held texts (Some (command.Solve file budget)) holds = within_held texts file MAX_INPUT_BYTES holds
 reached_held texts (Some (command.Print file)) holds = within_held texts file MAX_INPUT_BYTES holds
 reached_held texts (Some (command.Check file answer)) holds =
     (within_held texts file MAX_INPUT_BYTES holds.0, λ reached. within_held texts answer MAX_ANSWER_BYTES (holds.1 reached))
@@ -84,6 +91,9 @@ reached_held texts (Some (command.Check file answer)) holds =
 pub its_status : (e : Ending) (s : Status) (before now : Option (List ℕ)) → Writes e s before now → s ≢ status.WriteFault → s ≢ status.Memory → s ≡ status_of e
 its_status e status.WriteFault before now w no_fault found = absurd (no_fault refl)
 its_status e status.Memory before now w no_fault found = absurd (found refl)
+its_status e status.Satisfiable before now w no_fault found = w.0
+its_status e status.Unsatisfiable before now w no_fault found = w.0
+its_status e status.Unknown before now w no_fault found = w.0
 its_status e status.Accepted before now w no_fault found = w.0
 its_status e status.Printed before now w no_fault found = w.0
 its_status e status.Rejected before now w no_fault found = w.0
@@ -97,6 +107,9 @@ pub no_read_fault : (e : Ending) (s : Status) (before now : Option (List ℕ)) �
 no_read_fault e status.WriteFault before now w other no_fault = absurd (no_fault refl)
 no_read_fault e status.ReadFault before now w other no_fault = absurd (other refl)
 no_read_fault e status.Memory before now w other no_fault = w.1
+no_read_fault e status.Satisfiable before now w other no_fault = λ same. absurd (let is = w.0 ∙ ap status_of same in cc)
+no_read_fault e status.Unsatisfiable before now w other no_fault = λ same. absurd (let is = w.0 ∙ ap status_of same in cc)
+no_read_fault e status.Unknown before now w other no_fault = λ same. absurd (let is = w.0 ∙ ap status_of same in cc)
 no_read_fault e status.Accepted before now w other no_fault = λ same. absurd (let is = w.0 ∙ ap status_of same in cc)
 no_read_fault e status.Printed before now w other no_fault = λ same. absurd (let is = w.0 ∙ ap status_of same in cc)
 no_read_fault e status.Rejected before now w other no_fault = λ same. absurd (let is = w.0 ∙ ap status_of same in cc)
@@ -112,6 +125,12 @@ its_read_fault ending.Memory is = absurd cc
 its_read_fault ending.TooLong is = absurd cc
 its_read_fault (ending.Refused line fault) is = absurd cc
 its_read_fault (ending.Printed text) is = absurd cc
+its_read_fault (ending.Solved a) is = absurd (by_answer a is)
+  where
+    by_answer : (b : Answer) → status.ReadFault ≡ answer_status b → ⊥
+    by_answer (answer.Model values) is = cc
+    by_answer (answer.Refutation steps) is = cc
+    by_answer (answer.Progress steps) is = cc
 its_read_fault (ending.Judged v) is = absurd (by_verdict v is)
   where
     by_verdict : (v : Verdict) → status.ReadFault ≡ verdict_status v → ⊥
@@ -126,39 +145,95 @@ steady found old new e s before now ends writes is_steady holds = λ same.
     let here : Writes e status.ReadFault before now = subst (λ (t : Status). Writes e t before now) same writes in
     never_read_fault found old new is_steady holds (subst (Ends found old new) (its_read_fault e here.0) ends)
 
--- an answer, or what is wrong with FILE
-abbrev pub IsCarriedOut : Status → Type 0
-IsCarriedOut s = (s ≡ status.Accepted) ⊎ (s ≡ status.Rejected) ⊎ (s ≡ status.Printed) ⊎ (s ≡ status.Refused)
+-- ---- what is carried out
 
-pub complete : (found : Option Command) (old new : ShelfView) (e : Ending) (s : Status) (before now : Option (List ℕ)) → Ends found old new e → Writes e s before now
-    → IsTrue old.steady → IsSomeAnd found (EachReached (IsHeldWithin old.texts) old.texts) → s ≢ status.WriteFault → s ≢ status.Memory → IsCarriedOut s
-complete found old new e s before now ends writes is_steady holds no_fault memory =
-    let is = its_status e s before now writes no_fault memory in
-    subst IsCarriedOut (sym is) (by_ending e ends (λ same. memory (is ∙ ap status_of same)))
+-- the run doesn't end at its words or at a file
+record IsOver (e : Ending) : Type 0 where
+  words : e ≢ ending.Words
+  read : e ≢ ending.ReadFault
+  found : e ≢ ending.Memory
+  short : e ≢ ending.TooLong
+
+solve_done : (file : List ℕ) (budget : ℕ) (old new : ShelfView) (e : Ending) → IsOver e → ComesTo (Some (command.Solve file budget)) old new e → IsCarriedOut (command.Solve file budget) (status_of e)
+solve_done file budget old new ending.Words over comes = absurd (over.words refl)
+solve_done file budget old new ending.ReadFault over comes = absurd (over.read refl)
+solve_done file budget old new ending.Memory over comes = absurd (over.found refl)
+solve_done file budget old new ending.TooLong over comes = absurd (over.short refl)
+solve_done file budget old new (ending.Refused line fault) over comes = inr (inr (inr refl))
+solve_done file budget old new (ending.Solved a) over comes = by_answer a
   where
-    no_command : (c : Option Command) → IsSomeAnd c (EachReached (IsHeldWithin old.texts) old.texts) → c ≡ None → ⊥
-    no_command None h is = h
-    no_command (Some c) h is = absurd cc
+    by_answer : (b : Answer) → IsCarriedOut (command.Solve file budget) (answer_status b)
+    by_answer (answer.Model values) = inl refl
+    by_answer (answer.Refutation steps) = inr (inl refl)
+    by_answer (answer.Progress steps) = inr (inr (inl refl))
+solve_done file budget old new (ending.Judged v) over (inl ends) = absurd ends
+solve_done file budget old new (ending.Judged v) over (inr (p, shelf, has, end)) = absurd end.0
+solve_done file budget old new (ending.Printed text) over (inl ends) = absurd ends
+solve_done file budget old new (ending.Printed text) over (inr (p, shelf, has, end)) = absurd end.0
 
-    words : (c : Option Command) → IsSomeAnd c (EachReached (IsHeldWithin old.texts) old.texts) → ComesTo c old new ending.Words → ⊥
-    words None h comes = h
-    words (Some (command.Print file)) h (inl ends) = ends
-    words (Some (command.Print file)) h (inr (p, shelf, has, end)) = absurd (cc end.0)
-    words (Some (command.Check file answer)) h (inl ends) = ends
-    words (Some (command.Check file answer)) h (inr (p, read, has, inl ends)) = ends
-    words (Some (command.Check file answer)) h (inr (p, read, has, inr (text, shelf, given, end))) = absurd end.0
+print_done : (file : List ℕ) (old new : ShelfView) (e : Ending) → IsOver e → ComesTo (Some (command.Print file)) old new e → IsCarriedOut (command.Print file) (status_of e)
+print_done file old new ending.Words over comes = absurd (over.words refl)
+print_done file old new ending.ReadFault over comes = absurd (over.read refl)
+print_done file old new ending.Memory over comes = absurd (over.found refl)
+print_done file old new ending.TooLong over comes = absurd (over.short refl)
+print_done file old new (ending.Refused line fault) over comes = inr refl
+print_done file old new (ending.Solved a) over (inl ends) = absurd ends
+print_done file old new (ending.Solved a) over (inr (p, shelf, has, end)) = absurd (let same = end.0 in cc)
+print_done file old new (ending.Judged v) over (inl ends) = absurd ends
+print_done file old new (ending.Judged v) over (inr (p, shelf, has, end)) = absurd (let same = end.0 in cc)
+print_done file old new (ending.Printed text) over comes = inl refl
 
-    by_verdict : (v : Verdict) → IsCarriedOut (verdict_status v)
+check_done : (file answer : List ℕ) (old new : ShelfView) (e : Ending) → IsOver e → ComesTo (Some (command.Check file answer)) old new e → IsCarriedOut (command.Check file answer) (status_of e)
+check_done file answer old new ending.Words over comes = absurd (over.words refl)
+check_done file answer old new ending.ReadFault over comes = absurd (over.read refl)
+check_done file answer old new ending.Memory over comes = absurd (over.found refl)
+check_done file answer old new ending.TooLong over comes = absurd (over.short refl)
+check_done file answer old new (ending.Refused line fault) over comes = inr (inr refl)
+check_done file answer old new (ending.Solved a) over (inl ends) = absurd ends
+check_done file answer old new (ending.Solved a) over (inr (p, read, has, inl ends)) = absurd ends
+check_done file answer old new (ending.Solved a) over (inr (p, read, has, inr (text, shelf, given, end))) = absurd end.0
+check_done file answer old new (ending.Judged v) over comes = by_verdict v
+  where
+    by_verdict : (w : Verdict) → IsCarriedOut (command.Check file answer) (verdict_status w)
     by_verdict verdict.Model = inl refl
     by_verdict verdict.Refutation = inl refl
     by_verdict (verdict.Progress n) = inl refl
     by_verdict (verdict.Rejected line r) = inr (inl refl)
+check_done file answer old new (ending.Printed text) over (inl ends) = absurd ends
+check_done file answer old new (ending.Printed text) over (inr (p, read, has, inl ends)) = absurd ends
+check_done file answer old new (ending.Printed text) over (inr (p, read, has, inr (t, shelf, given, end))) = absurd end.0
 
-    by_ending : (d : Ending) → Ends found old new d → d ≢ ending.Memory → IsCarriedOut (status_of d)
-    by_ending ending.Words end else = absurd (words found holds end)
-    by_ending ending.ReadFault end else = absurd (never_read_fault found old new is_steady (reached_held old.texts found holds) end)
-    by_ending ending.Memory end else = absurd (else refl)
-    by_ending ending.TooLong end else = absurd (never_too_long found old new holds end)
-    by_ending (ending.Refused line fault) end else = inr (inr (inr refl))
-    by_ending (ending.Judged v) end else = by_verdict v
-    by_ending (ending.Printed text) end else = inr (inr (inl refl))
+-- a command never ends as other words do
+never_words : (c : Command) (old new : ShelfView) → ComesTo (Some c) old new ending.Words → ⊥
+never_words (command.Solve file budget) old new (inl ends) = ends
+never_words (command.Solve file budget) old new (inr (p, shelf, has, end)) = end.0
+never_words (command.Print file) old new (inl ends) = ends
+never_words (command.Print file) old new (inr (p, shelf, has, end)) = absurd (cc end.0)
+never_words (command.Check file answer) old new (inl ends) = ends
+never_words (command.Check file answer) old new (inr (p, read, has, inl ends)) = ends
+never_words (command.Check file answer) old new (inr (p, read, has, inr (text, shelf, given, end))) = end.0
+
+pub complete : (found : Option Command) (old new : ShelfView) (e : Ending) (s : Status) (before now : Option (List ℕ)) → Ends found old new e → Writes e s before now
+    → IsTrue old.steady → IsSomeAnd found (EachReached (IsHeldWithin old.texts) old.texts) → s ≢ status.WriteFault → s ≢ status.Memory → IsSomeAnd found (λ c. IsCarriedOut c s)
+complete None old new e s before now ends writes is_steady holds no_fault memory = holds
+complete (Some c) old new e s before now ends writes is_steady holds no_fault memory =
+    subst (IsCarriedOut c) (sym is) (by_command c (ends_else (Some c) old new e found ends) over)
+  where
+    is : s ≡ status_of e
+    is = its_status e s before now writes no_fault memory
+
+    found : e ≢ ending.Memory
+    found = λ same. memory (is ∙ ap status_of same)
+
+    over : IsOver e
+    over = record {
+      words = λ same. never_words c old new (subst (Ends (Some c) old new) same ends);
+      read = λ same. never_read_fault (Some c) old new is_steady (reached_held old.texts (Some c) holds) (subst (Ends (Some c) old new) same ends);
+      found = found;
+      short = λ same. never_too_long (Some c) old new holds (subst (Ends (Some c) old new) same ends);
+    }
+
+    by_command : (d : Command) → ComesTo (Some d) old new e → IsOver e → IsCarriedOut d (status_of e)
+    by_command (command.Solve file budget) comes o = solve_done file budget old new e o comes
+    by_command (command.Print file) comes o = print_done file old new e o comes
+    by_command (command.Check file answer) comes o = check_done file answer old new e o comes

@@ -1,8 +1,14 @@
--- Over the same told texts one command comes to one ending.
+-- Over the same told texts one command comes to one ending, or to answers of `solve` that don't contradict each other.
 use Rattle.std.proofs.Common.{◌≡◌, ◌≢◌, ◌<◌, ◌≤◌, ◌⊎◌, ◌+◌, ℕ, List, Option, Some, None, IsNone, IsTrue, IfSome, length, refl, sym, ap, subst, ◌∙◌, inl, inr, arith}
 use Rattle.std.specs.Prelude.{IsSomeAnd}
 use Rattle.mono_base.specs.declared.limits.TheConstants.{MAX_INPUT_BYTES, MAX_ANSWER_BYTES}
+use Rattle.mono_base.specs.Literal.{value_in}
 use Rattle.mono_problem.specs.Instance.{Instance}
+use Rattle.mono_problem.specs.WellFormed.{IsInstance}
+use Rattle.mono_steps.proofs.StepTruth.{refutation_excludes}
+use Rattle.mono_gnf.proofs.WellFormedReading.{stands_well_formed}
+use Rattle.mono_answer.specs.declared.answer.Answer.{Answer}
+use Rattle.mono_answer.specs.declared.answer.Answer.TheVariants as answer
 use Rattle.mono_gnf.specs.Faults.{first_fault}
 use Rattle.mono_gnf.specs.Printed.{printed}
 use Rattle.mono_gnf.specs.Stands.{Stands}
@@ -15,7 +21,8 @@ use Rattle.mono_cmd.specs.declared.command.Command.{Command}
 use Rattle.mono_cmd.specs.declared.command.Command.TheVariants as command
 use Rattle.mono_cmd.specs.declared.ending.Ending.{Ending}
 use Rattle.mono_cmd.specs.declared.ending.Ending.TheVariants as ending
-use Rattle.mono_cmd.specs.Runs.{EndsAtText, EndsAtFile, HasProblem, IsJudged, ComesTo, Ends}
+use Rattle.mono_cmd.specs.Runs.{EndsAtText, EndsAtFile, HasProblem, IsJudged, IsSolved, ComesTo, Ends, AreConsistent, AreAlike}
+use Rattle.mono_cmd.specs.Solved.{IsAnswer, IsSolution}
 use Rattle.mono_cmd.proofs.Sound.{same_problem}
 use Rattle.mono_cmd.proofs.Stages.{ends_else}
 
@@ -64,13 +71,63 @@ one_judged p text (ending.Judged v) ending.ReadFault a b = absurd b
 one_judged p text (ending.Judged v) ending.TooLong a b = absurd b
 one_judged p text (ending.Judged v) ending.Memory a b = absurd b
 one_judged p text (ending.Judged v) (ending.Refused line fault) a b = absurd b
+one_judged p text (ending.Judged v) (ending.Solved s) a b = absurd b
 one_judged p text (ending.Judged v) (ending.Printed t) a b = absurd b
 one_judged p text ending.Words e' a b = absurd a
 one_judged p text ending.ReadFault e' a b = absurd a
 one_judged p text ending.TooLong e' a b = absurd a
 one_judged p text ending.Memory e' a b = absurd a
 one_judged p text (ending.Refused line fault) e' a b = absurd a
+one_judged p text (ending.Solved s) e' a b = absurd a
 one_judged p text (ending.Printed t) e' a b = absurd a
+
+-- ---- answers of `solve`
+
+-- one ending is like itself
+same_alike : (e e' : Ending) → e ≡ e' → AreAlike e e'
+same_alike e e' same = subst (AreAlike e) same (itself e)
+  where
+    by_answer : (a : Answer) → AreConsistent a a
+    by_answer (answer.Model values) = tt
+    by_answer (answer.Refutation steps) = tt
+    by_answer (answer.Progress steps) = tt
+
+    itself : (d : Ending) → AreAlike d d
+    itself ending.Words = refl
+    itself ending.ReadFault = refl
+    itself ending.Memory = refl
+    itself ending.TooLong = refl
+    itself (ending.Refused line fault) = refl
+    itself (ending.Solved a) = by_answer a
+    itself (ending.Judged v) = refl
+    itself (ending.Printed text) = refl
+
+-- a problem that has a refutation has no model
+consistent : (p : Instance) (budget : ℕ) (a b : Answer) → IsInstance p → IsAnswer p budget a → IsAnswer p budget b → AreConsistent a b
+consistent p budget (answer.Model values) (answer.Model values') ok x y = tt
+consistent p budget (answer.Model values) (answer.Refutation steps) ok x y = refutation_excludes p steps ok y.refutes (value_in values) x.satisfies
+consistent p budget (answer.Model values) (answer.Progress steps) ok x y = tt
+consistent p budget (answer.Refutation steps) (answer.Model values) ok x y = refutation_excludes p steps ok x.refutes (value_in values) y.satisfies
+consistent p budget (answer.Refutation steps) (answer.Refutation steps') ok x y = tt
+consistent p budget (answer.Refutation steps) (answer.Progress steps') ok x y = tt
+consistent p budget (answer.Progress steps) b ok x y = tt
+
+one_solved : (p : Instance) (budget : ℕ) (e e' : Ending) → IsInstance p → IsSolved p budget e → IsSolved p budget e' → AreAlike e e'
+one_solved p budget (ending.Solved s) (ending.Solved t) ok a b = consistent p budget s t ok a.right b.right
+one_solved p budget (ending.Solved s) ending.Words ok a b = absurd b
+one_solved p budget (ending.Solved s) ending.ReadFault ok a b = absurd b
+one_solved p budget (ending.Solved s) ending.Memory ok a b = absurd b
+one_solved p budget (ending.Solved s) ending.TooLong ok a b = absurd b
+one_solved p budget (ending.Solved s) (ending.Refused line fault) ok a b = absurd b
+one_solved p budget (ending.Solved s) (ending.Judged v) ok a b = absurd b
+one_solved p budget (ending.Solved s) (ending.Printed t) ok a b = absurd b
+one_solved p budget ending.Words e' ok a b = absurd a
+one_solved p budget ending.ReadFault e' ok a b = absurd a
+one_solved p budget ending.Memory e' ok a b = absurd a
+one_solved p budget ending.TooLong e' ok a b = absurd a
+one_solved p budget (ending.Refused line fault) e' ok a b = absurd a
+one_solved p budget (ending.Judged v) e' ok a b = absurd a
+one_solved p budget (ending.Printed t) e' ok a b = absurd a
 
 -- ---- FILE
 
@@ -144,6 +201,7 @@ module _ (held : Texts) where
   at_text file limit old new ending.Words else over ends = absurd ends
   at_text file limit old new (ending.Refused line fault) else over ends = absurd ends
   at_text file limit old new (ending.Judged v) else over ends = absurd ends
+  at_text file limit old new (ending.Solved reply) else over ends = absurd ends
   at_text file limit old new (ending.Printed text) else over ends = absurd ends
 
   at_file : (file : List ℕ) (old new : ShelfView) (e : Ending) → e ≢ ending.Memory → IsOver old e → EndsAtFile file old new e → AtFile (text_named file held) e
@@ -154,6 +212,7 @@ module _ (held : Texts) where
   at_file file old new ending.Memory else over ends = absurd (else refl)
   at_file file old new ending.Words else over ends = absurd ends
   at_file file old new (ending.Judged v) else over ends = absurd ends
+  at_file file old new (ending.Solved reply) else over ends = absurd ends
   at_file file old new (ending.Printed text) else over ends = absurd ends
 
   -- behind FILE the same texts are told, and a steady shelf is steady
@@ -161,25 +220,34 @@ module _ (held : Texts) where
   over_next file old read p e over has = record { texts = has.read.once.texts ∙ over.texts; sure = λ same. has.read.once.steady (over.sure same) }
 
   comes_once : (found : Option Command) (old new old' new' : ShelfView) (e e' : Ending) → e ≢ ending.Memory → e' ≢ ending.Memory → IsOver old e → IsOver old' e'
-      → ComesTo found old new e → ComesTo found old' new' e' → e ≡ e'
-  comes_once None old new old' new' e e' else else' over over' a b = a.0 ∙ sym b.0
+      → ComesTo found old new e → ComesTo found old' new' e' → AreAlike e e'
+  comes_once None old new old' new' e e' else else' over over' a b = same_alike e e' (a.0 ∙ sym b.0)
+  comes_once (Some (command.Solve file budget)) old new old' new' e e' else else' over over' (inl a) (inl b) =
+      same_alike e e' (file_file (text_named file held) e e' (at_file file old new e else over a) (at_file file old' new' e' else' over' b))
+  comes_once (Some (command.Solve file budget)) old new old' new' e e' else else' over over' (inl a) (inr (q, shelf', has', end')) =
+      absurd (file_problem (text_named file held) e q (at_file file old new e else over a) (stands_for file old' shelf' q over'.texts has'))
+  comes_once (Some (command.Solve file budget)) old new old' new' e e' else else' over over' (inr (p, shelf, has, end)) (inl b) =
+      absurd (file_problem (text_named file held) e' p (at_file file old' new' e' else' over' b) (stands_for file old shelf p over.texts has))
+  comes_once (Some (command.Solve file budget)) old new old' new' e e' else else' over over' (inr (p, shelf, has, end)) (inr (q, shelf', has', end')) =
+      let same = one_problem (text_named file held) p q (stands_for file old shelf p over.texts has) (stands_for file old' shelf' q over'.texts has') in
+      one_solved q budget e e' (stands_well_formed has'.text q has'.stands) (subst (λ (r : Instance). IsSolved r budget e) same end.0) end'.0
   comes_once (Some (command.Print file)) old new old' new' e e' else else' over over' (inl a) (inl b) =
-      file_file (text_named file held) e e' (at_file file old new e else over a) (at_file file old' new' e' else' over' b)
+      same_alike e e' (file_file (text_named file held) e e' (at_file file old new e else over a) (at_file file old' new' e' else' over' b))
   comes_once (Some (command.Print file)) old new old' new' e e' else else' over over' (inl a) (inr (q, shelf', has', end')) =
       absurd (file_problem (text_named file held) e q (at_file file old new e else over a) (stands_for file old' shelf' q over'.texts has'))
   comes_once (Some (command.Print file)) old new old' new' e e' else else' over over' (inr (p, shelf, has, end)) (inl b) =
       absurd (file_problem (text_named file held) e' p (at_file file old' new' e' else' over' b) (stands_for file old shelf p over.texts has))
   comes_once (Some (command.Print file)) old new old' new' e e' else else' over over' (inr (p, shelf, has, end)) (inr (q, shelf', has', end')) =
       let same = one_problem (text_named file held) p q (stands_for file old shelf p over.texts has) (stands_for file old' shelf' q over'.texts has') in
-      end.0 ∙ ap (λ (r : Instance). ending.Printed (printed r)) same ∙ sym end'.0
+      same_alike e e' (end.0 ∙ ap (λ (r : Instance). ending.Printed (printed r)) same ∙ sym end'.0)
   comes_once (Some (command.Check file answer)) old new old' new' e e' else else' over over' (inl a) (inl b) =
-      file_file (text_named file held) e e' (at_file file old new e else over a) (at_file file old' new' e' else' over' b)
+      same_alike e e' (file_file (text_named file held) e e' (at_file file old new e else over a) (at_file file old' new' e' else' over' b))
   comes_once (Some (command.Check file answer)) old new old' new' e e' else else' over over' (inl a) (inr (q, read', has', rest')) =
       absurd (file_problem (text_named file held) e q (at_file file old new e else over a) (stands_for file old' read' q over'.texts has'))
   comes_once (Some (command.Check file answer)) old new old' new' e e' else else' over over' (inr (p, read, has, rest)) (inl b) =
       absurd (file_problem (text_named file held) e' p (at_file file old' new' e' else' over' b) (stands_for file old read p over.texts has))
   comes_once (Some (command.Check file answer)) old new old' new' e e' else else' over over' (inr (p, read, has, rest)) (inr (q, read', has', rest')) =
-      by_rest rest rest'
+      same_alike e e' (by_rest rest rest')
     where
       same : p ≡ q
       same = one_problem (text_named file held) p q (stands_for file old read p over.texts has) (stands_for file old' read' q over'.texts has')
@@ -203,8 +271,34 @@ module _ (held : Texts) where
           let texts = same_text (text_named answer held) MAX_ANSWER_BYTES text text' (was_read answer MAX_ANSWER_BYTES read shelf text next.texts given) (was_read answer MAX_ANSWER_BYTES read' shelf' text' next'.texts given') in
           one_judged q text' e e' (subst (λ (t : List ℕ). IsJudged q t e) texts (subst (λ (r : Instance). IsJudged r text e) same end.0)) end'.0
 
-  pub one_ending : (found : Option Command) (old new old' new' : ShelfView) (e e' : Ending) → old.texts ≡ Some held → old'.texts ≡ Some held
+  pub alike : (found : Option Command) (old new old' new' : ShelfView) (e e' : Ending) → old.texts ≡ Some held → old'.texts ≡ Some held
+      → (e ≡ ending.ReadFault → IsTrue old.steady) → (e' ≡ ending.ReadFault → IsTrue old'.steady)
+      → Ends found old new e → Ends found old' new' e' → e ≢ ending.Memory → e' ≢ ending.Memory → AreAlike e e'
+  alike found old new old' new' e e' told told' sure sure' a b else else' =
+      comes_once found old new old' new' e e' else else' (record { texts = told; sure = sure }) (record { texts = told'; sure = sure' }) (ends_else found old new e else a) (ends_else found old' new' e' else' b)
+
+  -- only `solve` ends with an answer
+  only_solve : (found : Option Command) (old new : ShelfView) (a : Answer) → ((file : List ℕ) (budget : ℕ) → found ≢ Some (command.Solve file budget)) → ComesTo found old new (ending.Solved a) → ⊥
+  only_solve None old new a other comes = absurd (cc comes.0)
+  only_solve (Some (command.Solve file budget)) old new a other comes = other file budget refl
+  only_solve (Some (command.Print file)) old new a other (inl ends) = ends
+  only_solve (Some (command.Print file)) old new a other (inr (p, shelf, has, end)) = absurd (cc end.0)
+  only_solve (Some (command.Check file answer)) old new a other (inl ends) = ends
+  only_solve (Some (command.Check file answer)) old new a other (inr (p, read, has, inl ends)) = ends
+  only_solve (Some (command.Check file answer)) old new a other (inr (p, read, has, inr (text, shelf, given, end))) = end.0
+
+  alike_same : (e e' : Ending) → ((a : Answer) → e ≡ ending.Solved a → ⊥) → AreAlike e e' → e ≡ e'
+  alike_same ending.Words e' other is = is
+  alike_same ending.ReadFault e' other is = is
+  alike_same ending.Memory e' other is = is
+  alike_same ending.TooLong e' other is = is
+  alike_same (ending.Refused line fault) e' other is = is
+  alike_same (ending.Solved a) e' other is = absurd (other a refl)
+  alike_same (ending.Judged v) e' other is = is
+  alike_same (ending.Printed text) e' other is = is
+
+  pub same : (found : Option Command) (old new old' new' : ShelfView) (e e' : Ending) → ((file : List ℕ) (budget : ℕ) → found ≢ Some (command.Solve file budget)) → old.texts ≡ Some held → old'.texts ≡ Some held
       → (e ≡ ending.ReadFault → IsTrue old.steady) → (e' ≡ ending.ReadFault → IsTrue old'.steady)
       → Ends found old new e → Ends found old' new' e' → e ≢ ending.Memory → e' ≢ ending.Memory → e ≡ e'
-  one_ending found old new old' new' e e' told told' sure sure' a b else else' =
-      comes_once found old new old' new' e e' else else' (record { texts = told; sure = sure }) (record { texts = told'; sure = sure' }) (ends_else found old new e else a) (ends_else found old' new' e' else' b)
+  same found old new old' new' e e' other told told' sure sure' a b else else' =
+      alike_same e e' (λ s is. only_solve found old new s other (subst (Ends found old new) is a)) (alike found old new old' new' e e' told told' sure sure' a b else else')

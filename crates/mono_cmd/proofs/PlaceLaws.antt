@@ -23,6 +23,7 @@ text_place file limit old new ending.Memory else ends = ends.place
 text_place file limit old new ending.Words else ends = absurd ends
 text_place file limit old new (ending.Refused line fault) else ends = absurd ends
 text_place file limit old new (ending.Judged v) else ends = absurd ends
+text_place file limit old new (ending.Solved reply) else ends = absurd ends
 text_place file limit old new (ending.Printed text) else ends = absurd ends
 
 read_place : (place : Option ℕ) (limit : ℕ) (text : List ℕ) → place ≡ Some (length text) → length text ≤ limit → IfSome place (λ at. at ≤ limit)
@@ -36,6 +37,7 @@ file_place file old new ending.Memory else ends = ends.place
 file_place file old new ending.Words else ends = absurd ends
 file_place file old new (ending.Refused line fault) else ends = read_place new.place MAX_INPUT_BYTES ends.text ends.read.place ends.read.within
 file_place file old new (ending.Judged v) else ends = absurd ends
+file_place file old new (ending.Solved reply) else ends = absurd ends
 file_place file old new (ending.Printed text) else ends = absurd ends
 
 -- ---- both ways, by whether the run ended there
@@ -50,6 +52,7 @@ both_ways e place limit behind within = (behind, from e behind within)
     from ending.Memory b w is = absurd (not_behind place limit (w (λ same. cc)) is)
     from (ending.Refused line fault) b w is = absurd (not_behind place limit (w (λ same. cc)) is)
     from (ending.Judged v) b w is = absurd (not_behind place limit (w (λ same. cc)) is)
+    from (ending.Solved reply) b w is = absurd (not_behind place limit (w (λ same. cc)) is)
     from (ending.Printed text) b w is = absurd (not_behind place limit (w (λ same. cc)) is)
 
 print_behind : (file : List ℕ) (old new : ShelfView) → ComesTo (Some (command.Print file)) old new ending.TooLong → new.place ≡ Some (MAX_INPUT_BYTES + 1)
@@ -67,6 +70,22 @@ print_too_long file old new e ends else =
     both_ways e new.place MAX_INPUT_BYTES
     (λ same. print_behind file old new (subst (ComesTo (Some (command.Print file)) old new) same comes))
     (λ other. print_within file old new e other comes)
+
+solve_behind : (file : List ℕ) (budget : ℕ) (old new : ShelfView) → ComesTo (Some (command.Solve file budget)) old new ending.TooLong → new.place ≡ Some (MAX_INPUT_BYTES + 1)
+solve_behind file budget old new (inl ends) = ends.place
+solve_behind file budget old new (inr (p, shelf, has, end)) = absurd end.0
+
+solve_within : (file : List ℕ) (budget : ℕ) (old new : ShelfView) (e : Ending) → e ≢ ending.TooLong → ComesTo (Some (command.Solve file budget)) old new e → IfSome new.place (λ at. at ≤ MAX_INPUT_BYTES)
+solve_within file budget old new e else (inl ends) = file_place file old new e else ends
+solve_within file budget old new e else (inr (p, shelf, has, end)) =
+    subst (λ (s : ShelfView). IfSome s.place (λ at. at ≤ MAX_INPUT_BYTES)) (sym end.1) (read_place shelf.place MAX_INPUT_BYTES has.text has.read.place has.read.within)
+
+pub solve_too_long : (file : List ℕ) (budget : ℕ) (old new : ShelfView) (e : Ending) → Ends (Some (command.Solve file budget)) old new e → e ≢ ending.Memory → (e ≡ ending.TooLong) ↔ (new.place ≡ Some (MAX_INPUT_BYTES + 1))
+solve_too_long file budget old new e ends else =
+    let comes = ends_else (Some (command.Solve file budget)) old new e else ends in
+    both_ways e new.place MAX_INPUT_BYTES
+    (λ same. solve_behind file budget old new (subst (ComesTo (Some (command.Solve file budget)) old new) same comes))
+    (λ other. solve_within file budget old new e other comes)
 
 -- FILE alone was begun
 pub file_too_long : (file answer : List ℕ) (old new : ShelfView) (e : Ending) → Ends (Some (command.Check file answer)) old new e → e ≢ ending.Memory
@@ -108,6 +127,7 @@ answer_too_long file answer old new e ends else few twice = by_stage (ends_else 
 
 pub past_limit : (found : Option Command) (old new : ShelfView) → ComesTo found old new ending.TooLong → (new.place ≡ Some (MAX_INPUT_BYTES + 1)) ⊎ (new.place ≡ Some (MAX_ANSWER_BYTES + 1))
 past_limit None old new comes = absurd (cc comes.0)
+past_limit (Some (command.Solve file budget)) old new comes = inl (solve_behind file budget old new comes)
 past_limit (Some (command.Print file)) old new comes = inl (print_behind file old new comes)
 past_limit (Some (command.Check file answer)) old new (inl ends) = inl ends.place
 past_limit (Some (command.Check file answer)) old new (inr (p, read, has, inl ends)) = inr ends.place

@@ -11,6 +11,7 @@ use Rattle.mono_problem.specs.Instance.{Instance}
 use Rattle.mono_problem.specs.Holds.{HasNoModel, Satisfies}
 use Rattle.mono_gnf.specs.Stands.{Stands}
 use Rattle.mono_gnf.proofs.WellFormedReading.{stands_well_formed}
+use Rattle.mono_answer.specs.declared.answer.Answer.{Answer}
 use Rattle.mono_check.specs.declared.verdict.Verdict.{Verdict}
 use Rattle.mono_check.specs.declared.verdict.Verdict.TheVariants as verdict
 use Rattle.mono_check.specs.Verdicts.{IsVerdict}
@@ -38,25 +39,30 @@ differs : (text front : List ℕ) (count i a b : ℕ) → take count text ≡ fr
 differs text front count i a b is within has wants other =
     eqb-false a b other (sym has ∙ same_byte text front count i is within ∙ wants)
 
+-- what was written behind a text is the text that was appended
+pub appended : (before now : Option (List ℕ)) (there written t : List ℕ) → before ≡ Some there → now ≡ Some (there ++ written) → now ≡ append_known before t → t ≡ written
+appended before now there written t held wrote is =
+    append_cancel_left there t written (let same : Some (there ++ t) ≡ Some (there ++ written) = sym (is ∙ ap (λ (o : Option (List ℕ)). append_known o t) held) ∙ wrote in cc)
+
 -- a text that was written behind another is the front of the text that is due
 front_written : (e : Ending) (s : Status) (before now : Option (List ℕ)) (there written : List ℕ) → 0 < length written → Writes e s before now
     → before ≡ Some there → now ≡ Some (there ++ written) → (count : ℕ) × (take count (text_of e) ≡ written)
 front_written e s before now there written some writes held wrote = by_status s writes
   where
-    appended : (t : List ℕ) → now ≡ append_known before t → t ≡ written
-    appended t is = append_cancel_left there t written (let b : Some (there ++ t) ≡ Some (there ++ written) = sym (is ∙ ap (λ (o : Option (List ℕ)). append_known o t) held) ∙ wrote in cc)
-
     whole : now ≡ append_known before (text_of e) → (count : ℕ) × (take count (text_of e) ≡ written)
-    whole is = (length (text_of e), take-length (text_of e) ∙ appended (text_of e) is)
+    whole is = (length (text_of e), take-length (text_of e) ∙ appended before now there written (text_of e) held wrote is)
 
     nothing : now ≡ before → (count : ℕ) × (take count (text_of e) ≡ written)
     nothing is =
-        let none : [] ≡ written = appended [] (is ∙ held ∙ ap (λ (l : List ℕ). Some l) (sym (append-nil there)) ∙ sym (ap (λ (o : Option (List ℕ)). append_known o []) held)) in
+        let none : [] ≡ written = appended before now there written [] held wrote (is ∙ held ∙ ap (λ (l : List ℕ). Some l) (sym (append-nil there)) ∙ sym (ap (λ (o : Option (List ℕ)). append_known o []) held)) in
         absurd (omega (arith, ap (λ (l : List ℕ). length l) none))
 
     by_status : (t : Status) → Writes e t before now → (count : ℕ) × (take count (text_of e) ≡ written)
-    by_status status.WriteFault w = (w.count, appended (take w.count (text_of e)) w.appended)
+    by_status status.WriteFault w = (w.count, appended before now there written (take w.count (text_of e)) held wrote w.appended)
     by_status status.Memory w = nothing w.0
+    by_status status.Satisfiable w = whole w.1
+    by_status status.Unsatisfiable w = whole w.1
+    by_status status.Unknown w = whole w.1
     by_status status.Accepted w = whole w.1
     by_status status.Printed w = whole w.1
     by_status status.Rejected w = whole w.1
@@ -97,6 +103,11 @@ judged file answer old new v (inl ends) = absurd ends
 judged file answer old new v (inr (p, read, has, inl ends)) = absurd ends
 judged file answer old new v (inr (p, read, has, inr (text, shelf, given, end))) = (p, record { read = read; has = has; answer = text; is = end.0 })
 
+never_solved : (file answer : List ℕ) (old new : ShelfView) (a : Answer) → ComesTo (Some (command.Check file answer)) old new (ending.Solved a) → ⊥
+never_solved file answer old new a (inl ends) = ends
+never_solved file answer old new a (inr (p, read, has, inl ends)) = ends
+never_solved file answer old new a (inr (p, read, has, inr (t, shelf, given, end))) = end.0
+
 never_printed : (file answer : List ℕ) (old new : ShelfView) (text : List ℕ) → ComesTo (Some (command.Check file answer)) old new (ending.Printed text) → ⊥
 never_printed file answer old new text (inl ends) = ends
 never_printed file answer old new text (inr (p, read, has, inl ends)) = ends
@@ -110,6 +121,7 @@ only_verdicts ending.ReadFault file answer old new front count ends is some a = 
 only_verdicts ending.Memory file answer old new front count ends is some a = absurd (differs (text_of ending.Memory) front count 0 0 97 is some refl a refl)
 only_verdicts ending.TooLong file answer old new front count ends is some a = absurd (differs (text_of ending.TooLong) front count 0 116 97 is some refl a refl)
 only_verdicts (ending.Refused line fault) file answer old new front count ends is some a = absurd (differs (text_of (ending.Refused line fault)) front count 0 114 97 is some refl a refl)
+only_verdicts (ending.Solved reply) file answer old new front count ends is some a = absurd (never_solved file answer old new reply ends)
 only_verdicts (ending.Printed text) file answer old new front count ends is some a = absurd (never_printed file answer old new text ends)
 only_verdicts (ending.Judged v) file answer old new front count ends is some a = (v, refl, ends)
 
@@ -123,7 +135,7 @@ same_text (Some held) file text read told is = cc
 pub same_problem : (text : List ℕ) (p q : Instance) → Stands text p → Stands text q → p ≡ q
 same_problem text p q a b = a.1 ∙ sym b.1
 
-its_problem : (file text : List ℕ) (old read : ShelfView) (p q : Instance) → told_text old.texts file ≡ Some text → Stands text p → HasProblem file old read q → q ≡ p
+pub its_problem : (file text : List ℕ) (old read : ShelfView) (p q : Instance) → told_text old.texts file ≡ Some text → Stands text p → HasProblem file old read q → q ≡ p
 its_problem file text old read p q told stands has =
     let same = same_text old.texts file text has.text told has.read.whole in
     same_problem text q p (subst (λ (t : List ℕ). Stands t q) same has.stands) stands

@@ -1,6 +1,9 @@
 -- What a run came to before it writes: its status, and the text that is due.
 use Rattle.std.specs.Prelude.{ℕ, List, [], ◌∷◌, codes, decimal}
 use Rattle.mono_text.specs.Text.{spaced}
+use Rattle.mono_answer.specs.declared.answer.Answer.{Answer}
+use Rattle.mono_answer.specs.declared.answer.Answer.TheVariants as answer
+use Rattle.mono_answer.specs.Printed.{answer_text}
 use Rattle.mono_io.specs.declared.refusal.ReadRefusal.{ReadRefusal}
 use Rattle.mono_io.specs.declared.refusal.ReadRefusal.TheVariants as reading
 use Rattle.mono_gnf.specs.Names.{fault_name}
@@ -16,6 +19,11 @@ use Rattle.mono_cmd.specs.declared.status.Status.TheVariants as status
 use Rattle.mono_cmd.specs.declared.ending.Ending.{Ending}
 use Rattle.mono_cmd.specs.declared.ending.Ending.TheVariants as ending
 
+abbrev pub answer_status : Answer → Status
+answer_status (answer.Model values) = status.Satisfiable
+answer_status (answer.Refutation steps) = status.Unsatisfiable
+answer_status (answer.Progress steps) = status.Unknown
+
 abbrev pub verdict_status : Verdict → Status
 verdict_status verdict.Model = status.Accepted
 verdict_status verdict.Refutation = status.Accepted
@@ -28,6 +36,7 @@ status_of ending.ReadFault = status.ReadFault
 status_of ending.Memory = status.Memory
 status_of ending.TooLong = status.TooLong
 status_of (ending.Refused line fault) = status.Refused
+status_of (ending.Solved a) = answer_status a
 status_of (ending.Judged v) = verdict_status v
 status_of (ending.Printed text) = status.Printed
 
@@ -44,11 +53,12 @@ verdict_text (verdict.Progress n) = spaced (codes "accepted" ∷ codes "progress
 verdict_text (verdict.Rejected line r) = spaced (codes "rejected" ∷ decimal line ∷ reason_words r)
 
 abbrev pub text_of : Ending → List ℕ
-text_of ending.Words = codes "usage: check FILE ANSWER | print FILE\n"
+text_of ending.Words = codes "usage: solve FILE [--conflicts N] | check FILE ANSWER | print FILE\n"
 text_of ending.ReadFault = codes "read fault\n"
 text_of ending.Memory = []
 text_of ending.TooLong = codes "too long\n"
 text_of (ending.Refused line fault) = spaced (codes "refused" ∷ decimal line ∷ fault_name fault ∷ [])
+text_of (ending.Solved a) = answer_text a
 text_of (ending.Judged v) = verdict_text v
 text_of (ending.Printed text) = text
 

@@ -11,7 +11,10 @@ use Rattle.mono_gnf.specs.Faults.{first_fault}
 use Rattle.mono_gnf.specs.Stands.{Stands}
 use Rattle.mono_gnf.specs.Printed.{printed}
 use Rattle.mono_gnf.specs.declared.fault.GnfFault.{GnfFault}
+use Rattle.mono_answer.specs.declared.answer.Answer.{Answer}
+use Rattle.mono_answer.specs.declared.answer.Answer.TheVariants as answer
 use Rattle.mono_check.specs.declared.verdict.Verdict.{Verdict}
+use Rattle.mono_check.specs.declared.verdict.Verdict.TheVariants as verdict
 use Rattle.mono_check.specs.Verdicts.{IsVerdict}
 use Rattle.mono_cmd.specs.declared.command.Command.{Command}
 use Rattle.mono_cmd.specs.declared.command.Command.TheVariants as command
@@ -21,6 +24,7 @@ use Rattle.mono_cmd.specs.declared.ending.Ending.{Ending}
 use Rattle.mono_cmd.specs.declared.ending.Ending.TheVariants as ending
 use Rattle.mono_cmd.specs.Commands.{files_of}
 use Rattle.mono_cmd.specs.Endings.{status_of, text_of}
+use Rattle.mono_cmd.specs.Solved.{IsSolution}
 
 -- ---- a file on the way
 
@@ -63,11 +67,18 @@ abbrev pub IsJudged : Instance → List ℕ → Ending → Type 0
 IsJudged p text (ending.Judged v) = IsVerdict p text v
 IsJudged p text e = ⊥
 
+-- an answer to FILE's problem
+abbrev pub IsSolved : Instance → ℕ → Ending → Type 0
+IsSolved p budget (ending.Solved a) = IsSolution p budget a
+IsSolved p budget e = ⊥
+
 -- ---- commands
 
 -- What a run with this command comes to, where memory is found.
 abbrev pub ComesTo : Option Command → ShelfView → ShelfView → Ending → Type 0
 ComesTo None old new e = (e ≡ ending.Words) × (new ≡ old)
+ComesTo (Some (command.Solve file budget)) old new e =
+    WithProblem file old new e (λ p shelf. IsSolved p budget e × (new ≡ shelf))
 ComesTo (Some (command.Print file)) old new e =
     WithProblem file old new e (λ p shelf. (e ≡ ending.Printed (printed p)) × (new ≡ shelf))
 ComesTo (Some (command.Check file answer)) old new e =
@@ -104,6 +115,21 @@ pub record Runs (found : Option Command) (old new : ShelfView) (s : Status) (bef
   pub ends : Ends found old new ending
   pub writes : Writes ending s before now
 
+-- `solve` runs with this budget, and FILE is told and stands for the problem
+pub record Solves (found : Option Command) (texts : Option Texts) (p : Instance) (budget : ℕ) : Type 0 where
+  pub file : List ℕ
+  pub is : found ≡ Some (command.Solve file budget)
+  pub text : List ℕ
+  pub told : told_text texts file ≡ Some text
+  pub stands : Stands text p
+
+-- the verdict of `check` on a text that was written with this status
+abbrev pub IsVerdictBy : Status → Instance → ℕ → List ℕ → Type 0
+IsVerdictBy status.Satisfiable p budget text = IsVerdict p text verdict.Model
+IsVerdictBy status.Unsatisfiable p budget text = IsVerdict p text verdict.Refutation
+IsVerdictBy status.Unknown p budget text = IsVerdict p text (verdict.Progress budget)
+IsVerdictBy s p budget text = Unit {0}
+
 -- `check` wrote this behind what was there, and FILE is told and stands for the problem
 pub record CheckWrote (found : Option Command) (texts : Option Texts) (before now : Option (List ℕ)) (p : Instance) (written : List ℕ) : Type 0 where
   pub file : List ℕ
@@ -134,3 +160,23 @@ HasNoFault texts file = IsSomeAnd (told_text texts file) (λ text. (length text 
 abbrev pub EachReached : (List ℕ → ℕ → Type 0) → Option Texts → Command → Type 0
 EachReached Holds texts (command.Check file answer) = Holds file MAX_INPUT_BYTES × (HasNoFault texts file → Holds answer MAX_ANSWER_BYTES)
 EachReached Holds texts (command.Print file) = Holds file MAX_INPUT_BYTES
+EachReached Holds texts (command.Solve file budget) = Holds file MAX_INPUT_BYTES
+
+-- how a command ends that is carried out
+abbrev pub IsCarriedOut : Command → Status → Type 0
+IsCarriedOut (command.Solve file budget) s = (s ≡ status.Satisfiable) ⊎ (s ≡ status.Unsatisfiable) ⊎ (s ≡ status.Unknown) ⊎ (s ≡ status.Refused)
+IsCarriedOut (command.Check file answer) s = (s ≡ status.Accepted) ⊎ (s ≡ status.Rejected) ⊎ (s ≡ status.Refused)
+IsCarriedOut (command.Print file) s = (s ≡ status.Printed) ⊎ (s ≡ status.Refused)
+
+-- ---- two runs
+
+-- two answers of `solve` don't contradict each other: not one a model and the other a refutation
+abbrev pub AreConsistent : Answer → Answer → Type 0
+AreConsistent (answer.Model values) (answer.Refutation steps) = ⊥
+AreConsistent (answer.Refutation steps) (answer.Model values) = ⊥
+AreConsistent a b = Unit {0}
+
+-- the same ending, or two answers of `solve`, which model or refutation it finds isn't fixed
+abbrev pub AreAlike : Ending → Ending → Type 0
+AreAlike (ending.Solved a) (ending.Solved b) = AreConsistent a b
+AreAlike e e' = e ≡ e'

@@ -4,6 +4,9 @@ use Rattle.mono_cmd.specs.declared.status.Status.{Status}
 use Rattle.mono_cmd.specs.declared.status.Status.TheVariants as status
 
 abbrev pub code_of : Status → ℕ
+code_of status.Satisfiable = 10
+code_of status.Unsatisfiable = 20
+code_of status.Unknown = 0
 code_of status.Accepted = 0
 code_of status.Printed = 0
 code_of status.Rejected = 1

@@ -6,16 +6,19 @@ ghost use Rattle.std.specs.Prelude.{◌≡◌, ◌≢◌, ◌∷◌, [], IfOk, O
 ghost use Rattle.std.specs.Cow.{cow_slice_items};
 ghost use Rattle.mono_text.specs.Text.{spaced};
 ghost use Rattle.mono_check.specs.Names.{reason_name};
-ghost use Rattle.mono_cmd.specs.Endings.{status_of, text_of, unread_ending, refused_ending, verdict_status as status_of_verdict, verdict_text as text_of_verdict};
+ghost use Rattle.mono_cmd.specs.Endings.{status_of, text_of, unread_ending, refused_ending, answer_status as status_of_answer, verdict_status as status_of_verdict, verdict_text as text_of_verdict};
 ghost use Rattle.mono_cmd.specs.declared.ending.Ending.TheVariants.{Memory};
 
 use crate::status::Status;
+use mono_answer::{Answer, print_answer};
 use mono_base::Row;
 use mono_check::{Reason, Verdict};
 use mono_gnf::{GnfFault, GnfRefusal};
 use mono_io::ReadRefusal;
 use std::alloc::{AllocError, Global};
 use std::borrow::CowSlice;
+
+const USAGE: &[u8] = b"usage: solve FILE [--conflicts N] | check FILE ANSWER | print FILE\n";
 
 /// What a run comes to.
 #[derive(Drop)]
@@ -30,6 +33,8 @@ pub enum Ending {
     TooLong,
     /// The input's first malformed line, and what is wrong with it.
     Refused { line: u64, fault: GnfFault },
+    /// An answer to the problem.
+    Solved(Answer),
     /// The verdict on the answer.
     Judged(Verdict),
     /// The printed form of the input.
@@ -78,6 +83,7 @@ impl Ending {
             Ending::Memory => Status::Memory,
             Ending::TooLong => Status::TooLong,
             Ending::Refused { line: _, fault: _ } => Status::Refused,
+            Ending::Solved(answer) => answer_status(answer),
             Ending::Judged(verdict) => verdict_status(*verdict),
             Ending::Printed(_) => Status::Printed,
         }
@@ -89,11 +95,12 @@ impl Ending {
         ensures err { OnErr result (self ≢ Ending.ReadFault) }
     {
         let text = match self {
-            Ending::Words => return Ok(fixed(b"usage: check FILE ANSWER | print FILE\n")),
+            Ending::Words => return Ok(fixed(USAGE)),
             Ending::ReadFault => return Ok(fixed(b"read fault\n")),
             Ending::Memory => return Ok(fixed(b"")),
             Ending::TooLong => return Ok(fixed(b"too long\n")),
             Ending::Refused { line, fault } => refused_text(alloc, line, fault)?,
+            Ending::Solved(answer) => print_answer(alloc, &answer)?,
             Ending::Judged(verdict) => verdict_text(alloc, verdict)?,
             Ending::Printed(text) => text.into_vec(),
         };
@@ -105,6 +112,16 @@ fn fixed(text: &'static [u8]) -> CowSlice<'static, u8>
     ensures { cow_slice_items result ≡ text.now }
 {
     CowSlice::Borrowed(text)
+}
+
+fn answer_status(answer: &Answer) -> Status
+    ensures { result ≡ status_of_answer answer.now }
+{
+    match answer {
+        Answer::Model(_) => Status::Satisfiable,
+        Answer::Refutation(_) => Status::Unsatisfiable,
+        Answer::Progress(_) => Status::Unknown,
+    }
 }
 
 fn verdict_status(verdict: Verdict) -> Status

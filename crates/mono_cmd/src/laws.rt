@@ -8,12 +8,16 @@ ghost use Rattle.mono_cmd.specs.declared.command.Command.{Command as CommandOf};
 ghost use Rattle.mono_cmd.specs.declared.command.Command.TheVariants as command;
 ghost use Rattle.mono_cmd.specs.declared.ending.Ending.{Ending as EndingOf};
 ghost use Rattle.mono_cmd.specs.declared.ending.Ending.TheVariants as ending;
-ghost use Rattle.mono_cmd.specs.Runs.{Ends};
+ghost use Rattle.mono_cmd.specs.Runs.{Ends, AreAlike};
 
 /// Over the same told texts one command comes to one ending: over steady shelves whatever it is, and over other ones where
-/// neither run met a read fault. Want of memory alone is free. So each ending comes exactly where its definition says.
+/// neither run met a read fault. Want of memory alone is free, and which answer `solve` finds: but two answers don't
+/// contradict each other. So each ending comes exactly where its definition says.
 pub fn one_ending()
-    ensures { (found : Option CommandOf) (held : Texts) (old new old' new' : ShelfView) (e e' : EndingOf) → old.texts ≡ Some held → old'.texts ≡ Some held
+    ensures alike { (found : Option CommandOf) (held : Texts) (old new old' new' : ShelfView) (e e' : EndingOf) → old.texts ≡ Some held → old'.texts ≡ Some held
+        → (e ≡ ending.ReadFault → IsTrue old.steady) → (e' ≡ ending.ReadFault → IsTrue old'.steady)
+        → Ends found old new e → Ends found old' new' e' → e ≢ ending.Memory → e' ≢ ending.Memory → AreAlike e e' }
+    ensures same { (found : Option CommandOf) (held : Texts) (old new old' new' : ShelfView) (e e' : EndingOf) → ((file : List ℕ) (budget : ℕ) → found ≢ Some (command.Solve file budget)) → old.texts ≡ Some held → old'.texts ≡ Some held
         → (e ≡ ending.ReadFault → IsTrue old.steady) → (e' ≡ ending.ReadFault → IsTrue old'.steady)
         → Ends found old new e → Ends found old' new' e' → e ≢ ending.Memory → e' ≢ ending.Memory → e ≡ e' }
 {}
@@ -21,6 +25,7 @@ pub fn one_ending()
 /// A run ends too long exactly where the shelf stands one byte behind the limit of the file that was begun last, whether
 /// or not the shelf tells its texts. The count of begins tells which file that is.
 pub fn too_long_by_place()
+    ensures solve { (file : List ℕ) (budget : ℕ) (old new : ShelfView) (e : EndingOf) → Ends (Some (command.Solve file budget)) old new e → e ≢ ending.Memory → (e ≡ ending.TooLong) ↔ (new.place ≡ Some (MAX_INPUT_BYTES + 1)) }
     ensures print { (file : List ℕ) (old new : ShelfView) (e : EndingOf) → Ends (Some (command.Print file)) old new e → e ≢ ending.Memory → (e ≡ ending.TooLong) ↔ (new.place ≡ Some (MAX_INPUT_BYTES + 1)) }
     ensures file { (file answer : List ℕ) (old new : ShelfView) (e : EndingOf) → Ends (Some (command.Check file answer)) old new e → e ≢ ending.Memory
         → old.begun + 2 < 2 ^ 64 → new.begun ≡ counted old.begun → (e ≡ ending.TooLong) ↔ (new.place ≡ Some (MAX_INPUT_BYTES + 1)) }

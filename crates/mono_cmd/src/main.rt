@@ -1,5 +1,5 @@
-//! Gulfezo: reads clauses mixed with predicates over graphs whose edges are Boolean variables, prints them, and checks
-//! answers. `run` is the whole program; `main` makes the real shelf and sink and calls it.
+//! Gulfezo: reads clauses mixed with predicates over graphs whose edges are Boolean variables, solves and prints them, and
+//! checks answers. `run` is the whole program; `main` makes the real shelf and sink and calls it.
 #![tactic(auto)]
 
 ghost use Rattle.std.specs.Prelude.{◌≡◌};
@@ -14,6 +14,8 @@ pub mod ending;
 pub mod laws;
 /// The whole program.
 pub mod run;
+/// Answers to problems.
+pub mod solving;
 /// How a run ends.
 pub mod status;
 #[cfg(test)]

@@ -1,19 +1,20 @@
 //! The whole program: words, a shelf of files and a sink in, a status out.
 //!
-//! The order is: the words; FILE is read, then its form; ANSWER is read; it is judged; the text is written. The first
-//! refusal in this order decides. All text is made before the first write, so with want of memory nothing was written.
+//! The order is: the words; FILE is read, then its form; it is solved, or ANSWER is read and judged; the text is written.
+//! The first refusal in this order decides. All text is made before the first write, so with want of memory nothing was written.
 //!
 //! Each step answers what the next one needs, or the ending of the run: `?` ends it there. So a form is a few lines.
 
-ghost use Rattle.std.specs.Prelude.{◌≡◌, ◌≢◌, ◌≤◌, ◌+◌, ◌⊎◌, ℕ, Bool, Option, Some, IsTrue, IsSomeAnd, MatchResult, codes, map, string_bytes};
+ghost use Rattle.std.specs.Prelude.{◌≡◌, ◌≢◌, ◌≤◌, ◌+◌, ◌++◌, ◌^◌, ◌<◌, ◌⊎◌, ℕ, Bool, List, Option, Some, IsTrue, IsSomeAnd, MatchResult, codes, map, string_bytes};
 ghost use Rattle.mono_io.specs.Faults.{counted};
 ghost use Rattle.mono_problem.specs.Instance.{Instance};
 ghost use Rattle.mono_problem.specs.Holds.{HasNoModel, Satisfies};
 ghost use Rattle.mono_cmd.specs.Commands.{command_of, files_of};
-ghost use Rattle.mono_cmd.specs.Runs.{Ends, EndsAtFile, HasProblem, Runs, Writes, CheckWrote, EachReached, IsHeld, IsHeldWithin, begun_for};
+ghost use Rattle.mono_cmd.specs.Runs.{Ends, EndsAtFile, HasProblem, Runs, Writes, Solves, IsVerdictBy, CheckWrote, IsCarriedOut, EachReached, IsHeld, IsHeldWithin, begun_for};
 
 use crate::command::Command;
 use crate::ending::Ending;
+use crate::solving::answer_to;
 use crate::status::Status;
 use crate::words::command;
 use mono_base::Row;
@@ -28,6 +29,9 @@ use std::alloc::{AllocError, Global};
 ///
 /// - `Words` comes exactly where the words are no command.
 /// - `Refused` comes exactly where FILE was read whole and has a first fault; its line and name are written.
+/// - `Satisfiable` comes only with the text of a satisfying model, `Unsatisfiable` only with that of a justified refutation,
+///   `Unknown` only with that of justified progress: exactly as many nonempty learned clauses as the budget, each new, and
+///   only where the budget is below 3^V, V being the number of variables.
 /// - `Accepted` and `Rejected` come by the verdict on ANSWER for the problem that FILE stands for, `Printed` with its
 ///   printed form.
 /// - `ReadFault` comes only where one call of the shelf failed, the last one, at FILE, or at ANSWER where FILE has no
@@ -52,7 +56,14 @@ pub fn run<S: Shelf, K: Sink>(alloc: Global, words: &[String], shelf: &mut S, ou
     // Over a steady shelf that holds the files that the command comes to, no read fault is answered. Where they are within
     // their limits too, no write failed and memory was found, the command is carried out.
     ensures steady { IsTrue (S.seen shelf.old).steady → IsSomeAnd (command_of (map string_bytes words.now)) (EachReached (IsHeld (S.seen shelf.old).texts) (S.seen shelf.old).texts) → result ≢ Status.ReadFault }
-    ensures complete { IsTrue (S.seen shelf.old).steady → IsSomeAnd (command_of (map string_bytes words.now)) (EachReached (IsHeldWithin (S.seen shelf.old).texts) (S.seen shelf.old).texts) → result ≢ Status.WriteFault → result ≢ Status.Memory → (result ≡ Status.Accepted) ⊎ (result ≡ Status.Rejected) ⊎ (result ≡ Status.Printed) ⊎ (result ≡ Status.Refused) }
+    ensures complete { IsTrue (S.seen shelf.old).steady → IsSomeAnd (command_of (map string_bytes words.now)) (EachReached (IsHeldWithin (S.seen shelf.old).texts) (S.seen shelf.old).texts) → result ≢ Status.WriteFault → result ≢ Status.Memory → IsSomeAnd (command_of (map string_bytes words.now)) (λ c. IsCarriedOut c result) }
+
+    // `solve`: an assignment satisfies the problem that FILE stands for; none does; the budget is below 3^V. What was
+    // written has the verdict that `check` gives it.
+    ensures satisfiable { (p : Instance) (budget : ℕ) → Solves (command_of (map string_bytes words.now)) (S.seen shelf.old).texts p budget → result ≡ Status.Satisfiable → (a : ℕ → Bool) × Satisfies p a }
+    ensures unsatisfiable { (p : Instance) (budget : ℕ) → Solves (command_of (map string_bytes words.now)) (S.seen shelf.old).texts p budget → result ≡ Status.Unsatisfiable → HasNoModel p }
+    ensures unknown { (p : Instance) (budget : ℕ) → Solves (command_of (map string_bytes words.now)) (S.seen shelf.old).texts p budget → result ≡ Status.Unknown → budget < 3 ^ p.vars }
+    ensures verdict { (p : Instance) (budget : ℕ) (there written : List ℕ) → Solves (command_of (map string_bytes words.now)) (S.seen shelf.old).texts p budget → K.written out.old ≡ Some there → K.written out.new ≡ Some (there ++ written) → IsVerdictBy result p budget written }
 
     // With this text written, no assignment satisfies the problem that FILE stands for; with the other one, some does.
     ensures refutes { (p : Instance) → CheckWrote (command_of (map string_bytes words.now)) (S.seen shelf.old).texts (K.written out.old) (K.written out.new) p (codes "accepted refutation\n") → HasNoModel p }
@@ -77,11 +88,21 @@ fn carry_out<S: Shelf>(alloc: Global, words: &[String], shelf: &mut S) -> Result
 {
     match command(alloc, words)? {
         None => Ok(Ending::Words),
+        Some(Command::Solve { file, budget }) => solve(alloc, shelf, file.as_str(), budget),
         Some(Command::Check { file, answer }) => {
             check(alloc, shelf, file.as_str(), answer.as_str())
         }
         Some(Command::Print { file }) => print(alloc, shelf, file.as_str()),
     }
+}
+
+/// `solve FILE`, with this budget.
+fn solve<S: Shelf>(alloc: Global, shelf: &mut S, file: &str, budget: u64) -> Result<Ending, Ending>
+    requires { 1 ≤ budget }
+    ensures { let ends = Ends (Some (Command.Solve file.now budget)) (S.seen shelf.old) (S.seen shelf.new) in MatchResult result ends ends }
+{
+    let answer = answer_to(alloc, &read_problem(alloc, shelf, file)?, budget)?;
+    Ok(Ending::Solved(answer))
 }
 
 /// `check FILE ANSWER`.

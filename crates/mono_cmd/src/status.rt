@@ -6,6 +6,12 @@ ghost use Rattle.mono_cmd.specs.Statuses.{code_of};
 /// How a run ends. Each status has a number of its own kind that the process ends with.
 #[derive(Clone, Copy, Debug, PartialEq, Eq)]
 pub enum Status {
+    /// The text is a satisfying model.
+    Satisfiable,
+    /// The text is a justified refutation.
+    Unsatisfiable,
+    /// The budget was spent: the text is justified progress.
+    Unknown,
     /// The answer is a satisfying model, a justified refutation or justified progress.
     Accepted,
     /// The input was printed.
@@ -32,7 +38,9 @@ impl Status {
         ensures { result ≡ code_of self }
     {
         match self {
-            Status::Accepted | Status::Printed => 0,
+            Status::Satisfiable => 10,
+            Status::Unsatisfiable => 20,
+            Status::Unknown | Status::Accepted | Status::Printed => 0,
             Status::Rejected => 1,
             Status::Words => 2,
             Status::Refused => 3,

@@ -13,6 +13,7 @@ mod lemmas;
 mod memory;
 mod models;
 mod refutations;
+mod solving;
 
 /// What a run wrote, and how it ended.
 #[derive(Drop)]

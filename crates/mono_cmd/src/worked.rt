@@ -1,9 +1,10 @@
 //! Rows that were worked by hand, as the definitions compute them.
 
-ghost use Rattle.std.specs.Prelude.{◌≡◌, ℕ, List, [], ◌∷◌, ◌++◌, Option, Some, None, codes};
+ghost use Rattle.std.specs.Prelude.{◌≡◌, ℕ, true, false, List, [], ◌∷◌, ◌++◌, Option, Some, None, codes};
 ghost use Rattle.mono_io.specs.declared.refusal.ReadRefusal.TheVariants as reading;
 ghost use Rattle.mono_gnf.specs.declared.fault.GnfFault.TheVariants as fault;
 ghost use Rattle.mono_gnf.specs.declared.refusal.GnfRefusal.TheVariants as form;
+ghost use Rattle.mono_answer.specs.declared.answer.Answer.TheVariants as answer;
 ghost use Rattle.mono_check.specs.declared.reason.Reason.TheVariants as reason;
 ghost use Rattle.mono_check.specs.declared.verdict.Verdict.TheVariants as verdict;
 ghost use Rattle.mono_cmd.specs.declared.command.Command.TheVariants as command;
@@ -12,11 +13,20 @@ ghost use Rattle.mono_cmd.specs.declared.ending.Ending.TheVariants as ending;
 ghost use Rattle.mono_cmd.specs.Commands.{command_of, files_of};
 ghost use Rattle.mono_cmd.specs.Statuses.{code_of};
 ghost use Rattle.mono_cmd.specs.Endings.{status_of, text_of, unread_ending, refused_ending};
-ghost use Rattle.mono_cmd.specs.Runs.{Writes, CheckWrote, IsHeld, IsHeldWithin, HasNoFault, EachReached, begun_for};
+ghost use Rattle.mono_cmd.specs.Runs.{Writes, CheckWrote, IsHeld, IsHeldWithin, HasNoFault, EachReached, IsCarriedOut, AreAlike, begun_for};
 ghost use Rattle.mono_cmd.specs.Worked.{empty_problem};
 
 /// Words, and the files that they name.
 pub fn worked_commands()
+    ensures solve { command_of (codes "solve" ∷ codes "f" ∷ []) ≡ Some (command.Solve (codes "f") 100000) }
+    ensures conflicts { command_of (codes "solve" ∷ codes "f" ∷ codes "--conflicts" ∷ codes "0012" ∷ []) ≡ Some (command.Solve (codes "f") 12) }
+    ensures most { command_of (codes "solve" ∷ codes "f" ∷ codes "--conflicts" ∷ codes "18446744073709551615" ∷ []) ≡ Some (command.Solve (codes "f") 18446744073709551615) }
+    ensures beyond { command_of (codes "solve" ∷ codes "f" ∷ codes "--conflicts" ∷ codes "18446744073709551616" ∷ []) ≡ None }
+    ensures no_budget { command_of (codes "solve" ∷ codes "f" ∷ codes "--conflicts" ∷ codes "0" ∷ []) ≡ None }
+    ensures no_number { command_of (codes "solve" ∷ codes "f" ∷ codes "--conflicts" ∷ codes "x" ∷ []) ≡ None }
+    ensures other_option { command_of (codes "solve" ∷ codes "f" ∷ codes "--budget" ∷ codes "1" ∷ []) ≡ None }
+    ensures option_first { command_of (codes "solve" ∷ codes "--conflicts" ∷ codes "1" ∷ codes "f" ∷ []) ≡ None }
+    ensures five { command_of (codes "solve" ∷ codes "f" ∷ codes "--conflicts" ∷ codes "1" ∷ codes "x" ∷ []) ≡ None }
     ensures check { command_of (codes "check" ∷ codes "f" ∷ codes "a" ∷ []) ≡ Some (command.Check (codes "f") (codes "a")) }
     ensures print { command_of (codes "print" ∷ codes "f" ∷ []) ≡ Some (command.Print (codes "f")) }
     ensures no_words { command_of [] ≡ None }
@@ -32,6 +42,7 @@ pub fn worked_commands()
     ensures empty_name { command_of (codes "print" ∷ [] ∷ []) ≡ None }
 
     ensures files_of_none { files_of None ≡ [] }
+    ensures files_of_solve { files_of (Some (command.Solve (codes "f") 1)) ≡ codes "f" ∷ [] }
     ensures files_of_print { files_of (Some (command.Print (codes "f"))) ≡ codes "f" ∷ [] }
     ensures files_of_check { files_of (Some (command.Check (codes "f") (codes "a"))) ≡ codes "f" ∷ codes "a" ∷ [] }
     ensures none_begun { begun_for [] 3 ≡ 3 }
@@ -40,6 +51,9 @@ pub fn worked_commands()
 
 /// Each status has its number.
 pub fn worked_statuses()
+    ensures satisfiable { code_of status.Satisfiable ≡ 10 }
+    ensures unsatisfiable { code_of status.Unsatisfiable ≡ 20 }
+    ensures unknown { code_of status.Unknown ≡ 0 }
     ensures accepted { code_of status.Accepted ≡ 0 }
     ensures printed { code_of status.Printed ≡ 0 }
     ensures rejected { code_of status.Rejected ≡ 1 }
@@ -58,6 +72,9 @@ pub fn worked_endings()
     ensures memory { status_of ending.Memory ≡ status.Memory }
     ensures too_long { status_of ending.TooLong ≡ status.TooLong }
     ensures refused { status_of (ending.Refused 3 fault.UnknownWord) ≡ status.Refused }
+    ensures found_model { status_of (ending.Solved (answer.Model [])) ≡ status.Satisfiable }
+    ensures found_refutation { status_of (ending.Solved (answer.Refutation [])) ≡ status.Unsatisfiable }
+    ensures found_progress { status_of (ending.Solved (answer.Progress [])) ≡ status.Unknown }
     ensures model { status_of (ending.Judged verdict.Model) ≡ status.Accepted }
     ensures refutation { status_of (ending.Judged verdict.Refutation) ≡ status.Accepted }
     ensures progress { status_of (ending.Judged (verdict.Progress 0)) ≡ status.Accepted }
@@ -73,11 +90,12 @@ pub fn worked_endings()
 
 /// What a run comes to has its text.
 pub fn worked_texts()
-    ensures words { text_of ending.Words ≡ codes "usage: check FILE ANSWER | print FILE\n" }
+    ensures words { text_of ending.Words ≡ codes "usage: solve FILE [--conflicts N] | check FILE ANSWER | print FILE\n" }
     ensures read_fault { text_of ending.ReadFault ≡ codes "read fault\n" }
     ensures memory { text_of ending.Memory ≡ [] }
     ensures too_long { text_of ending.TooLong ≡ codes "too long\n" }
     ensures refused { text_of (ending.Refused 30 fault.UnknownWord) ≡ codes "refused 30 UnknownWord\n" }
+    ensures found_progress { text_of (ending.Solved (answer.Progress [])) ≡ codes "s UNKNOWN\n" }
     ensures model { text_of (ending.Judged verdict.Model) ≡ codes "accepted model\n" }
     ensures refutation { text_of (ending.Judged verdict.Refutation) ≡ codes "accepted refutation\n" }
     ensures progress { text_of (ending.Judged (verdict.Progress 12)) ≡ codes "accepted progress 12\n" }
@@ -98,6 +116,19 @@ pub fn worked_writes()
     ensures read_fault_hidden { ¬ Writes ending.ReadFault status.Memory (Some (codes "x")) (Some (codes "x")) }
 
     ensures wrote { CheckWrote (Some (command.Check (codes "f") (codes "a"))) (Some ((codes "f", codes "") ∷ [])) (Some (codes "x")) (Some (codes "xaccepted model\n")) empty_problem (codes "accepted model\n") }
+{}
+
+/// Two runs of one command.
+pub fn worked_runs()
+    ensures same { AreAlike ending.TooLong ending.TooLong }
+    ensures differ { ¬ AreAlike ending.TooLong ending.Words }
+    ensures models { AreAlike (ending.Solved (answer.Model (true ∷ []))) (ending.Solved (answer.Model (false ∷ []))) }
+    ensures contradict { ¬ AreAlike (ending.Solved (answer.Model [])) (ending.Solved (answer.Refutation [])) }
+    ensures not_solved { ¬ AreAlike (ending.Solved (answer.Progress [])) ending.TooLong }
+
+    ensures carried_out { IsCarriedOut (command.Solve (codes "f") 1) status.Unknown }
+    ensures not_printed { ¬ IsCarriedOut (command.Solve (codes "f") 1) status.Printed }
+    ensures not_solving { ¬ IsCarriedOut (command.Check (codes "f") (codes "a")) status.Satisfiable }
 {}
 
 /// ANSWER is needed only where FILE has no fault.

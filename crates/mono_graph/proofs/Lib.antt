@@ -14,3 +14,4 @@ pub mod Components
 pub mod LeastLaw
 pub mod Subparts
 pub mod Prefixes
+pub mod Seen

@@ -47,6 +47,7 @@ pub fn walk_is_connected()
 /// A bound of -1 is never met. The labels that show it are all 0, listed or not.
 pub fn bound_of_minus_1()
     ensures not_met { is_path (round_trip 2 3) both 0 0 (Limit.Steps (negsuc 0)) [] ≡ false }
+    ensures not_met_by_weight { is_path (round_trip 2 3) both 0 0 (Limit.Weight (negsuc 0)) [] ≡ false }
     ensures unlisted { is_labelling (round_trip 2 3) both 0 0 (Limit.Steps (negsuc 0)) [] ≡ true }
     ensures listed { is_labelling (round_trip 2 3) both 0 1 (Limit.Weight (negsuc 0)) (label 0 0 ∷ []) ≡ true }
 {}
@@ -92,6 +93,7 @@ pub fn cut_is_a_set()
 pub fn parallel_edges()
     ensures walks { is_walk (parallel 1 4) both 0 1 (1 ∷ []) ≡ true }
     ensures flow { is_flow_of (parallel 1 4) both 0 1 (pos 5) (amount 0 1 ∷ amount 1 4 ∷ []) ≡ true }
+    ensures flow_of_less { is_flow_of (parallel 1 4) both 0 1 (pos 4) (amount 0 1 ∷ amount 1 4 ∷ []) ≡ true }
     ensures over_weight { is_flow_of (parallel 1 4) both 0 1 (pos 5) (amount 0 2 ∷ amount 1 3 ∷ []) ≡ false }
     ensures cut_of_six { is_flow_cut (parallel 1 4) both 0 1 (pos 6) (0 ∷ []) ≡ true }
     ensures not_of_five { is_flow_cut (parallel 1 4) both 0 1 (pos 5) (0 ∷ []) ≡ false }
@@ -201,6 +203,7 @@ pub fn joined_nodes()
     ensures not_joined { joins (edge 1 0 1 1 ∷ []) 0 2 ≡ false }
     ensures each_alone { component_count [] 3 ≡ 3 }
     ensures later_nodes { component_count (edge 1 1 2 1 ∷ []) 3 ≡ 2 }
+    ensures over_a_node { component_count (edge 1 0 2 1 ∷ []) 3 ≡ 2 }
     ensures all_joined { component_count (edge 1 0 1 1 ∷ edge 2 2 1 1 ∷ []) 3 ≡ 1 }
     ensures no_nodes { component_count [] 0 ≡ 0 }
     ensures components { component_count (edge 1 0 1 1 ∷ []) 3 ≡ 2 }
@@ -212,6 +215,8 @@ pub fn edge_numbers()
     ensures found { place_of (triangle 1 2 4) 7 ≡ Some 1 }
     ensures gap { place_of (triangle 1 2 4) 8 ≡ None }
     ensures past { place_of (triangle 1 2 4) 10 ≡ None }
+    ensures not_by_variable { place_of (single (edge_of 7 0 1 3 5)) 3 ≡ None }
+    ensures by_number { place_of (single (edge_of 7 0 1 3 5)) 7 ≡ Some 0 }
 {}
 
 /// A graph with one more edge has it behind the others. Weights count as often as places are listed.
@@ -220,6 +225,7 @@ pub fn edges_and_weights()
     ensures behind { with_edge (single (edge 1 0 1 2)) (edge 2 1 0 3) ≡ round_trip 2 3 }
     ensures weight { weight_of (triangle 1 2 4) (0 ∷ 2 ∷ 2 ∷ []) ≡ 9 }
     ensures of_none { weight_of (triangle 1 2 4) [] ≡ 0 }
+    ensures past_the_edges { weight_of (triangle 1 2 4) (3 ∷ []) ≡ 0 }
 {}
 
 /// A list is read as a set by what it has.

@@ -1,9 +1,8 @@
 -- No present edge leaves a set where none leaves its nodes.
-use Rattle.std.proofs.Common.{◌≡◌, ℕ, ◌<◌, Bool, true, false, not, ◌&&◌, List, length, get_or, refl, sym, subst, ◌∙◌, inl, inr, arith}
+use Rattle.std.proofs.Common.{◌≡◌, ℕ, ◌<◌, Bool, true, false, not, ◌&&◌, List, length, refl, sym, ap, subst, ◌∙◌, inl, inr, arith}
 use Rattle.std.specs.Prelude.{IsTrue}
 use Rattle.std.specs.List.{list_all}
 use Rattle.std.proofs.lemmas.Bool.{and_from, and_left, and_right, not_from_true, not_from_false, cases_Bool}
-use Rattle.std.proofs.lemmas.List.Folds.{list_all_at}
 use Rattle.mono_graph.specs.Digraph.{Digraph, present, places, edge_at, has, leads_out, leaving, HasEnds, no_edge}
 use Rattle.mono_graph.specs.Walks.{is_cut}
 use Rattle.mono_graph.proofs.Places.{all_of, all_below}
@@ -41,12 +40,12 @@ leaves_none g P s marked graph m =
     into (present P k) (has s (edge_at g k).from) (has s (edge_at g k).to) (marked (edge_at g k).to) (subst (λ (w : ℕ). IsTrue (has s w)) (sym r.1) u-in) (m.each (edge_at g k).to (graph k no_edge r.0).1)
     (all_below (λ j. not (present P j && leads_out s (edge_at g j))) 0 (length g.edges) h k (omega arith) (let lt = r.0 in omega arith)))))
 
-pub cut_passes : (g : Digraph) (P : List Bool) (u v : ℕ) (s : List ℕ) (marked : ℕ → Bool) → HasEnds g → Marks g s marked → u < g.nodes → v < g.nodes → marked u ≡ true → marked v ≡ false
-    → IsTrue (list_all (λ w. list_all (stays_by marked g P) (leaving g w)) s) → true ≡ is_cut g P u v s
-cut_passes g P u v s marked graph m u-in v-in from to h =
-    sym (and_from (has s u && not (has s v)) (list_all (λ k. not (present P k && leads_out s (edge_at g k))) (places g))
-    (and_from (has s u) (not (has s v)) (sym (m.each u u-in) ∙ from) (not_from_false (has s v) (sym (m.each v v-in) ∙ to)))
-    (sym (leaves_none g P s marked graph m) ∙ h))
+-- with the start and without the end it is as the edges of its nodes say
+pub cut_decides : (g : Digraph) (P : List Bool) (u v : ℕ) (s : List ℕ) (marked : ℕ → Bool) (r : Bool) → HasEnds g → Marks g s marked → u < g.nodes → v < g.nodes → marked u ≡ true → marked v ≡ false
+    → r ≡ list_all (λ w. list_all (stays_by marked g P) (leaving g w)) s → r ≡ is_cut g P u v s
+cut_decides g P u v s marked r graph m u-in v-in from to h =
+    let both : (has s u && not (has s v)) ≡ true = and_from (has s u) (not (has s v)) (sym (m.each u u-in) ∙ from) (not_from_false (has s v) (sym (m.each v v-in) ∙ to)) in
+    h ∙ (leaves_none g P s marked graph m ∙ sym (ap (λ (t : Bool). t && list_all (λ k. not (present P k && leads_out s (edge_at g k))) (places g)) both))
 
 pub cut_fails_from : (g : Digraph) (P : List Bool) (u v : ℕ) (s : List ℕ) (marked : ℕ → Bool) → Marks g s marked → u < g.nodes → marked u ≡ false → false ≡ is_cut g P u v s
 cut_fails_from g P u v s marked m u-in off =
@@ -55,8 +54,3 @@ cut_fails_from g P u v s marked m u-in off =
 pub cut_fails_to : (g : Digraph) (P : List Bool) (u v : ℕ) (s : List ℕ) (marked : ℕ → Bool) → Marks g s marked → v < g.nodes → marked v ≡ true → false ≡ is_cut g P u v s
 cut_fails_to g P u v s marked m v-in on =
     sym (and_left (has s u && not (has s v)) (list_all (λ k. not (present P k && leads_out s (edge_at g k))) (places g)) (and_right (has s u) (not (has s v)) (not_from_true (has s v) (sym (m.each v v-in) ∙ on))))
-
-pub cut_fails_at : (g : Digraph) (P : List Bool) (u v : ℕ) (s : List ℕ) (marked : ℕ → Bool) (i : ℕ) → HasEnds g → Marks g s marked → i < length s → list_all (stays_by marked g P) (leaving g (get_or s i 0)) ≡ false → false ≡ is_cut g P u v s
-cut_fails_at g P u v s marked i graph m lt off =
-    sym (and_right (has s u && not (has s v)) (list_all (λ k. not (present P k && leads_out s (edge_at g k))) (places g))
-    (sym (leaves_none g P s marked graph m) ∙ list_all_at (λ w. list_all (stays_by marked g P) (leaving g w)) s i 0 lt off))

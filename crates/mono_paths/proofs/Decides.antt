@@ -1,5 +1,5 @@
 -- What was found decides whether there is a walk.
-use Rattle.std.proofs.Common.{◌≢◌, ℕ, List, Bool, length, refl}
+use Rattle.std.proofs.Common.{◌≢◌, ℕ, List, Bool, refl}
 use Rattle.std.specs.Prelude.{IsTrue, ◌↔◌}
 use Rattle.std.proofs.lemmas.Bool.{and_parts}
 use Rattle.mono_graph.specs.Digraph.{Digraph}

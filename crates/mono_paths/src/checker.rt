@@ -1,7 +1,7 @@
 //! Tests of cuts and labellings that keep their room.
 //!
-//! A checker has a mark and a value for each node of a graph. No node is marked between two tests, and a test marks and
-//! clears only what its list names. So a test costs its list and the edges at the nodes there, and not the graph.
+//! A checker has two marks and a value for each node of a graph. No node is marked between two tests, and a test marks
+//! and clears only what its list names. So a test costs its list and the edges at the nodes there, and not the graph.
 
 ghost use Rattle.std.specs.Prelude.{◌≡◌, ◌<◌, All, IfOk};
 ghost use Rattle.mono_graph.specs.Digraph.{IsPartOf};
@@ -20,6 +20,8 @@ use std::marker::Model;
 #[derive(Drop)]
 pub struct WalkChecker {
     table: LabelTable,
+    /// By node: whether its edges have been looked at.
+    seen: Vec<bool>,
 }
 
 impl Model for WalkChecker {
@@ -40,6 +42,7 @@ impl WalkChecker {
     {
         Ok(WalkChecker {
             table: LabelTable::new(alloc, nodes)?,
+            seen: vec![in alloc; false; nodes as usize]?,
         })
     }
 
@@ -53,9 +56,11 @@ impl WalkChecker {
         ensures passes { result ≡ is_cut_of graph.now part.now from to nodes.now }
         ensures checker { self.new ≡ self.old }
     {
-        mark(&mut self.table.listed, nodes);
-        let passes = cut::holds(graph, part, &self.table.listed, from, to, nodes);
-        unmark(&mut self.table.listed, nodes);
+        let inside = &mut self.table.listed;
+        mark(inside, nodes);
+        let passes = cut::holds(graph, part, inside, &mut self.seen, from, to, nodes);
+        unmark(inside, nodes);
+        unmark(&mut self.seen, nodes);
         passes
     }
 

@@ -29,6 +29,8 @@ mod table;
 mod tests;
 /// Visits, and the walks that they make.
 mod visit;
+/// What the words of contracts make of small graphs.
+pub mod worked;
 
 pub use checker::{WalkChecker, is_cut, is_labelling};
 pub use find::{PathOrCut, PathOrLabels};

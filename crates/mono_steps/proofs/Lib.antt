@@ -17,3 +17,12 @@ pub mod TrimmedSteps
 pub mod Switched
 pub mod Placed
 pub mod ClauseParts
+pub mod LitTests
+pub mod LeftOpen
+pub mod Propagation
+pub mod JournalSteps
+pub mod NewSteps
+pub mod Digits
+pub mod FewNew
+pub mod WorkedNew
+pub mod NewPlaces

@@ -11,3 +11,7 @@ pub mod Needed
 pub mod Switching
 pub mod Placing
 pub mod Checkers
+pub mod Journals
+pub mod New
+pub mod Propagated
+pub mod Codes

@@ -23,6 +23,8 @@ pub mod laws;
 mod lemma;
 /// What lemmas show.
 pub mod lemma_laws;
+/// What new learned clauses are like.
+pub mod new_laws;
 /// Clauses by their numbers.
 mod numbered;
 /// What a witness names.
@@ -46,6 +48,8 @@ mod witness_checker;
 pub mod worked;
 /// Lemmas that were worked by hand, as the definitions compute them.
 pub mod worked_lemmas;
+/// Which learned clauses are new, worked by hand.
+pub mod worked_new;
 /// Which word serves which predicate, worked by hand.
 pub mod worked_words;
 

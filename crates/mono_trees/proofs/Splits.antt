@@ -1,14 +1,12 @@
 -- What marks and a list of nodes say of a split.
-use Rattle.std.proofs.Common.{◌≡◌, ℕ, zero, suc, ◌+◌, ◌<◌, ◌≤◌, Bool, true, false, not, ◌&&◌, ◌==◌, List, [], ◌∷◌, ◌++◌, length, map, take, set, get_or, refl, sym, ap, subst, ◌∙◌, inl, inr, arith, ◌⊎◌, zero-add, All}
+use Rattle.std.proofs.Common.{◌≡◌, ℕ, zero, suc, ◌+◌, ◌<◌, ◌≤◌, Bool, true, false, not, ◌&&◌, ◌==◌, List, [], ◌∷◌, length, map, get_or, refl, sym, ap, subst, ◌∙◌, inl, inr, arith, ◌⊎◌, zero-add, All}
 use Rattle.std.specs.Prelude.{IsTrue}
 use Rattle.std.specs.List.{list_all, list_any, range_with_len}
 use Rattle.std.proofs.lemmas.Bool.{and_parts, and_from, and_right, or_cases, or_left, or_right, cases_Bool, false_from_ne_true}
-use Rattle.std.proofs.lemmas.List.{length-set, take_more}
 use Rattle.mono_graph.specs.Digraph.{Digraph, edge_at, has, nodes_of, places, present, crosses, leaving, entering}
 use Rattle.mono_graph.specs.Trees.{is_split}
 use Rattle.mono_graph.proofs.Places.{all_of, all_below}
 use Rattle.mono_graph.proofs.Membership.{all_at, all_from, has_cons, has_range, has_get_or, at_places, places_at, same_truth}
-use Rattle.mono_graph.proofs.Prefixes.{has_again, marked_more, take_has}
 use Rattle.mono_graph.proofs.Components.{listed-enough}
 use Rattle.mono_trees.specs.Crossing.{crosses_by, is_closed_at}
 
@@ -35,49 +33,6 @@ all_marked s ms marked =
 -- a list that is shorter than a range lacks a number of it
 pub short_lacks : (s : List ℕ) (n : ℕ) → length s < n → list_all (has s) (range_with_len 0 n) ≡ false
 short_lacks s n lt = false_from_ne_true (list_all (has s) (range_with_len 0 n)) (λ t. let many : n ≤ length s = listed-enough s n t in omega (arith, many, lt))
-
--- ---- a list of nodes, the seen ones marked
-
-pub record IsLooked (g : Digraph) (P inside seen : List Bool) (nodes : List ℕ) (i : ℕ) : Type 0 where
-  pub len : length seen ≡ g.nodes
-  pub marked : (u : ℕ) → get_or seen u false ≡ has (take i nodes) u
-  pub closed : IsTrue (list_all (is_closed_at inside g P) (take i nodes))
-
-pub looked_none : (g : Digraph) (P inside seen : List Bool) (nodes : List ℕ) → length seen ≡ g.nodes → ((u : ℕ) → get_or seen u false ≡ false) → IsLooked g P inside seen nodes 0
-looked_none g P inside seen nodes len clear = record { len = len; marked = clear; closed = refl }
-
-list_all-push : (p : ℕ → Bool) (xs : List ℕ) (x : ℕ) → IsTrue (list_all p xs) → IsTrue (p x) → IsTrue (list_all p (xs ++ x ∷ []))
-list_all-push p [] x h t = and_from (p x) true t refl
-list_all-push p (y ∷ ys) x h t = let a = and_parts (p y) (list_all p ys) h in and_from (p y) (list_all p (ys ++ x ∷ [])) a.0 (list_all-push p ys x a.1 t)
-
-pub looked_new : (g : Digraph) (P inside seen : List Bool) (nodes : List ℕ) (i u : ℕ) → i < length nodes → u ≡ get_or nodes i 0 → u < g.nodes
-    → IsTrue (is_closed_at inside g P u) → IsLooked g P inside seen nodes i → IsLooked g P inside (set seen u true) nodes (i + 1)
-looked_new g P inside seen nodes i u lt is within closed l =
-    let more : take (i + 1) nodes ≡ take i nodes ++ u ∷ [] = take_more nodes i 0 lt ∙ ap (λ (k : ℕ). take i nodes ++ k ∷ []) (sym is) in
-    record {
-      len = length-set seen u true ∙ l.len;
-      marked = λ v. marked_more seen (take i nodes) u (let e = l.len in omega arith) l.marked v ∙ ap (λ (ks : List ℕ). has ks v) (sym more);
-      closed = subst (λ (ks : List ℕ). IsTrue (list_all (is_closed_at inside g P) ks)) (sym more) (list_all-push (is_closed_at inside g P) (take i nodes) u l.closed closed);
-    }
-
-pub looked_again : (g : Digraph) (P inside seen : List Bool) (nodes : List ℕ) (i u : ℕ) → i < length nodes → u ≡ get_or nodes i 0
-    → get_or seen u false ≡ true → IsLooked g P inside seen nodes i → IsLooked g P inside seen nodes (i + 1)
-looked_again g P inside seen nodes i u lt is on l =
-    let more : take (i + 1) nodes ≡ take i nodes ++ u ∷ [] = take_more nodes i 0 lt ∙ ap (λ (k : ℕ). take i nodes ++ k ∷ []) (sym is) in
-    let there : IsTrue (has (take i nodes) u) = sym (l.marked u) ∙ on in
-    record {
-      len = l.len;
-      marked = λ v. l.marked v ∙ (sym (has_again (take i nodes) u v there) ∙ ap (λ (ks : List ℕ). has ks v) (sym more));
-      closed = subst (λ (ks : List ℕ). IsTrue (list_all (is_closed_at inside g P) ks)) (sym more)
-          (list_all-push (is_closed_at inside g P) (take i nodes) u l.closed (all_at (is_closed_at inside g P) (take i nodes) u l.closed there));
-    }
-
--- one more mark, where the list has the number
-pub looked_set : (g : Digraph) (P inside seen : List Bool) (nodes : List ℕ) (i x : ℕ) → i < length nodes → x ≡ get_or nodes i 0 → x < g.nodes
-    → IsLooked g P inside seen nodes i → (u : ℕ) → IsTrue (get_or (set seen x true) u false) → IsTrue (has nodes u)
-looked_set g P inside seen nodes i x lt is within l u h =
-    let more : take (i + 1) nodes ≡ take i nodes ++ x ∷ [] = take_more nodes i 0 lt ∙ ap (λ (k : ℕ). take i nodes ++ k ∷ []) (sym is) in
-    take_has nodes (i + 1) u (ap (λ (ks : List ℕ). has ks u) more ∙ (sym (marked_more seen (take i nodes) x (let e = l.len in omega arith) l.marked u) ∙ h))
 
 -- ---- no edge crosses
 

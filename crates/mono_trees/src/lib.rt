@@ -21,6 +21,8 @@ mod spanning;
 mod split;
 #[cfg(test)]
 mod tests;
+/// What the words of contracts make of small graphs.
+pub mod worked;
 
 pub use checker::{TreeChecker, is_least, is_split, is_tree};
 pub use finder::{TreeFinder, TreeFound, find_tree};

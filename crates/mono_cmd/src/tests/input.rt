@@ -176,7 +176,7 @@ fn there_are_at_most_1024_graphs(rt: HostRuntime) -> Result<(), Fail> {
 
 #[test]
 fn other_words_are_no_command(rt: HostRuntime) -> Result<(), Fail> {
-    let usage = b"usage: check FILE ANSWER | print FILE\n";
+    let usage = b"usage: solve FILE [--conflicts N] | check FILE ANSWER | print FILE\n";
     let words = [
         "",
         "check",
@@ -189,8 +189,20 @@ fn other_words_are_no_command(rt: HostRuntime) -> Result<(), Fail> {
         "print -f",
         "--help",
         "--version",
-        "solve f",
         "Print f",
+        "solve",
+        "solve -f",
+        "solve f a",
+        "solve f --conflicts",
+        "solve f --conflicts 0",
+        "solve f --conflicts -1",
+        "solve f --conflicts +1",
+        "solve f --conflicts 1x",
+        "solve f --conflicts 18446744073709551616",
+        "solve f --conflicts 1 x",
+        "solve f conflicts 1",
+        "solve --conflicts 1 f",
+        "check f --conflicts 1",
     ];
     for line in &words {
         let split: Vec<&str> = line

@@ -2,6 +2,7 @@ use Rattle.std.proofs.Common.{map, string_bytes}
 use Rattle.mono_cmd.specs.Commands.{command_of}
 use Rattle.mono_cmd.proofs.Stages.{ends_begun, ends_faults}
 use Rattle.mono_cmd.proofs.Needs.{no_read_fault, steady, complete}
+use Rattle.mono_cmd.proofs.Solves.{satisfiable, unsatisfiable, unknown, its_verdict}
 use Rattle.mono_cmd.proofs.Sound.{refutes, models}
 use Rattle.mono_cmd.proofs.run.run.Goals as goal
 
@@ -27,3 +28,23 @@ returns-clause-steady g c = steady _ _ _ c.ending_of-ending.result c.write_endin
 
 pub returns-clause-complete : goal.returns-clause-complete
 returns-clause-complete g c = complete _ _ _ c.ending_of-ending.result c.write_ending.result _ _ c.ending_of-ending.ensures c.write_ending.ensures.writes
+
+pub returns-clause-satisfiable : goal.returns-clause-satisfiable
+returns-clause-satisfiable g c =
+    satisfiable (command_of (map string_bytes c.args.words.now)) (g.S.Shelf.seen c.args.shelf.now) (g.S.Shelf.seen c.ending_of-ending.new.shelf) c.write_ending.result (g.K.Sink.written c.args.out.now) (g.K.Sink.written c.write_ending.new.out)
+    (record { ending = c.ending_of-ending.result; ends = c.ending_of-ending.ensures; writes = c.write_ending.ensures.writes })
+
+pub returns-clause-unsatisfiable : goal.returns-clause-unsatisfiable
+returns-clause-unsatisfiable g c =
+    unsatisfiable (command_of (map string_bytes c.args.words.now)) (g.S.Shelf.seen c.args.shelf.now) (g.S.Shelf.seen c.ending_of-ending.new.shelf) c.write_ending.result (g.K.Sink.written c.args.out.now) (g.K.Sink.written c.write_ending.new.out)
+    (record { ending = c.ending_of-ending.result; ends = c.ending_of-ending.ensures; writes = c.write_ending.ensures.writes })
+
+pub returns-clause-unknown : goal.returns-clause-unknown
+returns-clause-unknown g c =
+    unknown (command_of (map string_bytes c.args.words.now)) (g.S.Shelf.seen c.args.shelf.now) (g.S.Shelf.seen c.ending_of-ending.new.shelf) c.write_ending.result (g.K.Sink.written c.args.out.now) (g.K.Sink.written c.write_ending.new.out)
+    (record { ending = c.ending_of-ending.result; ends = c.ending_of-ending.ensures; writes = c.write_ending.ensures.writes })
+
+pub returns-clause-verdict : goal.returns-clause-verdict
+returns-clause-verdict g c = λ p budget there written solves.
+    its_verdict (command_of (map string_bytes c.args.words.now)) (g.S.Shelf.seen c.args.shelf.now) (g.S.Shelf.seen c.ending_of-ending.new.shelf) c.write_ending.result (g.K.Sink.written c.args.out.now) (g.K.Sink.written c.write_ending.new.out)
+    (record { ending = c.ending_of-ending.result; ends = c.ending_of-ending.ensures; writes = c.write_ending.ensures.writes }) p budget solves there written

@@ -1,4 +1,4 @@
-use Rattle.std.proofs.Common.{ℕ, Vec, List, refl, sym, ◌∙◌, subst}
+use Rattle.std.proofs.Common.{ℕ, Vec, List, sym, ◌∙◌, subst}
 use Rattle.std.specs.Prelude.{IsTrue, Option}
 use Rattle.std.specs.declared.alloc.Global.{Global}
 use Rattle.mono_graph.specs.declared.limit.Limit.TheVariants as limit

@@ -1,11 +1,11 @@
-use Rattle.std.proofs.Common.{◌≡◌, ◌≤◌, ◌<◌, ◌+◌, ◌^◌, [], ℕ, Vec, List, map, refl, sym, ◌∙◌, subst}
+use Rattle.std.proofs.Common.{◌≤◌, ◌<◌, ◌+◌, ℕ, Vec, List, sym, ◌∙◌, subst}
 use Rattle.std.specs.Prelude.{IsTrue, Option, All}
 use Rattle.std.specs.declared.alloc.Global.{Global}
 use Rattle.mono_base.specs.declared.limits.TheConstants.{MAX_WITNESS_VALUE}
 use Rattle.mono_graph.specs.declared.label.Label.{Label}
 use Rattle.mono_graph.specs.Walks.{is_labelling}
 use Rattle.mono_paths.specs.Reaches.{Reaches, HasFinal}
-use Rattle.mono_paths.proofs.Ends.{empty_labelling, cheap_path, labelled, labelling_found, labels_found, bound_small}
+use Rattle.mono_paths.proofs.Ends.{empty_labelling, cheap_path, labelling_found, labels_found, bound_small}
 use Rattle.mono_paths.proofs.find.path_or_labels.Goals as goal
 
 pub returns-in_default-clause-passes : goal.returns-in_default-clause-passes

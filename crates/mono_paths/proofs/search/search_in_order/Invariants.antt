@@ -1,4 +1,4 @@
-use Rattle.std.proofs.Common.{◌≡◌, ◌+◌, ◌-◌, length, sum, vec_len}
+use Rattle.std.proofs.Common.{◌≡◌, ◌+◌, ◌-◌, sum, vec_len}
 use Rattle.std.specs.Prelude.{nat_le}
 use Rattle.mono_paths.specs.Spread.{IsSpread}
 use Rattle.mono_paths.proofs.Searches.{Searching}

@@ -1,4 +1,4 @@
-use Rattle.std.proofs.Common.{◌≡◌, ◌<◌, ◌-◌, ◌∙◌, ℕ, List, length, map, sym, ap, subst}
+use Rattle.std.proofs.Common.{◌≡◌, ◌<◌, ◌-◌, ◌∙◌, ℕ, List, length, sym, ap, subst}
 use Rattle.std.specs.Prelude.{All, IsTrue, nat_lt}
 use Rattle.std.proofs.lemmas.List.{length-map}
 use Rattle.mono_graph.specs.Digraph.{has, is_distinct}

@@ -1,9 +1,9 @@
-use Rattle.std.proofs.Common.{◌≡◌, ◌<◌, ◌-◌, ◌∙◌, [], ℕ, List, length, map, replicate, sym, ap, subst, arith}
+use Rattle.std.proofs.Common.{◌≡◌, ◌<◌, ◌-◌, ◌∙◌, ℕ, List, length, map, replicate, sym, ap, subst, arith}
 use Rattle.std.specs.Prelude.{All, IsTrue, slice_index_or}
 use Rattle.std.proofs.lemmas.List.{length-map}
 use Rattle.mono_graph.specs.Digraph.{has}
-use Rattle.mono_paths.specs.NodeLabels.{NodeLabels, AreKept}
-use Rattle.mono_paths.proofs.NodeLabels.{reached_known, some_listed, set_back_all, kept_none}
+use Rattle.mono_paths.specs.NodeLabels.{NodeLabels}
+use Rattle.mono_paths.proofs.NodeLabels.{reached_known, some_listed, set_back_all}
 use Rattle.mono_paths.proofs.labels.Labels.reset.Goals as goal
 
 pub set_back-requires : goal.set_back-requires

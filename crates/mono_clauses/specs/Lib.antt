@@ -1,0 +1,9 @@
+pub mod Lists
+pub mod Store
+pub mod Propagation
+pub mod ClauseValues
+pub mod ClauseList
+pub mod FlatList
+pub mod Watching
+pub mod Stacks
+pub mod Walk

@@ -1,0 +1,91 @@
+-- `check` accepts what an answer's text says.
+use Rattle.std.proofs.Common.{◌≡◌, ℕ, suc, ◌+◌, ◌<◌, ◌^◌, Bool, List, [], ◌∷◌, length, map, Option, Some, refl, sym, ap, ◌∙◌, arith, append-nil}
+use Rattle.std.specs.Prelude.{IsTrue}
+use Rattle.std.specs.List.{enumerate_from}
+use Rattle.std.proofs.lemmas.Bool.{and_parts, le-leb}
+use Rattle.mono_base.specs.declared.limits.TheConstants.{MAX_VARS}
+use Rattle.mono_problem.specs.Instance.{Instance}
+use Rattle.mono_problem.specs.WellFormed.{IsInstance}
+use Rattle.mono_steps.specs.declared.step.Step.{Step}
+use Rattle.mono_steps.specs.declared.step.Step.TheVariants as step
+use Rattle.mono_steps.specs.Steps.{are_justified, ends_empty}
+use Rattle.mono_steps.specs.Journals.{chain_count}
+use Rattle.mono_answer.specs.declared.kind.Kind.{Kind}
+use Rattle.mono_answer.specs.declared.kind.Kind.TheVariants as kind
+use Rattle.mono_answer.specs.declared.item.Item.{Item}
+use Rattle.mono_answer.specs.declared.item.Item.TheVariants as says
+use Rattle.mono_answer.specs.declared.answer.Answer.{Answer}
+use Rattle.mono_answer.specs.declared.answer.Answer.TheVariants as answer
+use Rattle.mono_answer.specs.Printed.{literals_from, with_zero, answer_text, answer_items, in_lines, is_within_format}
+use Rattle.mono_answer.proofs.RoundTrip.{printed_is_read}
+use Rattle.mono_check.specs.declared.verdict.Verdict.TheVariants as verdict
+use Rattle.mono_check.specs.StepLines.{chain_count as count_of_chains}
+use Rattle.mono_check.specs.Answers.{step_item, HasSteps, HasModel}
+use Rattle.mono_check.proofs.Accepted.{refutation_iff, progress_iff, model_iff}
+use Rattle.mono_search.specs.Outcomes.{HasModel as HasModelOf}
+use Rattle.mono_cmd.specs.Solved.{IsTrimRefutation, IsProgress, IsSolution}
+use Rattle.mono_cmd.proofs.Values.{one_each_there, model_is}
+use Rattle.mono_cmd.proofs.Format.{steps_within}
+
+-- ---- models
+
+printed_model : (p : Instance) (values : List Bool) → IsInstance p → length values ≡ p.vars → HasModel p (answer_text (answer.Model values)) values
+printed_model p values ok len = record {
+  lines = lines;
+  rows = with_zero (literals_from 1 values) ∷ [];
+  lits = literals_from 1 values;
+  behind = (1, printed_is_read (answer.Model values) (le-leb (length values) MAX_VARS (omega (arith, len, ok.vars))));
+  alone = refl;
+  numbers = append-nil (with_zero (literals_from 1 values));
+  one_each = one_each_there p values len;
+  true_where = sym (model_is p values len);
+}
+  where
+    lines : List (ℕ × Option Item)
+    lines = (2, Some (says.Values (with_zero (literals_from 1 values)))) ∷ []
+
+pub model_solves : (p : Instance) (budget : ℕ) (values : List Bool) → IsInstance p → HasModelOf p values → IsSolution p budget (answer.Model values)
+model_solves p budget values ok h = record {
+  right = h;
+  accepted = (model_iff p (answer_text (answer.Model values))).1 (values, printed_model p values ok h.len, h.satisfies);
+}
+
+-- ---- steps
+
+seconds : {A : Type 0} (n : ℕ) (xs : List A) → map (λ l. l.1) (enumerate_from n xs) ≡ xs
+seconds n [] = refl
+seconds n (x ∷ xs) = ap (λ (ys : List _). x ∷ ys) (seconds (n + 1) xs)
+
+step_items : (steps : List Step) → map Some (map says.Step steps) ≡ map step_item steps
+step_items [] = refl
+step_items (s ∷ ss) = ap (λ (is : List (Option Item)). step_item s ∷ is) (step_items ss)
+
+printed_steps : (k : Kind) (a : Answer) (steps : List Step) → answer_items a ≡ says.Status k ∷ map says.Step steps → IsTrue (is_within_format a) → HasSteps k (answer_text a) steps
+printed_steps k a steps is within =
+    (enumerate_from 2 (map Some (map says.Step steps)), (1, printed_is_read a within ∙ ap in_lines is), seconds 2 (map Some (map says.Step steps)) ∙ step_items steps)
+
+same_count : (steps : List Step) → chain_count steps ≡ count_of_chains steps
+same_count [] = refl
+same_count (step.Lemma l ∷ ss) = same_count ss
+same_count (step.Chain c ∷ ss) = ap (λ (n : ℕ). suc n) (same_count ss)
+
+-- so many steps have clause numbers that the format can write
+few_steps : (p : Instance) (steps : List Step) → IsInstance p → length steps < 2 ^ 63 → length p.clauses + length steps < 2 ^ 64
+few_steps p steps ok few = omega (arith, few, ok.few_clauses)
+
+pub refutation_solves : (p : Instance) (budget : ℕ) (steps : List Step) → IsInstance p → length steps < 2 ^ 63 → IsTrimRefutation p steps → IsSolution p budget (answer.Refutation steps)
+refutation_solves p budget steps ok few h =
+    let justified = (and_parts (are_justified p steps) (ends_empty steps) h.refutes).0 in
+    let within = steps_within p p.clauses steps ok (few_steps p steps ok few) justified in
+    record {
+      right = h;
+      accepted = (refutation_iff p (answer_text (answer.Refutation steps))).1 (steps, printed_steps kind.Refutation (answer.Refutation steps) steps refl within, h.refutes);
+    }
+
+pub progress_solves : (p : Instance) (budget : ℕ) (steps : List Step) → IsInstance p → length steps < 2 ^ 63 → IsProgress p budget steps → IsSolution p budget (answer.Progress steps)
+progress_solves p budget steps ok few h =
+    let within = steps_within p p.clauses steps ok (few_steps p steps ok few) h.justified in
+    record {
+      right = h;
+      accepted = (progress_iff p (answer_text (answer.Progress steps)) (chain_count steps)).1 (steps, printed_steps kind.Progress (answer.Progress steps) steps refl within, h.justified, same_count steps);
+    }

@@ -1,0 +1,146 @@
+//! Predicates on walks within a limit: a walk shows that one holds, labels that it fails.
+//!
+//! Both come from one search, breadth first under a number of edges, by Dijkstra's method under a weight. A walk rests on
+//! its edges. Labels rest on the absent edges along which they rise by more than the edge costs.
+
+ghost use Rattle.std.specs.Prelude.{◌≡◌, ◌<◌, ◌≤◌, All, IfOk, IsTrue, length};
+ghost use Rattle.mono_graph.specs.Digraph.{IsPartOf};
+ghost use Rattle.mono_paths.specs.Found.{HasBound};
+ghost use Rattle.mono_problem.specs.WellFormed.{IsOver};
+ghost use Rattle.mono_theory.specs.Evidences.{Decides, IsEvidence};
+ghost use Rattle.mono_distance.specs.Distances.{is_distance, predicate_of, IsLabelEvidence};
+
+use crate::label_table::LabelTable;
+use mono_base::Row;
+use mono_base::limits::MAX_WITNESS_VALUE;
+use mono_graph::{Graph, Label, Limit, Part};
+use mono_paths::{PathOrLabels, WalkFinder};
+use mono_problem::Predicate;
+use mono_steps::Witness;
+use mono_theory::walks::walk_evidence;
+use mono_theory::{Evidence, GraphTheory, Kind};
+use std::alloc::{AllocError, Global};
+use std::marker::Model;
+
+/// Predicates on walks within a number of edges or a weight, with room to search graphs with one number of nodes.
+#[derive(Drop)]
+pub struct Distance {
+    finder: WalkFinder,
+    table: LabelTable,
+}
+
+impl Model for Distance {
+    ghost use Rattle.std.specs.Prelude.{ℕ, ◌≡◌};
+
+    ghost Value = { ℕ };
+
+    ghost view = { λ d. d.finder };
+
+    ghost invariant = { λ d. d.table ≡ d.finder };
+}
+
+/// The ends and the limit of a predicate.
+#[derive(Clone, Copy)]
+struct Asked {
+    from: u32,
+    to: u32,
+    limit: Limit,
+}
+
+/// What the predicate asks for.
+fn what_is_asked(predicate: Predicate) -> Asked
+    requires { IsTrue (is_distance predicate) }
+    ensures { predicate ≡ predicate_of result.from result.to result.limit }
+{
+    match predicate {
+        Predicate::Steps { from, to, most } => Asked {
+            from,
+            to,
+            limit: Limit::Steps(most),
+        },
+        Predicate::Distance { from, to, most } => Asked {
+            from,
+            to,
+            limit: Limit::Weight(most),
+        },
+        _ => unreachable!(),
+    }
+}
+
+/// The evidence that labels are. It rests on each absent edge along which they rise by more than the edge costs.
+fn label_evidence(
+    alloc: Global,
+    table: &mut LabelTable,
+    graph: &Graph,
+    part: &Part,
+    limit: Limit,
+    labels: Vec<Label>,
+) -> Result<Evidence, AllocError>
+    requires size { table.old ≡ graph.now.nodes }
+    requires part { IsPartOf part.now graph.now }
+    requires limit { HasBound limit }
+    requires labels { All (λ l. (l.node < graph.now.nodes) × (l.value ≤ MAX_WITNESS_VALUE)) labels.items }
+    ensures size { table.new ≡ table.old }
+    ensures evidence { IfOk result (IsLabelEvidence graph.now part.now limit labels.items) }
+{
+    let edges = table.absent_tense(alloc, graph, part, limit, labels.as_slice())?;
+    Ok(Evidence {
+        witness: Witness::Label(Row::from_vec(labels)),
+        edges: Row::from_vec(edges),
+    })
+}
+
+impl Kind for Distance {
+    ghost use Rattle.mono_distance.specs.Distances.{is_distance};
+
+    ghost covers = { is_distance };
+
+    ghost nodes = { λ d. d };
+
+    fn with_nodes(alloc: Global, count: u32) -> Result<Self, AllocError> {
+        let finder = WalkFinder::new(alloc, count)?;
+        let table = LabelTable::new(alloc, count)?;
+        Ok(Distance { finder, table })
+    }
+
+    fn holds(
+        &mut self,
+        alloc: Global,
+        graph: &Graph,
+        part: &Part,
+        predicate: Predicate,
+    ) -> Result<bool, AllocError> {
+        let _ = (alloc, graph.nodes());
+        let asked = what_is_asked(predicate);
+        match self
+            .finder
+            .find_light(graph, part, asked.from, asked.to, asked.limit)?
+        {
+            PathOrLabels::Path(_) => Ok(true),
+            PathOrLabels::Labels(_) => Ok(false),
+        }
+    }
+
+    fn evidence(
+        &mut self,
+        alloc: Global,
+        graph: &Graph,
+        part: &Part,
+        predicate: Predicate,
+    ) -> Result<Evidence, AllocError> {
+        let _ = graph.nodes();
+        let asked = what_is_asked(predicate);
+        match self
+            .finder
+            .find_light(graph, part, asked.from, asked.to, asked.limit)?
+        {
+            PathOrLabels::Path(places) => walk_evidence(alloc, graph, places),
+            PathOrLabels::Labels(labels) => {
+                label_evidence(alloc, &mut self.table, graph, part, asked.limit, labels)
+            }
+        }
+    }
+}
+
+/// Predicates on walks within a limit over one graph.
+pub type DistanceTheory = GraphTheory<Distance>;

@@ -1,0 +1,191 @@
+-- Flows and sets of nodes show whether a predicate on flows holds.
+use Rattle.std.proofs.Common.{◌≡◌, ℕ, zero, suc, ◌+◌, ◌<◌, ◌≤◌, Bool, true, false, not, ◌&&◌, ◌||◌, ◌==◌, cond, List, [], ◌∷◌, map, length, get_or, eqb, ltb, leb, refl, sym, ap, subst, ◌∙◌, ◌⊎◌, inl, inr, arith, ℤ, pos, All, le-leb, lt-ltb}
+use Rattle.std.specs.Prelude.{IsTrue, filter, is_some, unwrap_or, int_le, int_lt}
+use Rattle.std.specs.List.{list_all}
+use Rattle.std.proofs.lemmas.Bool.{and_parts, and_from, both_ways, not-true, not_from_false, cases_Bool, false_from_ne_true, eqb-true, leb-true, ltb-true, eq-eqb}
+use Rattle.std.proofs.lemmas.Bool.Decides.{eqb_tells}
+use Rattle.std.proofs.lemmas.List.Elements.{All-head, All-tail}
+use Rattle.mono_base.specs.declared.limits.TheConstants.{MAX_WITNESS_VALUE}
+use Rattle.mono_graph.specs.declared.amount.Amount.{Amount}
+use Rattle.mono_graph.specs.Digraph.{Digraph, IsGraph, edge_at, place_of, present, present_by, places, leads_out, weight_of, has, is_distinct}
+use Rattle.mono_graph.specs.Flows.{amount_at, is_flow, is_flow_of, is_flow_cut, is_within, is_conserved, value_of}
+use Rattle.mono_graph.proofs.Membership.{has_here, has_there, has_cons}
+use Rattle.mono_graph.proofs.NodeLists.{filter_same}
+use Rattle.mono_graph.proofs.Places.{all_below, all_of}
+use Rattle.mono_problem.specs.declared.atom.Predicate.TheVariants as kind
+use Rattle.mono_problem.specs.Holds.{Holds}
+use Rattle.mono_problem.specs.WellFormed.{IsOver}
+use Rattle.mono_steps.specs.declared.lemma.Witness.TheVariants as by
+use Rattle.mono_steps.specs.Witnesses.{placed_amounts, place_or_end}
+use Rattle.mono_steps.proofs.Witnessed.{positive_holds, negative_excludes}
+use Rattle.mono_theory.specs.Evidences.{only, IsEvidence}
+use Rattle.mono_theory.specs.Resting.{AreAlike, absent_out}
+use Rattle.mono_theory.proofs.EvidenceLaws.{in_only}
+use Rattle.mono_theory.proofs.RestingLaws.{leaving_are_absent, resting_evidence}
+use Rattle.mono_theory.proofs.WalkedLaws.{own_place, nodes-known, all_by}
+use Rattle.mono_flow.specs.Flowing.{numbered, carrying, flow_evidence, cut_evidence}
+
+-- ---- edges by their numbers
+
+pub placed-numbered : (g : Digraph) (amounts : List Amount) → IsGraph g → All (λ a. a.edge < length g.edges) amounts → placed_amounts g (numbered g amounts) ≡ amounts
+placed-numbered g [] ok h = refl
+placed-numbered g (a ∷ rest) ok h =
+    let back : place_or_end g (edge_at g a.edge).number ≡ a.edge = ap (λ o. unwrap_or o (length g.edges)) (own_place g a.edge ok (h 0 a (omega arith))) in
+    ap (λ (k : ℕ). record { edge = k; amount = a.amount } ∷ placed_amounts g (numbered g rest)) back
+    ∙ ap (λ (bs : List Amount). a ∷ bs) (placed-numbered g rest ok (All-tail (λ (b : Amount). b.edge < length g.edges) a rest h))
+
+numbered-known : (g : Digraph) (amounts : List Amount) → IsGraph g → All (λ a. a.edge < length g.edges) amounts → IsTrue (list_all (λ (m : Amount). is_some (place_of g m.edge)) (numbered g amounts))
+numbered-known g [] ok h = refl
+numbered-known g (a ∷ rest) ok h = and_from _ _ (ap is_some (own_place g a.edge ok (h 0 a (omega arith)))) (numbered-known g rest ok (All-tail (λ (b : Amount). b.edge < length g.edges) a rest h))
+
+numbered-small : (g : Digraph) (amounts : List Amount) (most : ℕ) → All (λ a. a.amount ≤ most) amounts → IsTrue (list_all (λ (m : Amount). leb m.amount most) (numbered g amounts))
+numbered-small g [] most h = refl
+numbered-small g (a ∷ rest) most h = and_from _ _ (le-leb a.amount most (h 0 a (omega arith))) (numbered-small g rest most (All-tail (λ (b : Amount). b.amount ≤ most) a rest h))
+
+-- ---- the edges that carry something
+
+carrying_here : (a : Amount) (rest : List Amount) → 0 < a.amount → carrying (a ∷ rest) ≡ a.edge ∷ carrying rest
+carrying_here a rest h = ap (λ (b : Bool). map (λ (x : Amount). x.edge) (cond b (a ∷ filter (λ (x : Amount). ltb 0 x.amount) rest) (filter (λ (x : Amount). ltb 0 x.amount) rest))) (lt-ltb 0 a.amount h)
+
+carrying_later : (a : Amount) (rest : List Amount) (k : ℕ) → IsTrue (has (carrying rest) k) → IsTrue (has (carrying (a ∷ rest)) k)
+carrying_later a rest k h = by (ltb 0 a.amount)
+  where
+    by : (b : Bool) → IsTrue (has (map (λ (x : Amount). x.edge) (cond b (a ∷ filter (λ (x : Amount). ltb 0 x.amount) rest) (filter (λ (x : Amount). ltb 0 x.amount) rest))) k)
+    by true = has_there a.edge k (carrying rest) h
+    by false = h
+
+-- an edge whose amount isn't 0 is one of them
+amount_carries : (amounts : List Amount) (k : ℕ) → 0 < amount_at amounts k → IsTrue (has (carrying amounts) k)
+amount_carries [] k h = absurd (omega (arith, h))
+amount_carries (a ∷ rest) k h = by (eqb_tells a.edge k) (amount_carries rest k)
+  where
+    by : ((eqb a.edge k ≡ true) × (a.edge ≡ k)) ⊎ ((eqb a.edge k ≡ false) × (a.edge ≡ k → ⊥)) → (0 < amount_at rest k → IsTrue (has (carrying rest) k)) → IsTrue (has (carrying (a ∷ rest)) k)
+    by (inl e) later =
+        let some : 0 < a.amount = subst (λ (n : ℕ). 0 < n) (ap (λ (b : Bool). cond b a.amount (amount_at rest k)) e.0) h in
+        subst (λ (ks : List ℕ). IsTrue (has ks k)) (sym (carrying_here a rest some)) (subst (λ (j : ℕ). IsTrue (has (j ∷ carrying rest) k)) (sym e.1) (has_here k (carrying rest)))
+    by (inr e) later = carrying_later a rest k (later (subst (λ (n : ℕ). 0 < n) (ap (λ (b : Bool). cond b a.amount (amount_at rest k)) e.0) h))
+
+carried_listed : (amounts : List Amount) (k : ℕ) → IsTrue (has (carrying amounts) k) → IsTrue (has (map (λ a. a.edge) amounts) k)
+carried_listed [] k h = absurd cc
+carried_listed (a ∷ rest) k h = by (ltb 0 a.amount) h (carried_listed rest k)
+  where
+    by : (b : Bool) → IsTrue (has (map (λ (x : Amount). x.edge) (cond b (a ∷ filter (λ (x : Amount). ltb 0 x.amount) rest) (filter (λ (x : Amount). ltb 0 x.amount) rest))) k)
+        → (IsTrue (has (carrying rest) k) → IsTrue (has (map (λ (x : Amount). x.edge) rest) k)) → IsTrue (has (map (λ (x : Amount). x.edge) (a ∷ rest)) k)
+    by true t later = elim (has_cons a.edge k (carrying rest) t) [
+      | inl e ↦ subst (λ (j : ℕ). IsTrue (has (map (λ (x : Amount). x.edge) (a ∷ rest)) j)) e (has_here a.edge (map (λ (x : Amount). x.edge) rest))
+      | inr r ↦ has_there a.edge k (map (λ (x : Amount). x.edge) rest) (later r)
+    ]
+    by false t later = has_there a.edge k (map (λ (x : Amount). x.edge) rest) (later t)
+
+-- they carry something, where no edge is listed twice
+carries_amount : (amounts : List Amount) (k : ℕ) → IsTrue (is_distinct (map (λ a. a.edge) amounts)) → IsTrue (has (carrying amounts) k) → 0 < amount_at amounts k
+carries_amount [] k d h = absurd cc
+carries_amount (a ∷ rest) k d h = by (ltb 0 a.amount) refl h (carries_amount rest k (and_parts _ _ d).1)
+  where
+    -- the edge is a later one's
+    other : IsTrue (has (carrying rest) k) → (IsTrue (has (carrying rest) k) → 0 < amount_at rest k) → 0 < amount_at (a ∷ rest) k
+    other r later =
+        let apart : eqb a.edge k ≡ false = false_from_ne_true (eqb a.edge k) (λ e. both_ways (has (map (λ (b : Amount). b.edge) rest) a.edge) (not-true _ (and_parts (not (has (map (λ (b : Amount). b.edge) rest) a.edge)) (is_distinct (map (λ (b : Amount). b.edge) rest)) d).0)
+        (subst (λ (j : ℕ). IsTrue (has (map (λ (b : Amount). b.edge) rest) j)) (sym (eqb-true a.edge k e)) (carried_listed rest k r))) in
+        subst (λ (n : ℕ). 0 < n) (sym (ap (λ (b : Bool). cond b a.amount (amount_at rest k)) apart)) (later r)
+
+    by : (b : Bool) → ltb 0 a.amount ≡ b → IsTrue (has (map (λ (x : Amount). x.edge) (cond b (a ∷ filter (λ (x : Amount). ltb 0 x.amount) rest) (filter (λ (x : Amount). ltb 0 x.amount) rest))) k)
+        → (IsTrue (has (carrying rest) k) → 0 < amount_at rest k) → 0 < amount_at (a ∷ rest) k
+    by true q t later = elim (has_cons a.edge k (carrying rest) t) [
+      | inl e ↦ subst (λ (n : ℕ). 0 < n) (sym (ap (λ (b : Bool). cond b a.amount (amount_at rest k)) (eq-eqb a.edge k e))) (ltb-true 0 a.amount q)
+      | inr r ↦ other r later
+    ]
+    by false q t later = other t later
+
+carried_known : (amounts : List Amount) (k n : ℕ) → All (λ a. a.edge < n) amounts → IsTrue (has (carrying amounts) k) → k < n
+carried_known amounts k n h t = listed_known amounts k n h (carried_listed amounts k t)
+  where
+    listed_known : (bs : List Amount) (j m : ℕ) → All (λ a. a.edge < m) bs → IsTrue (has (map (λ (x : Amount). x.edge) bs) j) → j < m
+    listed_known [] j m all i = absurd cc
+    listed_known (a ∷ rest) j m all i = elim (has_cons a.edge j (map (λ (x : Amount). x.edge) rest) i) [
+      | inl e ↦ subst (λ (v : ℕ). v < m) e (all 0 a (omega arith))
+      | inr r ↦ listed_known rest j m (All-tail (λ (b : Amount). b.edge < m) a rest all) r
+    ]
+
+-- ---- the part of the edges that carry something
+
+-- an edge that carries something is present, and can carry it
+present_within : (f w : ℕ) (b : Bool) → IsTrue (leb f (cond b w 0)) → 0 < f → (b ≡ true) × (f ≤ w)
+present_within f w true h some = (refl, leb-true f w h)
+present_within f w false h some = let none = leb-true f 0 h in absurd (omega (arith, none, some))
+
+-- so the others need not be
+own_within : (f w : ℕ) (b c : Bool) → IsTrue (leb f (cond b w 0)) → (0 < f → c ≡ true) → IsTrue (leb f (cond c w 0))
+own_within zero w b c h on = le-leb 0 (cond c w 0) (omega arith)
+own_within (suc f) w b c h on =
+    let p = present_within (suc f) w b h (omega arith) in
+    subst (λ (d : Bool). IsTrue (leb (suc f) (cond d w 0))) (sym (on (omega arith))) (le-leb (suc f) w p.1)
+
+-- a flow in the part is what each of these says
+pub record IsFlowOf (g : Digraph) (P : List Bool) (s t : ℕ) (least : ℤ) (amounts : List Amount) : Type 0 where
+  pub distinct : IsTrue (is_distinct (map (λ a. a.edge) amounts))
+  pub within : IsTrue (is_within g P (amount_at amounts))
+  pub conserved : IsTrue (is_conserved g s t (amount_at amounts))
+  pub enough : IsTrue (int_le least (value_of g s (amount_at amounts)))
+
+flow_parts : {g : Digraph} {P : List Bool} {s t : ℕ} {least : ℤ} (amounts : List Amount) → IsTrue (is_flow_of g P s t least amounts) → IsFlowOf g P s t least amounts
+flow_parts {g = g} {P = P} {s = s} {t = t} {least = least} amounts h =
+    let a = and_parts (is_distinct (map (λ (x : Amount). x.edge) amounts) && is_flow g P s t (amount_at amounts)) (int_le least (value_of g s (amount_at amounts))) h in
+    let b = and_parts (is_distinct (map (λ (x : Amount). x.edge) amounts)) (is_flow g P s t (amount_at amounts)) a.0 in
+    let c = and_parts (is_within g P (amount_at amounts)) (is_conserved g s t (amount_at amounts)) b.1 in
+    record { distinct = b.0; within = c.0; conserved = c.1; enough = a.1 }
+
+within_at : (g : Digraph) (P : List Bool) (f : ℕ → ℕ) (k : ℕ) → IsTrue (is_within g P f) → k < length g.edges → IsTrue (leb (f k) (cond (present P k) (edge_at g k).weight 0))
+within_at g P f k h lt = all_below (λ j. leb (f j) (cond (present P j) (edge_at g j).weight 0)) 0 (length g.edges) h k (omega arith) (omega (arith, lt))
+
+own_flow : (g : Digraph) (P : List Bool) (s t : ℕ) (least : ℤ) (amounts : List Amount) → IsTrue (is_flow_of g P s t least amounts) → IsTrue (is_flow_of g (only g (carrying amounts)) s t least amounts)
+own_flow g P s t least amounts h =
+    let f : ℕ → ℕ = amount_at amounts in
+    let ks : List ℕ = carrying amounts in
+    let a : IsFlowOf g P s t least amounts = flow_parts amounts h in
+    let within : IsTrue (is_within g (only g ks) f) = all_of (λ j. leb (f j) (cond (present (only g ks) j) (edge_at g j).weight 0)) 0 (length g.edges) (λ k lo hi.
+    let lt : k < length g.edges = omega (arith, hi) in
+    own_within (f k) (edge_at g k).weight (present P k) (present (only g ks) k) (within_at g P f k a.within lt) (λ some. in_only g ks k lt (amount_carries amounts k some))) in
+    and_from (is_distinct (map (λ (x : Amount). x.edge) amounts) && is_flow g (only g ks) s t f) (int_le least (value_of g s f))
+    (and_from (is_distinct (map (λ (x : Amount). x.edge) amounts)) (is_flow g (only g ks) s t f) a.distinct (and_from (is_within g (only g ks) f) (is_conserved g s t f) within a.conserved)) a.enough
+
+-- ---- evidence
+
+pub flow_holds : (g : Digraph) (P : List Bool) (s t : ℕ) (least : ℤ) (amounts : List Amount) → IsTrue (is_flow_of g P s t least amounts) → Holds g P (kind.Flow s t least)
+flow_holds g P s t least amounts h =
+    let a : IsFlowOf g P s t least amounts = flow_parts amounts h in
+    (amount_at amounts, and_from (is_flow g P s t (amount_at amounts)) (int_le least (value_of g s (amount_at amounts))) (and_from (is_within g P (amount_at amounts)) (is_conserved g s t (amount_at amounts)) a.within a.conserved) a.enough)
+
+pub cut_fails : (g : Digraph) (P : List Bool) (s t : ℕ) (least : ℤ) (set : List ℕ) → IsGraph g → IsOver g (kind.Flow s t least) → length P ≡ length g.edges → IsTrue (is_flow_cut g P s t least set) → ¬ Holds g P (kind.Flow s t least)
+cut_fails g P s t least set ok over len h = negative_excludes g P (kind.Flow s t least) (by.FlowCut set) ok over len refl h
+
+pub flow_shows : (g : Digraph) (P : List Bool) (s t : ℕ) (least : ℤ) (amounts : List Amount) → IsGraph g → All (λ a. a.edge < length g.edges) amounts → All (λ a. a.amount ≤ MAX_WITNESS_VALUE) amounts → IsTrue (is_flow_of g P s t least amounts)
+    → IsEvidence g P (kind.Flow s t least) (flow_evidence g amounts)
+flow_shows g P s t least amounts ok known small h =
+    let a : IsFlowOf g P s t least amounts = flow_parts amounts h in
+    record {
+      known = numbered-known g amounts ok known;
+      small = numbered-small g amounts MAX_WITNESS_VALUE small;
+      sided = all_by (λ k. (k < length g.edges) × (present P k ≡ true)) (carrying amounts) (λ k c.
+          let lt : k < length g.edges = carried_known amounts k (length g.edges) known c in
+          (lt, (present_within (amount_at amounts k) (edge_at g k).weight (present P k) (within_at g P (amount_at amounts) k a.within lt) (carries_amount amounts k a.distinct c)).0));
+      passes = ap (is_flow_of g (only g (carrying amounts)) s t least) (placed-numbered g amounts ok known) ∙ own_flow g P s t least amounts h;
+    }
+
+-- what leaves a set is the same in two parts that agree on the edges that leave it
+same_leaving : (set : List ℕ) {g : Digraph} {P Q : List Bool} → AreAlike (leads_out set) g P Q → present_by (leads_out set) g P ≡ present_by (leads_out set) g Q
+same_leaving set {g = g} {P = P} {Q = Q} h =
+    filter_same (λ k. present P k && leads_out set (edge_at g k)) (λ k. present Q k && leads_out set (edge_at g k)) 0 (length g.edges) (λ k lo hi.
+    same_and (present P k) (present Q k) (leads_out set (edge_at g k)) (λ out. h.each k (omega (arith, hi)) out))
+  where
+    same_and : (p q o : Bool) → (IsTrue o → p ≡ q) → (p && o) ≡ (q && o)
+    same_and p q true e = ap (λ b. b && true) (e refl)
+    same_and true true false e = refl
+    same_and true false false e = refl
+    same_and false true false e = refl
+    same_and false false false e = refl
+
+pub cut_shows : (g : Digraph) (P : List Bool) (s t : ℕ) (least : ℤ) (set : List ℕ) → All (λ u. u < g.nodes) set → IsTrue (is_flow_cut g P s t least set) → IsEvidence g P (kind.Flow s t least) (cut_evidence g P set)
+cut_shows g P s t least set known h =
+    resting_evidence (leads_out set) g P (kind.Flow s t least) (by.FlowCut set) (absent_out g P set) refl (nodes-known g set known) refl
+    (λ Q same. ap (λ ks. has set s && not (has set t) && int_lt (pos (weight_of g ks)) least) (same_leaving set same)) (leaving_are_absent g P set) h

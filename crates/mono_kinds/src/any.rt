@@ -1,0 +1,77 @@
+//! A theory of any kind, chosen at run time.
+
+use mono_base::Lit;
+use mono_distance::DistanceTheory;
+use mono_flow::FlowTheory;
+use mono_reach::ReachTheory;
+use mono_steps::Lemma;
+use mono_theory::{Finding, Force, Theory};
+use mono_tree::TreeTheory;
+use std::alloc::AllocError;
+
+/// A theory of any kind.
+#[derive(Drop)]
+pub enum AnyTheory {
+    /// Predicates of reachability.
+    Reach(ReachTheory),
+    /// Predicates on walks within a number of edges or a weight.
+    Distance(DistanceTheory),
+    /// Predicates on flows.
+    Flow(FlowTheory),
+    /// Predicates on spanning trees.
+    Tree(TreeTheory),
+}
+
+/// One call of the theory, whatever its kind.
+macro_rules! each {
+    ($any:expr, $theory:ident => $call:expr) => {
+        match $any {
+            AnyTheory::Reach($theory) => $call,
+            AnyTheory::Distance($theory) => $call,
+            AnyTheory::Flow($theory) => $call,
+            AnyTheory::Tree($theory) => $call,
+        }
+    };
+}
+
+impl Theory for AnyTheory {
+    ghost use Rattle.mono_kinds.specs.Kinds.{graph_of, atoms_of, seen_of};
+
+    ghost graph = { graph_of };
+
+    ghost atoms = { atoms_of };
+
+    ghost seen = { seen_of };
+
+    fn concerns(&self, var: u32) -> bool {
+        each!(self, theory => theory.concerns(var))
+    }
+
+    fn seen(&self) -> usize {
+        each!(self, theory => theory.seen())
+    }
+
+    fn owns(&self, atom: u32) -> bool {
+        each!(self, theory => theory.owns(atom))
+    }
+
+    fn assign(&mut self, lit: Lit) {
+        each!(self, theory => theory.assign(lit))
+    }
+
+    fn undo_to(&mut self, kept: usize) {
+        each!(self, theory => theory.undo_to(kept))
+    }
+
+    fn force(&mut self) -> Result<Force, AllocError> {
+        each!(self, theory => theory.force())
+    }
+
+    fn explain(&mut self, atom: u32, lit: Lit, kept: usize) -> Result<Lemma, AllocError> {
+        each!(self, theory => theory.explain(atom, lit, kept))
+    }
+
+    fn propagate(&mut self) -> Result<Finding, AllocError> {
+        each!(self, theory => theory.propagate())
+    }
+}

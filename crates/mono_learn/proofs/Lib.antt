@@ -1,0 +1,12 @@
+pub mod LitSets
+pub mod PlacesOfLits
+pub mod ChainEnds
+pub mod Marking
+pub mod LevelsByPlace
+pub mod Joining
+pub mod Walking
+pub mod Settling
+pub mod Asking
+pub mod Shrinking
+pub mod Learning
+pub mod KeptReasons

@@ -1,0 +1,43 @@
+use Rattle.std.proofs.Common.{◌≡◌, ◌≢◌, ◌≤◌, ◌<◌, ◌-◌, ◌+◌, arith, sym, ◌∙◌, ap, subst, refl, length, true, false, ℕ, List}
+use Rattle.std.specs.Prelude.{ℤ}
+use Rattle.std.proofs.lemmas.List.{get_or_read}
+use Rattle.mono_steps.specs.Steps.{clauses_after}
+use Rattle.mono_trail.specs.Places.{reason_at}
+use Rattle.mono_trail.specs.declared.reason.Reason.TheVariants.{Decided}
+use Rattle.mono_trail.specs.Seen.{is_marked}
+use Rattle.mono_learn.specs.Walks.{HasCome}
+use Rattle.mono_learn.proofs.LevelsByPlace.{none_decided}
+use Rattle.mono_learn.proofs.Asking.{asks_none, asks_more}
+use Rattle.mono_learn.proofs.Settling.{decided_before}
+use Rattle.mono_learn.proofs.Walking.{start_below, other_left, come_at, come_past}
+use Rattle.mono_learn.proofs.walk.unwind.Goals as goal
+
+pub loop-place-init : goal.loop-place-init
+loop-place-init g c = record {
+  by = refl;
+  asks = asks_none c.args.problem.now c.args.trail.now c.args.journal.now;
+  sound = c.requires.sound;
+  reasons = c.requires.reasons;
+  come = subst (λ (t : List ℤ). HasCome (clauses_after c.args.problem.now c.args.journal.now) c.args.trail.now.lits 0 (length t) c.args.resolvent.now c.args.used.now.items) (sym c.lits-place.ensures) c.requires.come;
+  within = omega (arith, ap (λ (t : List ℤ). length t) c.lits-place.ensures);
+}
+
+pub step-requires-clause-implied : goal.step-requires-clause-implied
+step-requires-clause-implied g c = λ e.
+    let lt : c.loop-place.place - 1 < length c.args.trail.now.lits = omega (arith, c.loop-place-test.true, c.loop-place.invariant.within, ap (λ (t : List ℤ). length t) c.loop-place.invariant.asks.settles.lits) in
+    none_decided c.args.trail.now (c.loop-place.place - 1) c.requires.sound c.requires.level lt
+    (decided_before (clauses_after c.args.problem.now c.loop-place.journal) c.args.trail.now c.loop-place.trail (c.loop-place.place - 1) c.loop-place.invariant.asks.settles lt e)
+
+pub loop-place-preserved-in-Continue-1 : goal.loop-place-preserved-in-Continue-1
+loop-place-preserved-in-Continue-1 g c =
+    record {
+      by = c.step.ensures.by ∙ c.loop-place.invariant.by;
+      asks = asks_more c.args.problem.now c.args.trail.now c.loop-place.trail c.step.new.trail c.args.journal.now c.loop-place.journal c.step.new.journal c.loop-place.invariant.asks c.step.ensures.asks;
+      sound = c.step.ensures.sound;
+      reasons = rw c.loop-place.invariant.by at c.step.ensures.reasons;
+      come = c.in_ok-step.ensures.come;
+      within = omega (arith, c.loop-place-test.true, c.loop-place.invariant.within, ap (λ (t : List ℤ). length t) c.step.ensures.asks.settles.lits);
+    }
+
+pub returns-in_err-step-clause-asks : goal.returns-in_err-step-clause-asks
+returns-in_err-step-clause-asks g c = asks_more c.args.problem.now c.args.trail.now c.loop-place.trail c.step.new.trail c.args.journal.now c.loop-place.journal c.step.new.journal c.loop-place.invariant.asks c.step.ensures.asks

@@ -1,0 +1,11 @@
+pub mod Explain
+pub mod Reasons
+pub mod Settled
+pub mod Learned
+pub mod Laws
+pub mod Asked
+pub mod Levels
+pub mod Resolvents
+pub mod Joins
+pub mod Walks
+pub mod Shrinks

@@ -1,0 +1,64 @@
+-- The state of a new search.
+use Rattle.std.proofs.Common.{zero, suc, ◌≡◌, ℕ, ◌≤◌, Bool, true, false, List, [], length, take, replicate, arith, refl, sym, ◌∙◌, ap, get_or, subst, All}
+use Rattle.std.specs.Prelude.{IsTrue, ℤ}
+use Rattle.mono_base.specs.Literal.{value_in}
+use Rattle.mono_problem.specs.Instance.{Instance}
+use Rattle.mono_trail.specs.TrailView.{TrailView, IsSound, no_literals}
+use Rattle.mono_clauses.specs.Store.{StoreView}
+use Rattle.mono_search.specs.Stored.{inputs_from, held_after}
+use Rattle.mono_trail.specs.Order.{OrderView}
+use Rattle.mono_search.specs.TheoryLists.{concerning}
+use Rattle.mono_search.specs.Theories.{TheoriesView}
+use Rattle.mono_search.specs.Runs.{BeginsWith, HoldsInputs}
+use Rattle.std.proofs.lemmas.List.{append-nil}
+use Rattle.mono_search.proofs.Propagating.{state}
+
+length-replicate : (n : ℕ) → length (replicate n true) ≡ n
+length-replicate zero = refl
+length-replicate (suc n) = ap suc (length-replicate n)
+
+all_stand : (n v : ℕ) → 1 ≤ v → v ≤ n → IsTrue (value_in (replicate n true) v)
+all_stand n zero low high = absurd (omega arith)
+all_stand zero (suc v) low high = absurd (omega arith)
+all_stand (suc n) (suc v) low high = at n v (omega arith)
+  where
+    at : (n v : ℕ) → v ≤ n → get_or (replicate (suc n) true) v false ≡ true
+    at n zero le = refl
+    at zero (suc v) le = absurd (omega arith)
+    at (suc n) (suc v) le = at n v (omega arith)
+
+nothing : (n : ℕ) → take {A = ℤ} n [] ≡ []
+nothing zero = refl
+nothing (suc n) = refl
+
+front : (n : ℕ) (t : List ℤ) → t ≡ [] → take n t ≡ []
+front n t e = ap (λ (u : List ℤ). take n u) e ∙ nothing n
+
+pub begins : (p : Instance) (b : TheoriesView) (t : TrailView) (s : StoreView) (o : OrderView) → b.problem ≡ p → b.handed ≡ 0 → All (λ f. f.seen ≡ []) b.facts → t ≡ no_literals p.vars → IsSound t → HoldsInputs p t s → o ≡ record { waits = replicate p.vars true; phases = replicate p.vars false }
+    → BeginsWith p (state b t s [] o)
+begins p b t s o problem handed unseen empty sound inputs order =
+    let none : t.lits ≡ [] = ap (λ (u : TrailView). u.lits) empty in
+    let waits : o.waits ≡ replicate p.vars true = ap (λ (q : OrderView). q.waits) order in
+    let vars : p.vars ≡ b.problem.vars = ap (λ (q : Instance). q.vars) (sym problem) in
+    record {
+      problem = problem;
+      steps = refl;
+      ready = record {
+        whole = record {
+          journal = record { journal = record { justified = refl; fresh = tt }; none_empty = refl };
+          held = record { vars = inputs.vars ∙ vars; clauses = inputs.clauses ∙ sym (append-nil (inputs_from 0 p.clauses)) ∙ ap (λ (q : Instance). held_after q []) (sym problem) };
+          trail = record {
+            vars = ap (λ (u : TrailView). u.vars) empty ∙ vars;
+            sound = sound;
+            shown = record {
+              within = omega (arith, handed);
+              current = λ k d lt. unseen k d lt ∙ ap (concerning (get_or b.facts k d)) (sym (front b.handed t.lits none));
+            };
+            reasons = record { at = λ k lt. absurd (omega (arith, lt, ap length none)) };
+            below = record { at = λ k lt d. absurd (omega (arith, lt, ap length none)) };
+          };
+          order = record { vars = ap length waits ∙ length-replicate p.vars ∙ vars; wait = record { at = λ v is open_in. subst (λ (w : List Bool). IsTrue (value_in w v)) (sym waits) (all_stand p.vars v is.0 (omega (arith, is.1, ap length waits, length-replicate p.vars))) } };
+        };
+        follows = inputs.follows;
+      };
+    }

@@ -1,0 +1,17 @@
+pub mod Lists
+pub mod Trails
+pub mod Following
+pub mod Journals
+pub mod Reasons
+pub mod Growing
+pub mod Updates
+pub mod ConcernTables
+pub mod Sweeps
+pub mod Owners
+pub mod HandedOn
+pub mod Quiets
+pub mod Propagating
+pub mod Decisions
+pub mod LearnedClauses
+pub mod Beginning
+pub mod Resolved

@@ -1,0 +1,7 @@
+use Rattle.mono_search.proofs.Decisions.{decided_moved}
+use Rattle.mono_search.proofs.state.State.decide.Goals as goal
+
+pub returns-clause-decided : goal.returns-clause-decided
+returns-clause-decided g c = λ _.
+    let quiet = rw (← c.self.view_is) at c.requires in
+    rw (← c.self.view_is) (decided_moved c.self.inside.theories c.self.inside.trail c.decide.new.self c.self.inside.store c.self.inside.journal c.self.inside.order c.pick.new.self c.literal-lit.result c.in-Some.var quiet c.in-Some.ensures.some c.literal-lit.ensures c.decide.ensures c.level-2.ensures.sound)

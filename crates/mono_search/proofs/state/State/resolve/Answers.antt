@@ -1,0 +1,9 @@
+use Rattle.std.proofs.Common.{◌≤◌, arith}
+use Rattle.mono_steps.specs.Journals.{chain_count}
+use Rattle.mono_search.proofs.LearnedClauses.{spent}
+use Rattle.mono_search.proofs.state.State.resolve.Goals as goal
+
+pub returns-then-learned-budget-clause-ends : goal.returns-then-learned-budget-clause-ends
+returns-then-learned-budget-clause-ends g c =
+    let le : c.args.budget ≤ chain_count c.args.self.now.steps = omega (arith, c.if-learned-budget.true, c.learned.ensures) in
+    spent c.args.self.now c.restart.new.self c.args.budget c.args.conflict c.requires c.restart.ensures.ready c.restart.ensures.problem c.restart.ensures.steps le

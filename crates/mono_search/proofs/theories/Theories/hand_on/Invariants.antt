@@ -1,0 +1,17 @@
+use Rattle.std.proofs.Common.{◌≡◌, ◌-◌, length}
+use Rattle.mono_theory.specs.Owners.{facts_of}
+use Rattle.mono_search.specs.Theories.{TheoriesView, IsKept, HaveSeen, having_seen}
+use Rattle.mono_search.proofs.theories.Theories.hand_on.Given as goal
+
+abbrev pub invariant-loop-self : goal.invariant-loop-self
+invariant-loop-self g l =
+    let t = g.T.Theory in
+    let now : TheoriesView = record { problem = l.self-inside.problem.now; facts = facts_of t.graph t.atoms t.seen l.self-inside.theories.items; handed = l.self-inside.handed } in
+    record {
+      kept : IsKept now.problem now.facts l.self-inside.concerned (length l.self-inside.counts.items);
+      shown : HaveSeen now l.lits;
+      from : now ≡ having_seen l.fn.self l.lits l.self-inside.handed;
+    }
+
+abbrev pub decreases-loop-self : goal.decreases-loop-self
+decreases-loop-self g l = length l.lits - l.self-inside.handed

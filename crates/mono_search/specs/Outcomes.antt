@@ -1,0 +1,38 @@
+-- How a run of a search ends.
+use Rattle.std.specs.Prelude.{◌≡◌, ℕ, ◌^◌, ◌<◌, Bool, true, false, max, List, length, Result, Ok, Err, IsTrue}
+use Rattle.mono_base.specs.Literal.{value_in}
+use Rattle.mono_problem.specs.Instance.{Instance}
+use Rattle.mono_problem.specs.Holds.{Satisfies}
+use Rattle.mono_steps.specs.declared.step.Step.{Step}
+use Rattle.mono_steps.specs.Steps.{is_refutation}
+use Rattle.mono_steps.specs.Journals.{chain_count}
+use Rattle.mono_steps.specs.New.{AreNew}
+use Rattle.mono_search.specs.declared.search.Outcome.{Outcome}
+use Rattle.mono_search.specs.declared.search.Outcome.TheVariants as outcome
+
+-- a value for each variable, by which the problem is satisfied
+pub record HasModel (p : Instance) (model : List Bool) : Type 0 where
+  pub len : length model ≡ p.vars
+  pub satisfies : Satisfies p (value_in model)
+
+-- as many clauses were learned as the budget says, or as there were before where these were more. All are new, and the budget was too short_seen to be enough for every problem of so many variables
+pub record IsSpent (budget before : ℕ) (p : Instance) (steps : List Step) : Type 0 where
+  pub chains : chain_count steps ≡ max budget before
+  pub new : AreNew p steps
+  pub short_seen : budget < 3 ^ p.vars
+
+-- how a run ends: with a model, a refutation, or when the budget was spent. `before` clauses were learned when it began
+abbrev pub EndsAs : ℕ → ℕ → Instance → List Step → Outcome → Type 0
+EndsAs budget before p steps (outcome.Sat model) = HasModel p model
+EndsAs budget before p steps outcome.Unsat = IsTrue (is_refutation p steps)
+EndsAs budget before p steps outcome.Unknown = IsSpent budget before p steps
+
+abbrev pub is_unknown : Outcome → Bool
+is_unknown (outcome.Sat model) = false
+is_unknown outcome.Unsat = false
+is_unknown outcome.Unknown = true
+
+-- a search stays live after Unknown alone
+abbrev pub stays_live : {E : Type 0} → Result Outcome E → Bool
+stays_live (Ok o) = is_unknown o
+stays_live (Err e) = false

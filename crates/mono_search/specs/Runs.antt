@@ -1,0 +1,138 @@
+-- What the calls of a state answer, and leave.
+use Rattle.std.specs.Prelude.{◌≡◌, ℕ, ◌+◌, ◌<◌, ◌≤◌, false, max, ℤ, List, [], length, Option, Some, None, IsTrue}
+use Rattle.mono_base.specs.Literal.{value_in, has_lit, var_of, IsLitWithin}
+use Rattle.mono_base.specs.Partial.{is_true_in, unit_quiet}
+use Rattle.mono_problem.specs.Instance.{Instance}
+use Rattle.mono_steps.specs.Journals.{known_clauses, chain_count}
+use Rattle.mono_trail.specs.TrailView.{TrailView, IsSound}
+use Rattle.mono_trail.specs.Order.{OrderView, NoneOpen}
+use Rattle.mono_clauses.specs.Store.{StoreView, Follows}
+use Rattle.mono_clauses.specs.declared.found.Found.{Found}
+use Rattle.mono_clauses.specs.declared.found.Found.TheVariants as found
+use Rattle.mono_learn.specs.Explain.{AtomForces}
+use Rattle.mono_search.specs.Stored.{inputs_from}
+use Rattle.mono_search.specs.TheoryLists.{shown_of}
+use Rattle.mono_search.specs.declared.theories.Forced.{Forced}
+use Rattle.mono_search.specs.State.{StateView, IsReady, IsInConflict, IsJournal, QuietAt, work_left}
+use Rattle.mono_search.specs.Outcomes.{EndsAs, is_unknown}
+use Rattle.mono_search.specs.declared.propagation.Propagated.{Propagated}
+use Rattle.mono_search.specs.declared.propagation.Propagated.TheVariants as propagated
+use Rattle.mono_search.specs.declared.search.Outcome.{Outcome}
+
+-- ---- the beginning
+
+pub record HoldsInputs (p : Instance) (t : TrailView) (s : StoreView) : Type 0 where
+  pub vars : s.vars ≡ p.vars
+  pub clauses : s.clauses ≡ inputs_from 0 p.clauses
+  pub follows : Follows s t
+
+pub record BeginsWith (p : Instance) (v : StateView) : Type 0 where
+  pub ready : IsReady v
+  pub problem : v.theories.problem ≡ p
+  pub steps : v.steps ≡ []
+
+-- ---- propagation by the clauses
+
+-- no fewer literals stand on the trail
+pub record HasGrown (v w : StateView) : Type 0 where
+  pub vars : w.trail.vars ≡ v.trail.vars
+  pub problem : w.theories.problem ≡ v.theories.problem
+  pub steps : w.steps ≡ v.steps
+  pub more : length v.trail.lits ≤ length w.trail.lits
+
+pub record ClausesQuiet (v w : StateView) : Type 0 where
+  pub grown : HasGrown v w
+  pub ready : IsReady w
+  pub units : IsTrue (unit_quiet (known_clauses w.theories.problem w.steps) w.trail.lits)
+  pub all_given : w.trail.given ≡ length w.trail.lits
+
+pub record ClauseFalse (v w : StateView) (n : ℕ) : Type 0 where
+  pub grown : HasGrown v w
+  pub conflict : IsInConflict w n
+
+abbrev pub ClausesPropagatedAs : StateView → StateView → Found → Type 0
+ClausesPropagatedAs v w found.Quiet = ClausesQuiet v w
+ClausesPropagatedAs v w (found.False n) = ClauseFalse v w n
+
+-- ---- propagation by the theories too
+
+-- an atom forces a literal that isn't true, by all literals of the trail, which were handed on
+pub record CanImply (v : StateView) (f : Forced) : Type 0 where
+  pub handed : v.theories.handed ≡ length v.trail.lits
+  pub kept : f.kept ≡ length (shown_of v.theories.facts v.trail.lits f.atom)
+  pub forces : AtomForces v.theories.problem (shown_of v.theories.facts v.trail.lits f.atom) f.atom f.lit
+  pub not_yet : is_true_in v.trail.lits f.lit ≡ false
+  pub within : IsLitWithin v.trail.vars f.lit
+
+-- neither the clauses nor the theories have anything to do
+pub record IsQuietState (w : StateView) : Type 0 where
+  pub ready : IsReady w
+  pub quiet : QuietAt w.theories.problem (known_clauses w.theories.problem w.steps) w.trail.lits
+  pub all_given : w.trail.given ≡ length w.trail.lits
+
+-- more literals stand on the trail
+pub record HasAdvanced (v w : StateView) : Type 0 where
+  pub ready : IsReady w
+  pub vars : w.trail.vars ≡ v.trail.vars
+  pub more : length v.trail.lits < length w.trail.lits
+
+pub record IsQuietAfter (v w : StateView) : Type 0 where
+  pub quiet : IsQuietState w
+  pub vars : w.trail.vars ≡ v.trail.vars
+  pub more : length v.trail.lits ≤ length w.trail.lits
+
+pub record IsInConflictAfter (v w : StateView) (n : ℕ) : Type 0 where
+  pub conflict : IsInConflict w n
+  pub vars : w.trail.vars ≡ v.trail.vars
+
+abbrev pub PropagatedAs : StateView → StateView → Propagated → Type 0
+PropagatedAs v w propagated.Quiet = IsQuietAfter v w
+PropagatedAs v w propagated.Implied = HasAdvanced v w
+PropagatedAs v w (propagated.Conflict n) = IsInConflictAfter v w n
+
+-- ---- a decision
+
+-- every variable has a value, and nothing is left to do
+pub record IsComplete (v : StateView) : Type 0 where
+  pub journal : IsJournal v.theories.problem v.steps
+  pub vars : v.trail.vars ≡ v.theories.problem.vars
+  pub sound : IsSound v.trail
+  pub quiet : QuietAt v.theories.problem (known_clauses v.theories.problem v.steps) v.trail.lits
+  pub none : NoneOpen v.trail.vars v.trail.lits
+
+-- ---- a conflict
+
+-- the variables of the literals stand in the order, and so do those that did before
+pub record Releases (o r : OrderView) (lits : List ℤ) : Type 0 where
+  pub as_many : length r.waits ≡ length o.waits
+  pub stay : (v : ℕ) → IsTrue (value_in o.waits v) → IsTrue (value_in r.waits v)
+  pub back : (l : ℤ) → IsTrue (has_lit lits l) → IsTrue (value_in r.waits (var_of l))
+
+-- one clause more was learned, within the budget
+pub record HasLearned (budget : ℕ) (v w : StateView) : Type 0 where
+  pub ready : IsReady w
+  pub vars : w.trail.vars ≡ v.trail.vars
+  pub under : chain_count v.steps < budget
+  pub chains : chain_count w.steps ≡ chain_count v.steps + 1
+
+-- the run ends. After Unknown it may go on
+pub record IsEnd (budget : ℕ) (v w : StateView) (o : Outcome) : Type 0 where
+  pub ends : EndsAs budget (chain_count v.steps) w.theories.problem w.steps o
+  pub ready : IsTrue (is_unknown o) → IsReady w
+
+abbrev pub ResolvedAs : ℕ → StateView → StateView → Option Outcome → Type 0
+ResolvedAs budget v w None = HasLearned budget v w
+ResolvedAs budget v w (Some o) = IsEnd budget v w o
+
+-- ---- a step
+
+-- the run goes on, with less to do
+pub record Continues (budget : ℕ) (v w : StateView) : Type 0 where
+  pub ready : IsReady w
+  pub chains : chain_count w.steps ≤ max budget (chain_count v.steps)
+  pub no_fewer : chain_count v.steps ≤ chain_count w.steps
+  pub less : work_left budget w < work_left budget v
+
+abbrev pub SteppedAs : ℕ → StateView → StateView → Option Outcome → Type 0
+SteppedAs budget v w None = Continues budget v w
+SteppedAs budget v w (Some o) = IsEnd budget v w o

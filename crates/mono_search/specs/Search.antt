@@ -1,0 +1,15 @@
+-- A search, as contracts see it, and what it keeps.
+use Rattle.std.specs.Prelude.{Bool, List, IsTrue}
+use Rattle.mono_problem.specs.Instance.{Instance}
+use Rattle.mono_steps.specs.declared.step.Step.{Step}
+use Rattle.mono_search.specs.State.{StateView, IsJournal, IsReady}
+
+-- the problem, the steps of the journal, and whether it may be run
+pub record SearchView : Type 0 where
+  pub problem : Instance
+  pub steps : List Step
+  pub live : Bool
+
+pub record IsSearch (v : StateView) (live : Bool) : Type 0 where
+  pub journal : IsJournal v.theories.problem v.steps
+  pub ready : IsTrue live → IsReady v

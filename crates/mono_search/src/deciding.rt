@@ -1,0 +1,91 @@
+//! Decisions, and the model when there is nothing left to decide.
+
+ghost use Rattle.std.specs.Prelude.{◌≡◌, ◌≤◌, ◌↔◌, ℕ, pos, length, false, IfOk, IsTrue};
+ghost use Rattle.mono_base.specs.declared.limits.TheConstants.{MAX_VARS};
+ghost use Rattle.mono_base.specs.Literal.{var_of, value_in};
+ghost use Rattle.mono_base.specs.Partial.{is_true_in};
+ghost use Rattle.mono_trail.specs.Moves.{IsVar};
+ghost use Rattle.mono_search.specs.Outcomes.{HasModel};
+ghost use Rattle.mono_search.specs.Runs.{IsQuietState, HasAdvanced, IsComplete};
+
+use crate::state::State;
+use mono_base::{Lit, Row, Value};
+use mono_theory::Theory;
+use mono_trail::Trail;
+use std::alloc::{AllocError, Global};
+
+impl<'p, T: Theory> State<'p, T> {
+    /// An open variable is decided, by the sign that it had last. False exactly where no variable is open.
+    pub(crate) fn decide(&mut self) -> bool
+        requires { IsQuietState self.old }
+        ensures problem { self.new.theories.problem ≡ self.old.theories.problem }
+        ensures steps { self.new.steps ≡ self.old.steps }
+        ensures decided { IsTrue result → HasAdvanced self.old self.new }
+        ensures complete { result ≡ false → IsComplete self.new }
+    {
+        let _ = self.trail.level();
+        let Some(var) = self.order.pick(&self.trail) else {
+            return false;
+        };
+        let lit = literal(var, self.order.phase(var));
+        self.trail.decide(lit);
+        let _ = self.trail.level();
+        true
+    }
+
+    /// The values of the variables, where each has one and nothing is left to do.
+    pub(crate) fn model(&self, alloc: Global) -> Result<Row<bool>, AllocError>
+        requires { IsComplete self.now }
+        ensures { IfOk result (HasModel self.now.theories.problem) }
+    {
+        let problem = self.theories.problem();
+        let _ = problem.vars();
+        values_of(alloc, &self.trail)
+    }
+}
+
+/// The literal that a variable is true.
+fn positive(var: u32) -> Lit
+    requires low { 1 ≤ var }
+    requires high { var ≤ MAX_VARS }
+    ensures { result ≡ pos var }
+{
+    match Lit::new(var as i32) {
+        Some(lit) => lit,
+        None => unreachable!(),
+    }
+}
+
+/// The literal of a variable with this sign.
+fn literal(var: u32, sign: bool) -> Lit
+    requires low { 1 ≤ var }
+    requires high { var ≤ MAX_VARS }
+    ensures { var_of result ≡ var }
+{
+    let lit = positive(var);
+    if sign { lit } else { lit.negated() }
+}
+
+/// Whether each variable is true, variable 1 first.
+fn values_of(alloc: Global, trail: &Trail) -> Result<Row<bool>, AllocError>
+    ensures len { IfOk result (λ values. length values ≡ trail.now.vars) }
+    ensures values { IfOk result (λ values. (v : ℕ) → IsVar trail.now.vars v → value_in values v ≡ is_true_in trail.now.lits (pos v)) }
+{
+    let _ = trail.level();
+    let mut values = Vec::new(alloc);
+    for place in 0..trail.vars() {
+        let value = trail.value(positive(place + 1));
+        values.push(is_yes(value))?;
+    }
+    Ok(Row::from_vec(values))
+}
+
+fn is_yes(value: Value) -> bool
+    ensures { IsTrue result ↔ (value ≡ Value.Yes) }
+{
+    match value {
+        Value::Yes => true,
+        Value::No => false,
+        Value::Unset => false,
+    }
+}

@@ -1,0 +1,144 @@
+//! What a conflict leads to: the end, or one clause more.
+
+ghost use Rattle.std.specs.Prelude.{◌≡◌, ◌≤◌, ◌+◌, length, All, IfOk, OnOk, IsTrue};
+ghost use Rattle.mono_base.specs.Literal.{IsLitWithin};
+ghost use Rattle.mono_steps.specs.Steps.{are_justified, clauses_after, is_refutation};
+ghost use Rattle.mono_steps.specs.Journals.{chain_count};
+ghost use Rattle.mono_search.specs.State.{IsJournal, IsConsistent, IsReady, IsInConflict};
+ghost use Rattle.mono_search.specs.Runs.{ResolvedAs};
+
+use crate::backjumping::backjump;
+use crate::restarts::Restarts;
+use crate::search::Outcome;
+use crate::state::State;
+use mono_base::Lit;
+use mono_learn::{analyse, refute};
+use mono_problem::Problem;
+use mono_steps::{Journal, Step};
+use mono_theory::Theory;
+use mono_trail::Order;
+use std::alloc::{AllocError, Global};
+
+impl<'p, T: Theory> State<'p, T> {
+    /// A conflict at level 0 is the end. Above, a clause is learned, or the budget is spent.
+    pub(crate) fn resolve(
+        &mut self,
+        alloc: Global,
+        restarts: &mut Restarts,
+        budget: u64,
+        conflict: u64,
+    ) -> Result<Option<Outcome>, AllocError>
+        requires { IsInConflict self.old conflict }
+        ensures problem { self.new.theories.problem ≡ self.old.theories.problem }
+        ensures journal { IsJournal self.new.theories.problem self.new.steps }
+        ensures ends { IfOk result (ResolvedAs budget self.old self.new) }
+    {
+        if self.trail.level() == 0 {
+            self.refute(alloc, conflict)?;
+            return Ok(Some(Outcome::Unsat));
+        }
+        if self.learned() >= budget {
+            self.restart();
+            return Ok(Some(Outcome::Unknown));
+        }
+        self.learn(alloc, conflict, restarts.count_clause())?;
+        Ok(None)
+    }
+
+    /// How many clauses were learned.
+    fn learned(&self) -> u64
+        requires { IsConsistent self.now }
+        ensures { result ≡ chain_count self.now.steps }
+    {
+        self.store.len() as u64 - u64::from(self.theories.problem().clause_count())
+    }
+
+    /// The clause that a conflict above level 0 teaches joins, and the search goes back to where it is unit, or to the
+    /// beginning where a restart comes.
+    fn learn(&mut self, alloc: Global, conflict: u64, restarts: bool) -> Result<(), AllocError>
+        requires conflict { IsInConflict self.old conflict }
+        requires level { 1 ≤ self.old.trail.level }
+        ensures problem { self.new.theories.problem ≡ self.old.theories.problem }
+        ensures journal { IsJournal self.new.theories.problem self.new.steps }
+        ensures ready { OnOk result (IsReady self.new) }
+        ensures chains { OnOk result (chain_count self.new.steps ≡ chain_count self.old.steps + 1) }
+    {
+        let problem = self.theories.problem();
+        let learnt = analyse(
+            alloc,
+            problem,
+            &mut self.trail,
+            &mut self.journal,
+            &mut self.theories,
+            conflict,
+        )?;
+        let _ = self.trail.level();
+        bump_resolved(&mut self.order, problem, &self.journal);
+        let level = level_after(restarts, learnt.back_to);
+        backjump(&mut self.theories, &mut self.trail, &mut self.order, level);
+        self.store
+            .add(learnt.number, learnt.clause.lits(), &self.trail)
+    }
+
+    /// The empty clause follows from a conflict at level 0.
+    fn refute(&mut self, alloc: Global, conflict: u64) -> Result<(), AllocError>
+        requires conflict { IsInConflict self.old conflict }
+        requires level { self.old.trail.level ≡ 0 }
+        ensures problem { self.new.theories.problem ≡ self.old.theories.problem }
+        ensures journal { IsJournal self.new.theories.problem self.new.steps }
+        ensures refuted { OnOk result (IsTrue (is_refutation self.new.theories.problem self.new.steps)) }
+    {
+        let problem = self.theories.problem();
+        refute(
+            alloc,
+            problem,
+            &mut self.trail,
+            &mut self.journal,
+            &mut self.theories,
+            conflict,
+        )?;
+        Ok(())
+    }
+}
+
+/// The variables of the clauses that the last chain resolved come earlier, by a bump for each place where they stand
+/// (Goldberg and Novikov's BerkMin), and earlier bumps count for less.
+fn bump_resolved(order: &mut Order, problem: &Problem, journal: &Journal)
+    requires vars { length order.old.waits ≡ problem.now.vars }
+    requires justified { IsTrue (are_justified problem.now journal.now) }
+    ensures { order.new ≡ order.old }
+{
+    let _ = problem.vars();
+    if let Some(Step::Chain(chain)) = journal.steps().last() {
+        bump_clauses(order, problem, journal, chain.used.as_slice());
+    }
+    order.decay();
+}
+
+/// The variables of the clauses of these numbers come earlier.
+fn bump_clauses(order: &mut Order, problem: &Problem, journal: &Journal, numbers: &[u64])
+    requires within { All (All (IsLitWithin (length order.old.waits))) (clauses_after problem.now journal.now) }
+    requires held { All (λ n. (1 ≤ n) × (n ≤ length (clauses_after problem.now journal.now))) numbers.now }
+    ensures { order.new ≡ order.old }
+{
+    for number in numbers {
+        bump(order, journal.clause(problem, *number));
+    }
+}
+
+/// The variables of the literals come earlier.
+fn bump(order: &mut Order, lits: &[Lit])
+    requires { All (IsLitWithin (length order.old.waits)) lits.now }
+    ensures { order.new ≡ order.old }
+{
+    for lit in lits {
+        order.bump(lit.var());
+    }
+}
+
+/// The level to go back to: the lowest where a restart comes.
+fn level_after(restarts: bool, back_to: u32) -> u32
+    ensures { result ≤ back_to }
+{
+    if restarts { 0 } else { back_to }
+}

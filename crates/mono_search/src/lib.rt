@@ -1,0 +1,34 @@
+//! The search of a solver for SAT modulo monotonic graph theories: conflict-driven clause learning over clauses and
+//! theories (Marques-Silva and Sakallah's GRASP, Een and Sorensson's MiniSat, Bayless et al. 2015).
+//!
+//! Clauses and theories say what follows from the literals of the trail. A conflict teaches a clause, and the search goes
+//! back below it; where all is quiet a variable is decided. Whatever theories there are: a model satisfies the problem,
+//! a refutation is justified step by step, and each learned clause is one that unit propagation didn't already give.
+#![tactic(auto)]
+
+/// What one of a list of theories forces, and its lemmas.
+mod asking;
+/// Going back to a lower level.
+mod backjumping;
+/// Which theories each variable concerns.
+mod concerns;
+/// Decisions, and the model when there is nothing left to decide.
+mod deciding;
+/// Handing literals to theories, and taking them back.
+mod handing;
+/// What a conflict leads to.
+mod learning;
+/// What follows from the literals of the trail.
+mod propagation;
+/// When the search begins anew.
+mod restarts;
+/// Steps of the search until it ends.
+mod running;
+/// The search, as its callers see it.
+mod search;
+/// What a search works on.
+mod state;
+/// A problem and the theories that own its atoms.
+mod theories;
+
+pub use search::{Outcome, Search};

@@ -1,0 +1,57 @@
+//! Steps of the search until it ends: propagate, and then learn from a conflict, or decide.
+
+ghost use Rattle.std.specs.Prelude.{◌≡◌, IfOk};
+ghost use Rattle.mono_search.specs.State.{IsJournal, IsReady};
+ghost use Rattle.mono_search.specs.Runs.{SteppedAs, IsEnd};
+
+use crate::propagation::Propagated;
+use crate::restarts::Restarts;
+use crate::search::Outcome;
+use crate::state::State;
+use mono_theory::Theory;
+use std::alloc::{AllocError, Global};
+
+impl<'p, T: Theory> State<'p, T> {
+    /// Steps until the end. It comes, since with each step clauses are learned, or variables get values.
+    pub(crate) fn run(
+        &mut self,
+        alloc: Global,
+        restarts: &mut Restarts,
+        budget: u64,
+    ) -> Result<Outcome, AllocError>
+        requires { IsReady self.old }
+        ensures problem { self.new.theories.problem ≡ self.old.theories.problem }
+        ensures journal { IsJournal self.new.theories.problem self.new.steps }
+        ensures ends { IfOk result (IsEnd budget self.old self.new) }
+    {
+        loop {
+            if let Some(outcome) = self.step(alloc, restarts, budget)? {
+                return Ok(outcome);
+            }
+        }
+    }
+
+    /// Propagation, and what it leads to.
+    fn step(
+        &mut self,
+        alloc: Global,
+        restarts: &mut Restarts,
+        budget: u64,
+    ) -> Result<Option<Outcome>, AllocError>
+        requires { IsReady self.old }
+        ensures problem { self.new.theories.problem ≡ self.old.theories.problem }
+        ensures journal { IsJournal self.new.theories.problem self.new.steps }
+        ensures ends { IfOk result (SteppedAs budget self.old self.new) }
+    {
+        match self.propagate()? {
+            Propagated::Implied => Ok(None),
+            Propagated::Conflict(number) => self.resolve(alloc, restarts, budget, number),
+            Propagated::Quiet => {
+                if self.decide() {
+                    return Ok(None);
+                }
+                Ok(Some(Outcome::Sat(self.model(alloc)?)))
+            }
+        }
+    }
+}

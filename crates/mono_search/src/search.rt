@@ -1,0 +1,118 @@
+//! The search, as its callers see it.
+
+ghost use Rattle.std.specs.Prelude.{◌≡◌, ◌≤◌, true, [], All, IfOk, IsTrue};
+ghost use Rattle.mono_steps.specs.Steps.{are_justified};
+ghost use Rattle.mono_steps.specs.Journals.{chain_count};
+ghost use Rattle.mono_steps.specs.New.{HasNewChains};
+ghost use Rattle.mono_theory.specs.Owners.{facts_of, OwnsEach};
+ghost use Rattle.mono_search.specs.Outcomes.{EndsAs, is_unknown as is_unknown_outcome, stays_live};
+
+use crate::restarts::Restarts;
+use crate::state::State;
+use mono_base::Row;
+use mono_problem::Problem;
+use mono_steps::Journal;
+use mono_theory::Theory;
+use std::alloc::{AllocError, Global};
+use std::marker::Model;
+
+/// How a run ends.
+#[derive(Drop)]
+pub enum Outcome {
+    /// These values of the variables, variable 1 first, satisfy the problem.
+    Sat(Row<bool>),
+    /// No values do: the journal is a refutation.
+    Unsat,
+    /// The budget was spent.
+    Unknown,
+}
+
+/// A search for values of a problem's variables, over the theories that own its atoms.
+///
+/// Contracts see the problem, the steps of the journal, and whether the search may be run. No learned clause is forgotten.
+#[derive(Drop)]
+pub struct Search<'p, T: Theory> {
+    alloc: Global,
+    state: State<'p, T>,
+    restarts: Restarts,
+    live: bool,
+}
+
+impl<'p, T: Theory> Model for Search<'p, T> {
+    ghost use Rattle.mono_search.specs.Search.{SearchView, IsSearch};
+
+    ghost Value = { SearchView };
+
+    ghost view = { λ s. record { problem = s.state.theories.problem; steps = s.state.steps; live = s.live } };
+
+    ghost invariant = { λ s. IsSearch s.state s.live };
+}
+
+impl<'p, T: Theory> Search<'p, T> {
+    /// A search that is live, and whose journal is empty.
+    ///
+    /// The theories own each atom exactly once, their graphs are the problem's, and they have seen nothing. On want of
+    /// memory they are dropped.
+    pub fn new(
+        alloc: Global,
+        problem: &'p Problem,
+        theories: Vec<T>,
+    ) -> Result<Search<'p, T>, AllocError>
+        requires owns { OwnsEach problem.now (facts_of T.graph T.atoms T.seen theories.items) }
+        requires unseen { All (λ f. f.seen ≡ []) (facts_of T.graph T.atoms T.seen theories.items) }
+        ensures { IfOk result (λ s. s ≡ record { problem = problem.now; steps = []; live = true }) }
+    {
+        let state = State::new(alloc, problem, theories)?;
+        Ok(Search {
+            alloc,
+            state,
+            restarts: Restarts::new(),
+            live: true,
+        })
+    }
+
+    /// Whether the search may be run: false exactly after Sat, after Unsat and after want of memory in `run`.
+    pub fn is_live(&self) -> bool
+        ensures { result ≡ self.now.live }
+    {
+        self.live
+    }
+
+    /// Searches until there is an answer, or a conflict comes when as many clauses were learned as the budget says.
+    ///
+    /// Learned clauses count from the search's beginning. After `Unknown` it may be run again, with any budget of at least
+    /// 1. The steps of the journal stay justified, and its chains new, also after want of memory.
+    pub fn run(&mut self, budget: u64) -> Result<Outcome, AllocError>
+        requires live { IsTrue self.old.live }
+        requires budget { 1 ≤ budget }
+        ensures problem { self.new.problem ≡ self.old.problem }
+        ensures ends { IfOk result (EndsAs budget (chain_count self.old.steps) self.new.problem self.new.steps) }
+        ensures live { self.new.live ≡ stays_live result }
+        ensures justified { IsTrue (are_justified self.new.problem self.new.steps) }
+        ensures fresh { HasNewChains self.new.problem self.new.steps }
+    {
+        self.live = false;
+        let outcome = self.state.run(self.alloc, &mut self.restarts, budget)?;
+        self.live = is_unknown(&outcome);
+        Ok(outcome)
+    }
+
+    /// The steps made so far.
+    pub fn journal(&self) -> &Journal
+        ensures steps { result.now ≡ self.now.steps }
+        ensures justified { IsTrue (are_justified self.now.problem self.now.steps) }
+        ensures fresh { HasNewChains self.now.problem self.now.steps }
+    {
+        self.state.journal()
+    }
+}
+
+fn is_unknown(outcome: &Outcome) -> bool
+    ensures { result ≡ is_unknown_outcome outcome.now }
+{
+    match outcome {
+        Outcome::Sat(_) => false,
+        Outcome::Unsat => false,
+        Outcome::Unknown => true,
+    }
+}

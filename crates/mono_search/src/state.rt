@@ -1,0 +1,83 @@
+//! What a search works on.
+//!
+//! `specs/State.antt` says what holds between steps. Its heart: the literals before each decision leave the clauses and
+//! the theories nothing to do. A conflict above level 0 therefore has a literal of the present level, and the clause that
+//! it teaches is new. The clauses in the store are those of the problem and of the journal's chains.
+
+ghost use Rattle.std.specs.Prelude.{◌≡◌, [], All, IfOk};
+ghost use Rattle.mono_trail.specs.TrailView.{no_literals};
+ghost use Rattle.mono_theory.specs.Owners.{facts_of, OwnsEach};
+ghost use Rattle.mono_search.specs.Runs.{BeginsWith, HoldsInputs};
+
+use crate::theories::Theories;
+use mono_clauses::ClauseStore;
+use mono_problem::Problem;
+use mono_steps::Journal;
+use mono_theory::Theory;
+use mono_trail::{Order, Trail};
+use std::alloc::{AllocError, Global};
+use std::marker::Model;
+
+/// A problem with its theories, and what was found out about it.
+#[derive(Drop)]
+pub struct State<'p, T: Theory> {
+    pub(crate) theories: Theories<'p, T>,
+    pub(crate) trail: Trail,
+    pub(crate) store: ClauseStore,
+    pub(crate) journal: Journal,
+    pub(crate) order: Order,
+}
+
+impl<'p, T: Theory> Model for State<'p, T> {
+    ghost use Rattle.mono_search.specs.State.{StateView};
+
+    ghost Value = { StateView };
+
+    ghost view = { λ s. record { theories = s.theories; trail = s.trail; store = s.store; steps = s.journal; order = s.order } };
+}
+
+impl<'p, T: Theory> State<'p, T> {
+    /// Nothing was found out.
+    pub fn new(
+        alloc: Global,
+        problem: &'p Problem,
+        theories: Vec<T>,
+    ) -> Result<State<'p, T>, AllocError>
+        requires owns { OwnsEach problem.now (facts_of T.graph T.atoms T.seen theories.items) }
+        requires unseen { All (λ f. f.seen ≡ []) (facts_of T.graph T.atoms T.seen theories.items) }
+        ensures { IfOk result (BeginsWith problem.now) }
+    {
+        let vars = problem.vars();
+        let order = Order::new(alloc, vars)?;
+        let trail = Trail::new(alloc, vars)?;
+        let _ = trail.level();
+        let store = input_store(alloc, problem, &trail)?;
+        let theories = Theories::new(alloc, problem, theories)?;
+        Ok(State {
+            theories,
+            trail,
+            store,
+            journal: Journal::new(alloc),
+            order,
+        })
+    }
+
+    /// The steps made so far.
+    pub fn journal(&self) -> &Journal
+        ensures { result.now ≡ self.now.steps }
+    {
+        &self.journal
+    }
+}
+
+/// A store of the problem's clauses.
+fn input_store(alloc: Global, problem: &Problem, trail: &Trail) -> Result<ClauseStore, AllocError>
+    requires { trail.now ≡ no_literals problem.now.vars }
+    ensures { IfOk result (HoldsInputs problem.now trail.now) }
+{
+    let mut store = ClauseStore::new(alloc, problem.vars())?;
+    for place in 0..problem.clause_count() {
+        store.add(u64::from(place) + 1, problem.clause(place + 1), trail)?;
+    }
+    Ok(store)
+}

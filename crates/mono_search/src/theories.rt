@@ -1,0 +1,146 @@
+//! A problem and the theories that own its atoms.
+//!
+//! Each theory is handed the literals of the trail whose variables concern it, in order and each once. Contracts see a
+//! theory as a plain record of its graph, its atoms and the literals that it has seen, so a call changes the whole list of
+//! theories by one `map`. Together they explain the literals that were forced without a lemma.
+
+ghost use Rattle.std.specs.Prelude.{◌≡◌, ◌≤◌, length, All, IfOk, MatchOption, IsTrue};
+ghost use Rattle.mono_base.specs.Literal.{IsLitWithin};
+ghost use Rattle.mono_base.specs.Partial.{is_partial};
+ghost use Rattle.mono_theory.specs.Owners.{facts_of};
+ghost use Rattle.mono_search.specs.TheoryLists.{seen_of, IsQuietTheory, IsShort, AnyForces};
+ghost use Rattle.mono_theory.specs.Owners.{OwnsEach};
+ghost use Rattle.mono_search.specs.Theories.{HaveSeen, having_seen};
+
+use crate::asking::{explain_by_owner, force_any};
+use crate::concerns::concern_table;
+use crate::handing::{hand_to, take_back_from_each};
+use mono_base::Lit;
+use mono_graph::Buckets;
+use mono_learn::Explainer;
+use mono_problem::Problem;
+use mono_steps::Lemma;
+use mono_theory::Theory;
+use std::alloc::{AllocError, Global};
+use std::marker::Model;
+
+/// A literal that an atom forces, and how many literals its theory has seen.
+#[derive(Clone, Copy, Debug, PartialEq, Eq)]
+pub struct Forced {
+    pub atom: u32,
+    pub lit: Lit,
+    pub kept: u32,
+}
+
+/// A problem and its theories.
+#[derive(Drop)]
+pub struct Theories<'p, T: Theory> {
+    problem: &'p Problem,
+    theories: Vec<T>,
+    /// The places of the theories that each variable concerns.
+    concerned: Buckets<usize>,
+    /// Room for a number for each theory.
+    counts: Vec<usize>,
+    /// So many literals of the trail were handed on.
+    handed: usize,
+}
+
+impl<'p, T: Theory> Model for Theories<'p, T> {
+    ghost use Rattle.mono_theory.specs.Owners.{facts_of};
+    ghost use Rattle.mono_search.specs.Theories.{TheoriesView, IsKept};
+    ghost use Rattle.std.specs.Prelude.{length};
+
+    ghost Value = { TheoriesView };
+
+    ghost view = { λ b. record { problem = b.problem.now; facts = facts_of T.graph T.atoms T.seen b.theories.items; handed = b.handed } };
+
+    ghost invariant = { λ b. IsKept b.problem.now (facts_of T.graph T.atoms T.seen b.theories.items) b.concerned (length b.counts.items) };
+}
+
+impl<'p, T: Theory> Theories<'p, T> {
+    /// No literal was handed on.
+    pub fn new(
+        alloc: Global,
+        problem: &'p Problem,
+        theories: Vec<T>,
+    ) -> Result<Theories<'p, T>, AllocError>
+        requires owns { OwnsEach problem.now (facts_of T.graph T.atoms T.seen theories.items) }
+        ensures { IfOk result (λ b. b ≡ record { problem = problem.now; facts = facts_of T.graph T.atoms T.seen theories.items; handed = 0 }) }
+    {
+        let concerned = concern_table(alloc, problem.vars(), theories.as_slice())?;
+        let counts = vec![in alloc; 0; theories.len()]?;
+        Ok(Theories {
+            problem,
+            theories,
+            concerned,
+            counts,
+            handed: 0,
+        })
+    }
+
+    /// The problem.
+    pub fn problem(&self) -> &'p Problem
+        ensures problem { result.now ≡ self.now.problem }
+        ensures owns { OwnsEach self.now.problem self.now.facts }
+    {
+        self.problem
+    }
+
+    /// How many literals were handed on.
+    pub fn handed(&self) -> usize
+        ensures { result ≡ self.now.handed }
+    {
+        self.handed
+    }
+
+    /// Each theory is handed what concerns it of the literals that were not handed on yet.
+    pub fn hand_on(&mut self, lits: &[Lit])
+        requires shown { HaveSeen self.old lits.now }
+        requires partial { IsTrue (is_partial lits.now) }
+        requires within { All (IsLitWithin self.old.problem.vars) lits.now }
+        ensures { self.new ≡ having_seen self.old lits.now (length lits.now) }
+    {
+        while self.handed < lits.len() {
+            let lit = lits[self.handed];
+            hand_to(&mut self.theories, self.concerned.list(lit.var()), lit);
+            self.handed += 1;
+        }
+    }
+
+    /// Each theory goes back to what concerns it of the first `kept` literals, where it has seen more.
+    pub fn take_back(&mut self, lits: &[Lit], kept: usize)
+        requires shown { HaveSeen self.old lits.now }
+        requires fewer { kept ≤ self.old.handed }
+        requires within { All (IsLitWithin self.old.problem.vars) lits.now }
+        ensures { self.new ≡ having_seen self.old lits.now kept }
+    {
+        take_back_from_each(
+            &mut self.theories,
+            &mut self.counts,
+            &self.concerned,
+            &lits[..self.handed],
+            kept,
+        );
+        self.handed = kept;
+    }
+
+    /// A literal that an atom forces, if there is one.
+    pub fn force(&mut self) -> Result<Option<Forced>, AllocError>
+        requires { All IsShort self.old.facts }
+        ensures same { self.new ≡ self.old }
+        ensures answer { IfOk result (λ r. MatchOption r (All IsQuietTheory self.old.facts) (AnyForces self.old.facts)) }
+    {
+        force_any(&mut self.theories)
+    }
+}
+
+impl<'p, T: Theory> Explainer for Theories<'p, T> {
+    ghost problem = { λ b. b.problem };
+
+    ghost shown = { λ b n. seen_of b.facts n };
+
+    fn explain(&mut self, atom: u32, lit: Lit, kept: u32) -> Result<Lemma, AllocError> {
+        let _vars = self.problem.vars();
+        explain_by_owner(&mut self.theories, atom, lit, kept as usize)
+    }
+}

@@ -1,0 +1,254 @@
+-- Evidence decides its predicate, and the lemma that it makes is shown by the graph and the atom alone.
+use Rattle.std.proofs.Common.{◌≡◌, ℕ, zero, suc, ◌<◌, ◌≤◌, Bool, true, false, not, ◌&&◌, cond, List, [], ◌∷◌, length, map, get_or, eqb, eq-eqb, refl, sym, ap, subst, ◌∙◌, inl, inr, arith, ℤ, pos, neg_ℤ, nat_abs, int_lt, All}
+use Rattle.std.specs.Prelude.{IsTrue, Option, Some, MatchOption}
+use Rattle.std.specs.List.{list_any}
+use Rattle.std.specs.Ordering.{int_eq}
+use Rattle.std.proofs.lemmas.Int.{ints}
+use Rattle.std.proofs.lemmas.Bool.{or_cases, or_left, or_right, and_from, and_parts, both_ways, not-true, false_from_ne_true, cases_Bool}
+use Rattle.std.proofs.lemmas.List.Folds.{list_any_at}
+use Rattle.std.proofs.lemmas.List.FromFn.{get_or-map-range_with_len, length-map-range_with_len}
+use Rattle.mono_base.specs.Literal.{has_lit, var_of, without}
+use Rattle.mono_base.specs.Partial.{is_true_in, is_false_in, others_false}
+use Rattle.mono_base.proofs.Partials.{neg-neg, var-neg}
+use Rattle.mono_base.proofs.Truth.{same_lit, lit_itself}
+use Rattle.mono_graph.specs.declared.edge.Edge.{Edge}
+use Rattle.mono_graph.specs.Digraph.{Digraph, IsGraph, IsSubpart, edge_at, no_edge, present, places, has}
+use Rattle.mono_graph.proofs.Membership.{has_cons}
+use Rattle.mono_graph.proofs.Places.{present_below}
+use Rattle.mono_graph.proofs.Parts.{length-part_by, in_part_by, part_by-has}
+use Rattle.mono_problem.specs.declared.atom.Atom.{Atom}
+use Rattle.mono_problem.specs.declared.atom.Predicate.{Predicate}
+use Rattle.mono_problem.specs.Holds.{Holds}
+use Rattle.mono_problem.specs.WellFormed.{IsOver}
+use Rattle.mono_problem.specs.Quiet.{under, over, Forces}
+use Rattle.mono_steps.specs.declared.lemma.Witness.{Witness}
+use Rattle.mono_steps.specs.Witnesses.{serves, names_known, is_small, is_positive, passes, part_not, part_free, is_shown}
+use Rattle.mono_steps.proofs.Sets.{all_lits, has-without}
+use Rattle.mono_steps.specs.Switching.{literal_of}
+use Rattle.mono_steps.proofs.Witnessed.{positive_holds, negative_excludes, passing_serves, passes-larger, passes-smaller}
+use Rattle.mono_theory.specs.declared.evidence.Evidence.{Evidence}
+use Rattle.mono_theory.specs.Theories.{concerns_of, atom_of, IsLemmaOf}
+use Rattle.mono_theory.specs.Evidences.{Decides, only, all_but, IsEvidence, lemma_by, side}
+use Rattle.mono_theory.specs.Frames.{IsVar}
+use Rattle.mono_theory.proofs.Pigeons.{all_has}
+
+-- ---- lists of places
+
+map_has : (f : ℕ → ℤ) (ks : List ℕ) (k : ℕ) → IsTrue (has ks k) → IsTrue (has_lit (map f ks) (f k))
+map_has f [] k h = absurd cc
+map_has f (j ∷ ks) k h = elim (has_cons j k ks h) [
+  | inl e ↦ or_left (int_eq (f k) (f j)) (has_lit (map f ks) (f k)) (subst (λ (i : ℕ). IsTrue (int_eq (f k) (f i))) (sym e) (lit_itself (f k)))
+  | inr t ↦ or_right (int_eq (f k) (f j)) (has_lit (map f ks) (f k)) (map_has f ks k t)
+]
+
+record From (f : ℕ → ℤ) (ks : List ℕ) (l : ℤ) : Type 0 where
+  pub place : ℕ
+  pub has : IsTrue (has ks place)
+  pub is : l ≡ f place
+
+from_map : (f : ℕ → ℤ) (ks : List ℕ) (l : ℤ) → IsTrue (has_lit (map f ks) l) → From f ks l
+from_map f [] l h = absurd cc
+from_map f (j ∷ ks) l h = elim (or_cases (int_eq l (f j)) (has_lit (map f ks) l) h) [
+  | inl e ↦ record { place = j; has = or_left (eqb j j) (has ks j) (eq-eqb j j refl); is = same_lit l (f j) e }
+  | inr t ↦ (let r = from_map f ks l t in record { place = r.place; has = or_right (eqb j r.place) (has ks r.place) r.has; is = r.is })
+]
+
+-- ---- the part of some places alone, and that of all others
+
+at_place : (f : ℕ → Bool) (g : Digraph) (k : ℕ) → k < length g.edges → present (map f (places g)) k ≡ f k
+at_place f g k lt = get_or-map-range_with_len f 0 (length g.edges) k k false lt (omega arith)
+
+below : (f : ℕ → Bool) (g : Digraph) (k : ℕ) → IsTrue (present (map f (places g)) k) → k < length g.edges
+below f g k h = let lt = present_below (map f (places g)) k h in omega (arith, lt, length-map-range_with_len f 0 (length g.edges))
+
+-- a place of the list is in the part of these alone, and not in that of all others
+pub in_only : (g : Digraph) (ks : List ℕ) (k : ℕ) → k < length g.edges → IsTrue (has ks k) → IsTrue (present (only g ks) k)
+in_only g ks k lt h = at_place (has ks) g k lt ∙ h
+
+pub not_in_all_but : (g : Digraph) (ks : List ℕ) (k : ℕ) → k < length g.edges → IsTrue (has ks k) → present (all_but g ks) k ≡ false
+not_in_all_but g ks k lt h = at_place (λ j. not (has ks j)) g k lt ∙ ap not h
+
+pub in_all_but : (g : Digraph) (ks : List ℕ) (k : ℕ) → k < length g.edges → has ks k ≡ false → present (all_but g ks) k ≡ true
+in_all_but g ks k lt h = at_place (λ j. not (has ks j)) g k lt ∙ ap not h
+
+only-within : (g : Digraph) (ks : List ℕ) (P : List Bool) → ((k : ℕ) → IsTrue (has ks k) → IsTrue (present P k)) → IsSubpart (only g ks) P
+only-within g ks P h = record { keeps = λ k here. h k (sym (at_place (has ks) g k (below (has ks) g k here)) ∙ here) }
+
+within-all_but : (g : Digraph) (ks : List ℕ) (P : List Bool) → length P ≡ length g.edges → ((k : ℕ) → IsTrue (has ks k) → present P k ≡ false) → IsSubpart P (all_but g ks)
+within-all_but g ks P len h = record {
+  keeps = λ k here.
+      let lt = present_below P k here in
+      at_place (λ j. not (has ks j)) g k (omega (arith, lt, len)) ∙ ap not (false_from_ne_true (has ks k) (λ t. both_ways (present P k) (h k t) here));
+}
+
+-- ---- by the sign of the witness
+
+-- what evidence says, where the sign of its witness is b
+pub record IsSided (g : Digraph) (P : List Bool) (q : Predicate) (e : Evidence) (b : Bool) : Type 0 where
+  pub sign : is_positive e.witness ≡ b
+  pub known : IsTrue (names_known g e.witness)
+  pub small : IsTrue (is_small e.witness)
+  pub sided : (k : ℕ) → IsTrue (has e.edges k) → (k < length g.edges) × (present P k ≡ b)
+  pub passes : IsTrue (passes g (cond b (only g e.edges) (all_but g e.edges)) q e.witness)
+
+pub by_sign : {g : Digraph} {P : List Bool} {q : Predicate} {e : Evidence} {b : Bool} → is_positive e.witness ≡ b → IsEvidence g P q e → IsSided g P q e b
+by_sign {g = g} {P = P} {q = q} {e = e} {b = b} s h = record {
+  sign = s;
+  known = h.known;
+  small = h.small;
+  sided = λ k t. let a = all_has (λ j. (j < length g.edges) × (present P j ≡ is_positive e.witness)) e.edges k h.sided t in (a.0, a.1 ∙ s);
+  passes = subst (λ (c : Bool). IsTrue (passes g (cond c (only g e.edges) (all_but g e.edges)) q e.witness)) s h.passes;
+}
+
+pub up_holds : {g : Digraph} {P : List Bool} {q : Predicate} {e : Evidence} → IsSided g P q e true → Holds g P q
+up_holds {g = g} {P = P} {q = q} {e = e} h =
+    positive_holds g P q e.witness h.sign (passes-larger g (only g e.edges) P q e.witness (only-within g e.edges P (λ k t. (h.sided k t).1)) h.sign h.passes)
+
+pub down_fails : {g : Digraph} {P : List Bool} {q : Predicate} {e : Evidence} → IsGraph g → IsOver g q → length P ≡ length g.edges → IsSided g P q e false → ¬ Holds g P q
+down_fails {g = g} {P = P} {q = q} {e = e} ok over len h =
+    negative_excludes g P q e.witness ok over len h.sign (passes-smaller g P (all_but g e.edges) q e.witness (within-all_but g e.edges P len (λ k t. (h.sided k t).1)) h.sign h.passes)
+
+-- evidence decides its predicate
+pub decides : (g : Digraph) (P : List Bool) (q : Predicate) (e : Evidence) → IsGraph g → IsOver g q → length P ≡ length g.edges → IsEvidence g P q e → Decides g P q (is_positive e.witness)
+decides g P q e ok over len h = elim (cases_Bool (is_positive e.witness)) [
+  | inl s ↦ subst (Decides g P q) (sym s) (up_holds (by_sign s h))
+  | inr s ↦ subst (Decides g P q) (sym s) (down_fails ok over len (by_sign s h))
+]
+
+-- ---- the lemma is shown
+
+clause_at : Digraph → Atom → List ℕ → Bool → List ℤ
+clause_at g x ks b = literal_of b x.var ∷ map (λ k. literal_of (not b) (edge_at g k).var) ks
+
+in_clause : (g : Digraph) (x : Atom) (ks : List ℕ) (b : Bool) (k : ℕ) → IsTrue (has ks k) → IsTrue (has_lit (clause_at g x ks b) (literal_of (not b) (edge_at g k).var))
+unfolding clause_at
+in_clause g x ks b k t = or_right (int_eq (literal_of (not b) (edge_at g k).var) (literal_of b x.var)) (has_lit (map (λ j. literal_of (not b) (edge_at g j).var) ks) (literal_of (not b) (edge_at g k).var)) (map_has (λ j. literal_of (not b) (edge_at g j).var) ks k t)
+
+head_in : (g : Digraph) (x : Atom) (ks : List ℕ) (b : Bool) → IsTrue (has_lit (clause_at g x ks b) (literal_of b x.var))
+unfolding clause_at
+head_in g x ks b = or_left (int_eq (literal_of b x.var) (literal_of b x.var)) _ (lit_itself (literal_of b x.var))
+
+up_passes : {g : Digraph} {P : List Bool} {q : Predicate} {e : Evidence} (x : Atom) → IsSided g P q e true → IsTrue (passes g (part_not (clause_at g x e.edges true) g) q e.witness)
+up_passes {g = g} {P = P} {q = q} {e = e} x h =
+    let c : List ℤ = clause_at g x e.edges true in
+    passes-larger g (only g e.edges) (part_not c g) q e.witness
+    (only-within g e.edges (part_not c g) (λ k t. part_by-has (λ d. has_lit c (neg_ℤ (pos d.var))) g k (h.sided k t).0 (in_clause g x e.edges true k t))) h.sign h.passes
+
+down_passes : {g : Digraph} {P : List Bool} {q : Predicate} {e : Evidence} (x : Atom) → IsSided g P q e false → IsTrue (passes g (part_free (clause_at g x e.edges false) g) q e.witness)
+down_passes {g = g} {P = P} {q = q} {e = e} x h =
+    let c : List ℤ = clause_at g x e.edges false in
+    passes-smaller g (part_free c g) (all_but g e.edges) q e.witness
+    (within-all_but g e.edges (part_free c g) (length-part_by _ g) (λ k t.
+    false_from_ne_true (present (part_free c g) k) (λ on. both_ways (has_lit c (pos (edge_at g k).var)) (not-true _ (in_part_by (λ d. not (has_lit c (pos d.var))) g k on)) (in_clause g x e.edges false k t)))) h.sign h.passes
+
+-- a lemma with a clause and a witness is shown where the witness passes over the clause's part
+shown_of : Digraph → Atom → List ℤ → Witness → Bool → Bool
+shown_of g x c w b = serves w x.predicate && names_known g w && is_small w && (has_lit c (cond b (pos x.var) (neg_ℤ (pos x.var))) && passes g (cond b (part_not c g) (part_free c g)) x.predicate w)
+
+passes_for : Digraph → List ℤ → Predicate → Witness → Bool → Bool
+passes_for g c q w b = passes g (cond b (part_not c g) (part_free c g)) q w
+
+shown_from : {g : Digraph} {P : List Bool} {e : Evidence} {b : Bool} (x : Atom) → IsSided g P x.predicate e b → IsTrue (passes_for g (clause_at g x e.edges b) x.predicate e.witness b) → IsTrue (is_shown g x (lemma_by g x e))
+unfolding shown_of passes_for clause_at
+shown_from {g = g} {e = e} {b = b} x h p =
+    let w : Witness = e.witness in
+    let c : List ℤ = clause_at g x e.edges b in
+    let whole : IsTrue (shown_of g x c w b) =
+    and_from _ _ (and_from _ (is_small w) (and_from (serves w x.predicate) (names_known g w) (passing_serves g _ x.predicate w p) h.known) h.small)
+    (and_from (has_lit c (literal_of b x.var)) _ (head_in g x e.edges b) p) in
+    subst (λ (a : Bool). IsTrue (shown_of g x (clause_at g x e.edges a) w a)) (sym h.sign) whole
+
+pub sided_shown : {g : Digraph} {P : List Bool} {e : Evidence} (x : Atom) (b : Bool) → IsSided g P x.predicate e b → IsTrue (is_shown g x (lemma_by g x e))
+unfolding passes_for
+sided_shown x true h = shown_from x h (up_passes x h)
+sided_shown x false h = shown_from x h (down_passes x h)
+
+-- ---- its other literals are false
+
+-- the part of one side under a list
+sided_part : Digraph → List ℤ → Bool → List Bool
+sided_part g t b = cond b (under g t) (over g t)
+
+edge_false : (g : Digraph) (t : List ℤ) (b : Bool) (k : ℕ) → k < length g.edges → present (sided_part g t b) k ≡ b → IsTrue (is_false_in t (literal_of (not b) (edge_at g k).var))
+unfolding sided_part
+edge_false g t true k lt h = subst (λ (l : ℤ). IsTrue (has_lit t l)) (sym (neg-neg (pos (edge_at g k).var))) (in_part_by (λ d. is_true_in t (pos d.var)) g k h)
+edge_false g t false k lt h = by (is_false_in t (pos (edge_at g k).var)) refl
+  where
+    by : (a : Bool) → is_false_in t (pos (edge_at g k).var) ≡ a → a ≡ true
+    by true e = refl
+    by false e = absurd (both_ways (present (over g t) k) h (part_by-has (λ d. not (is_false_in t (pos d.var))) g k lt (ap not e)))
+
+edges_false : (g : Digraph) (t : List ℤ) (x : Atom) (ks : List ℕ) (b : Bool) → ((k : ℕ) → IsTrue (has ks k) → (k < length g.edges) × (present (sided_part g t b) k ≡ b)) → IsTrue (others_false t (clause_at g x ks b) (literal_of b x.var))
+unfolding clause_at
+edges_false g t x ks b sided =
+    let head : ℤ = literal_of b x.var in
+    let f : ℕ → ℤ = λ k. literal_of (not b) (edge_at g k).var in
+    all_lits (is_false_in t) (without (clause_at g x ks b) head) (λ l h.
+    let a = and_parts (not (int_eq head l)) (has_lit (clause_at g x ks b) l) (sym (has-without (clause_at g x ks b) head l) ∙ h) in
+    elim (or_cases (int_eq l head) (has_lit (map f ks) l) a.1) [
+      | inl e ↦ absurd (both_ways (int_eq head l) (not-true (int_eq head l) a.0) (subst (λ (m : ℤ). IsTrue (int_eq head m)) (sym (same_lit l head e)) (lit_itself head)))
+      | inr e ↦ (let r = from_map f ks l e in let s = sided r.place r.has in subst (λ (m : ℤ). IsTrue (is_false_in t m)) (sym r.is) (edge_false g t b r.place s.0 s.1))
+    ])
+
+-- ---- its variables concern the theory
+
+literal_var : (b : Bool) (v : ℕ) → nat_abs (literal_of b v) ≡ v
+literal_var true v = refl
+literal_var false v = var-neg (pos v)
+
+all_from_lits : (P : ℤ → Type 0) (c : List ℤ) → ((l : ℤ) → IsTrue (has_lit c l) → P l) → All P c
+all_from_lits P c h = λ k d lt. h (get_or c k d) (list_any_at (int_eq (get_or c k d)) c k d lt (lit_itself (get_or c k d)))
+
+clause_concerned : (g : Digraph) (atoms : List Atom) (x : Atom) (ks : List ℕ) (b : Bool) → IsTrue (list_any (λ (y : Atom). eqb y.var x.var) atoms) → ((k : ℕ) → IsTrue (has ks k) → k < length g.edges)
+    → All (λ l. IsTrue (concerns_of g atoms (var_of l))) (clause_at g x ks b)
+unfolding clause_at
+clause_concerned g atoms x ks b own lt =
+    let f : ℕ → ℤ = λ k. literal_of (not b) (edge_at g k).var in
+    all_from_lits (λ l. IsTrue (concerns_of g atoms (var_of l))) (clause_at g x ks b) (λ l h. elim (or_cases (int_eq l (literal_of b x.var)) (has_lit (map f ks) l) h) [
+      | inl e ↦ subst (λ (v : ℕ). IsTrue (concerns_of g atoms v)) (sym (ap nat_abs (same_lit l _ e) ∙ literal_var b x.var)) (or_right (list_any (λ (d : Edge). eqb d.var x.var) g.edges) (list_any (λ (y : Atom). eqb y.var x.var) atoms) own)
+      | inr e ↦ (
+          let r = from_map f ks l e in
+          let v : ℕ = (edge_at g r.place).var in
+          subst (λ (w : ℕ). IsTrue (concerns_of g atoms w)) (sym (ap nat_abs r.is ∙ literal_var (not b) v))
+          (or_left (list_any (λ (d : Edge). eqb d.var v) g.edges) (list_any (λ (y : Atom). eqb y.var v) atoms) (list_any_at (λ (d : Edge). eqb d.var v) g.edges r.place no_edge (lt r.place r.has) (eq-eqb v v refl))))
+    ])
+
+-- ---- all of it
+
+pub sided_lemma : {g : Digraph} {e : Evidence} (x : Atom) (atoms : List Atom) (t : List ℤ) (n : ℕ) (b : Bool) → atom_of atoms n ≡ Some x → x.number ≡ n → IsTrue (list_any (λ (y : Atom). eqb y.var x.var) atoms)
+    → IsSided g (cond b (under g t) (over g t)) x.predicate e b → IsLemmaOf g atoms t n (literal_of b x.var) (lemma_by g x e)
+unfolding sided_part clause_at
+sided_lemma {g = g} {e = e} x atoms t n b found number own h = record {
+  number = number;
+  shown = subst (λ (o : Option Atom). MatchOption o ⊥ (λ y. IsTrue (is_shown g y (lemma_by g x e)))) (sym found) (sided_shown x b h);
+  concerned = subst (λ (a : Bool). All (λ l. IsTrue (concerns_of g atoms (var_of l))) (clause_at g x e.edges a)) (sym h.sign) (clause_concerned g atoms x e.edges b own (λ k s. (h.sided k s).0));
+  has = subst (λ (a : Bool). IsTrue (has_lit (clause_at g x e.edges a) (literal_of b x.var))) (sym h.sign) (head_in g x e.edges b);
+  others = subst (λ (a : Bool). IsTrue (others_false t (clause_at g x e.edges a) (literal_of b x.var))) (sym h.sign) (edges_false g t x e.edges b h.sided);
+}
+
+-- ---- the side of a forced literal
+
+not_above : (x : ℕ) → int_lt (pos 0) (neg_ℤ (pos x)) ≡ false
+not_above zero = refl
+not_above (suc n) = refl
+
+above : (x : ℕ) → 1 ≤ x → int_lt (pos 0) (pos x) ≡ true
+above x h = grind (arith, ints)
+
+pub explains : (g : Digraph) (atoms : List Atom) (t : List ℤ) (n : ℕ) (x : Atom) (l : ℤ) (e : Evidence) → IsGraph g → IsVar x.var → IsOver g x.predicate
+    → atom_of atoms n ≡ Some x → x.number ≡ n → IsTrue (list_any (λ (y : Atom). eqb y.var x.var) atoms)
+    → Forces g x t l → IsEvidence g (side g t l) x.predicate e → IsLemmaOf g atoms t n l (lemma_by g x e)
+explains g atoms t n x l e ok var fits found number own (inl (is, holds)) h =
+    let at : side g t l ≡ under g t = ap (λ b. cond b (under g t) (over g t)) (ap (int_lt (pos 0)) is ∙ above x.var var.0) in
+    let ev : IsEvidence g (under g t) x.predicate e = subst (λ (P : List Bool). IsEvidence g P x.predicate e) at h in
+    elim (cases_Bool (is_positive e.witness)) [
+      | inl s ↦ subst (λ (m : ℤ). IsLemmaOf g atoms t n m (lemma_by g x e)) (sym is) (sided_lemma x atoms t n true found number own (by_sign s ev))
+      | inr s ↦ absurd (down_fails ok fits (length-part_by _ g) (by_sign s ev) holds)
+    ]
+explains g atoms t n x l e ok var fits found number own (inr (is, fails)) h =
+    let at : side g t l ≡ over g t = ap (λ b. cond b (under g t) (over g t)) (ap (int_lt (pos 0)) is ∙ not_above x.var) in
+    let ev : IsEvidence g (over g t) x.predicate e = subst (λ (P : List Bool). IsEvidence g P x.predicate e) at h in
+    elim (cases_Bool (is_positive e.witness)) [
+      | inl s ↦ absurd (fails (up_holds (by_sign s ev)))
+      | inr s ↦ subst (λ (m : ℤ). IsLemmaOf g atoms t n m (lemma_by g x e)) (sym is) (sided_lemma x atoms t n false found number own (by_sign s ev))
+    ]

@@ -1,0 +1,12 @@
+pub mod Pigeons
+pub mod Switches
+pub mod IndexLaws
+pub mod BoundLaws
+pub mod FrameLaws
+pub mod EvidenceLaws
+pub mod TheoryLaws
+pub mod PassedLaws
+pub mod NumberLaws
+pub mod WalkedLaws
+pub mod RestingLaws
+pub mod JustifiedLaws

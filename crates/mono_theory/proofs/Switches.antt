@@ -1,0 +1,62 @@
+-- Switching all the places that the index lists for a key.
+use Rattle.std.proofs.Common.{◌≡◌, ◌≢◌, ℕ, zero, suc, ◌<◌, ◌≤◌, Bool, true, false, cond, List, [], ◌∷◌, length, get_or, eqb, ◌⊎◌, refl, sym, ap, ◌∙◌, inl, inr, arith}
+use Rattle.std.specs.List.{AllWithin}
+use Rattle.std.proofs.lemmas.Bool.{cases_lt}
+use Rattle.std.proofs.lemmas.List.{ext_get_or}
+use Rattle.std.proofs.lemmas.Bool.Decides.{eqb_tells}
+use Rattle.mono_theory.specs.declared.index.Entry.{Entry}
+use Rattle.mono_theory.specs.Index.{IsIndex, no_entry, entry_at, switched}
+
+pub length-switched : (keys : List ℕ) (v : ℕ) (on : Bool) (P : List Bool) → length P ≡ length keys → length (switched keys v on P) ≡ length keys
+length-switched [] v on P e = refl
+length-switched (x ∷ xs) v on [] e = absurd (omega arith)
+length-switched (x ∷ xs) v on (p ∷ ps) e = ap suc (length-switched xs v on ps (omega arith))
+
+pub switched-at : (keys : List ℕ) (v : ℕ) (on : Bool) (P : List Bool) (k : ℕ) → length P ≡ length keys → k < length keys
+    → get_or (switched keys v on P) k false ≡ cond (eqb (get_or keys k 0) v) on (get_or P k false)
+switched-at [] v on P k e lt = absurd (omega arith)
+switched-at (x ∷ xs) v on [] k e lt = absurd (omega arith)
+switched-at (x ∷ xs) v on (p ∷ ps) zero e lt = refl
+switched-at (x ∷ xs) v on (p ∷ ps) (suc k) e lt = switched-at xs v on ps k (omega arith) (omega arith)
+
+-- the entries from start to end are those of the key
+pub record IsRange (es : List Entry) (v start end : ℕ) : Type 0 where
+  pub below : AllWithin (λ e. e.key < v) es 0 start
+  pub from : AllWithin (λ e. v ≤ e.key) es start (length es)
+  pub up_to : AllWithin (λ e. e.key ≤ v) es 0 end
+  pub above : AllWithin (λ e. v < e.key) es end (length es)
+  pub end_fits : end ≤ length es
+
+pub switched_by : (keys : List ℕ) (es : List Entry) (v start end : ℕ) (on : Bool) (P Q : List Bool) → IsIndex keys es → IsRange es v start end
+    → length P ≡ length keys → length Q ≡ length keys
+    → ((i : ℕ) → start ≤ i → i < end → get_or Q (entry_at es i).place false ≡ on)
+    → ((k : ℕ) → ((i : ℕ) → start ≤ i → i < end → (entry_at es i).place ≢ k) → get_or Q k false ≡ get_or P k false)
+    → Q ≡ switched keys v on P
+switched_by keys es v start end on P Q ix r lenP lenQ done others =
+    ext_get_or false Q (switched keys v on P) (lenQ ∙ sym (length-switched keys v on P lenP)) (λ k lt.
+    let lt' : k < length keys = omega (arith, lenQ) in
+    at k lt' (eqb_tells (get_or keys k 0) v) ∙ sym (switched-at keys v on P k lenP lt'))
+  where
+    var_of_entry : (i : ℕ) → i < length es → (entry_at es i).key ≡ get_or keys (entry_at es i).place 0
+    var_of_entry i lt = (ix.known i no_entry lt).1
+
+    within : (i : ℕ) → i < end → i < length es
+    within i hi = let fits = r.end_fits in omega (arith, fits)
+
+    between : (i : ℕ) → start ≤ i → i < end → (entry_at es i).key ≡ v
+    between i lo hi = let a = r.from i no_entry lo (within i hi) in let b = r.up_to i no_entry (omega arith) hi in omega (arith, a, b)
+
+    ranged : (k : ℕ) → get_or keys k 0 ≡ v → (i : ℕ) → i < length es → (entry_at es i).place ≡ k → (start ≤ i) × (i < end)
+    ranged k e i lt p =
+        let var : (entry_at es i).key ≡ v = var_of_entry i lt ∙ ap (λ j. get_or keys j 0) p ∙ e in (
+          elim (cases_lt i start) [ inl l ↦ (let h = r.below i no_entry (omega arith) l in absurd (omega (arith, h, var))) | inr ge ↦ ge ],
+          elim (cases_lt i end) [ inl l ↦ l | inr ge ↦ (let h = r.above i no_entry ge lt in absurd (omega (arith, h, var))) ],
+        )
+
+    at : (k : ℕ) → k < length keys → ((eqb (get_or keys k 0) v ≡ true) × (get_or keys k 0 ≡ v)) ⊎ ((eqb (get_or keys k 0) v ≡ false) × (get_or keys k 0 ≢ v)) → get_or Q k false ≡ cond (eqb (get_or keys k 0) v) on (get_or P k false)
+    at k lt (inl e) =
+        let (i, fits, p) = ix.each k lt in
+        let w = ranged k e.1 i fits p in
+        ap (λ j. get_or Q j false) (sym p) ∙ done i w.0 w.1 ∙ sym (ap (λ b. cond b on (get_or P k false)) e.0)
+    at k lt (inr ne) =
+        others k (λ i lo hi p. ne.1 (sym (ap (λ j. get_or keys j 0) p) ∙ sym (var_of_entry i (within i hi)) ∙ between i lo hi)) ∙ sym (ap (λ b. cond b on (get_or P k false)) ne.0)

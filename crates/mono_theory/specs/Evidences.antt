@@ -1,0 +1,42 @@
+-- Evidence: a witness for or against a predicate, and the edges on which it rests.
+use Rattle.std.specs.Prelude.{◌≡◌, ℕ, ◌<◌, Bool, true, false, not, ℤ, pos, int_lt, List, ◌∷◌, length, map, IsTrue, All, if◌then◌else◌}
+use Rattle.mono_graph.specs.Digraph.{Digraph, edge_at, places, present, has}
+use Rattle.mono_problem.specs.declared.atom.Atom.{Atom}
+use Rattle.mono_problem.specs.declared.atom.Predicate.{Predicate}
+use Rattle.mono_problem.specs.Holds.{Holds}
+use Rattle.mono_problem.specs.Quiet.{under, over}
+use Rattle.mono_steps.specs.declared.lemma.Lemma.{Lemma}
+use Rattle.mono_steps.specs.Switching.{literal_of}
+use Rattle.mono_steps.specs.Witnesses.{is_positive, names_known, is_small, passes}
+use Rattle.mono_theory.specs.declared.evidence.Evidence.{Evidence}
+
+-- whether the predicate holds in the part, decided
+abbrev pub Decides : Digraph → List Bool → Predicate → Bool → Type 0
+Decides g P q true = Holds g P q
+Decides g P q false = ¬ Holds g P q
+
+-- the part of these places alone, and the part of all others
+abbrev pub only : Digraph → List ℕ → List Bool
+only g ks = map (has ks) (places g)
+
+abbrev pub all_but : Digraph → List ℕ → List Bool
+all_but g ks = map (λ k. not (has ks k)) (places g)
+
+-- The witness names what is there. Where it shows that the predicate holds, the edges are present and it passes over
+-- them alone. Else the edges are absent, and it passes over all others.
+pub record IsEvidence (g : Digraph) (P : List Bool) (q : Predicate) (e : Evidence) : Type 0 where
+  pub known : IsTrue (names_known g e.witness)
+  pub small : IsTrue (is_small e.witness)
+  pub sided : All (λ k. (k < length g.edges) × (present P k ≡ is_positive e.witness)) e.edges
+  pub passes : IsTrue (passes g (if is_positive e.witness then only g e.edges else all_but g e.edges) q e.witness)
+
+-- the atom's variable has the value that the witness shows, or an edge on which it rests is otherwise
+abbrev pub clause_by : Digraph → Atom → Evidence → List ℤ
+clause_by g x e = literal_of (is_positive e.witness) x.var ∷ map (λ k. literal_of (not (is_positive e.witness)) (edge_at g k).var) e.edges
+
+abbrev pub lemma_by : Digraph → Atom → Evidence → Lemma
+lemma_by g x e = record { atom = x.number; clause = clause_by g x e; witness = e.witness }
+
+-- the part that decides whether a literal of an atom is forced
+abbrev pub side : Digraph → List ℤ → ℤ → List Bool
+side g t l = if int_lt (pos 0) l then under g t else over g t

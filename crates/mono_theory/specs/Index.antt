@@ -1,0 +1,27 @@
+-- The places of each key, found by a binary search.
+use Rattle.std.specs.Prelude.{◌≡◌, ℕ, ◌<◌, ◌==◌, Bool, List, [], ◌∷◌, length, slice_index_or, slice_index, All, if◌then◌else◌}
+use Rattle.std.specs.List.Sorted.{IsNonDecreasingBy}
+use Rattle.mono_theory.specs.declared.index.Entry.{Entry}
+
+abbrev pub no_entry : Entry
+no_entry = record { key = 0; place = 0 }
+
+abbrev pub entry_at : List Entry → ℕ → Entry
+entry_at es i = slice_index_or es i no_entry
+
+-- the entries are the places with their keys, each at least once, in the order of the keys
+pub record IsIndex (keys : List ℕ) (es : List Entry) : Type 0 where
+  pub known : All (λ e. (e.place < length keys) × (e.key ≡ slice_index keys e.place)) es
+  pub each : (k : ℕ) → k < length keys → (i : ℕ) × (i < length es) × ((entry_at es i).place ≡ k)
+  pub sorted : IsNonDecreasingBy (λ e. e.key) es
+
+-- the place has the key
+pub record IsPlaceOf (keys : List ℕ) (key place : ℕ) : Type 0 where
+  pub held : place < length keys
+  pub is : slice_index keys place ≡ key
+
+-- the part with all places of the key in it, or none
+abbrev pub switched : List ℕ → ℕ → Bool → List Bool → List Bool
+switched [] key on P = []
+switched (x ∷ xs) key on [] = []
+switched (x ∷ xs) key on (p ∷ ps) = (if x == key then on else p) ∷ switched xs key on ps

@@ -1,0 +1,9 @@
+pub mod Theories
+pub mod Index
+pub mod Bound
+pub mod Evidences
+pub mod Forced
+pub mod Frames
+pub mod Walked
+pub mod Resting
+pub mod Owners

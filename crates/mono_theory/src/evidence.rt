@@ -1,0 +1,96 @@
+//! What shows that a predicate holds or fails, and the lemma that it makes of an atom.
+
+ghost use Rattle.std.specs.Prelude.{◌≡◌, ◌<◌, ◌∷◌, map, length, IfOk, All};
+ghost use Rattle.mono_graph.specs.Digraph.{edge_at};
+ghost use Rattle.mono_steps.specs.Switching.{literal_of};
+ghost use Rattle.mono_steps.specs.Witnesses.{is_positive as is_positive_witness};
+ghost use Rattle.mono_theory.specs.Evidences.{lemma_by};
+ghost use Rattle.mono_theory.specs.Frames.{IsVar};
+
+use mono_base::{Lit, Row};
+use mono_graph::Graph;
+use mono_problem::Atom;
+use mono_steps::{Clause, Lemma, Witness};
+use std::alloc::{AllocError, Global};
+
+/// A witness for or against a predicate, and the places of the edges on which it rests: those that have to be present
+/// for the one, or absent for the other.
+#[derive(Drop)]
+pub struct Evidence {
+    pub witness: Witness,
+    pub edges: Row<u32>,
+}
+
+/// Whether the witness shows that its predicate holds.
+fn is_positive(witness: &Witness) -> bool
+    ensures { result ≡ is_positive_witness witness.now }
+{
+    matches!(
+        witness,
+        Witness::Path(_) | Witness::Flow(_) | Witness::Tree(_)
+    )
+}
+
+/// The literal that says that the variable has the value.
+pub(crate) fn literal(var: u32, value: bool) -> Lit
+    requires { IsVar var }
+    ensures { result ≡ literal_of value var }
+{
+    let number = var as i32;
+    let signed = if value { number } else { -number };
+    match Lit::new(signed) {
+        Some(lit) => lit,
+        None => unreachable!(),
+    }
+}
+
+/// The literal that says that the edge is present or absent.
+fn edge_literal(graph: &Graph, place: u32, value: bool) -> Lit
+    requires place { place < length graph.now.edges }
+    ensures { result ≡ literal_of value (edge_at graph.now place).var }
+{
+    let edge = graph.edge(place);
+    literal(edge.var, value)
+}
+
+/// A literal, and those of the edges.
+fn clause_of(
+    alloc: Global,
+    graph: &Graph,
+    head: Lit,
+    places: &[u32],
+    value: bool,
+) -> Result<Vec<Lit>, AllocError>
+    requires places { All (λ k. k < length graph.now.edges) places.now }
+    ensures { IfOk result (λ lits. lits.items ≡ head ∷ map (λ k. literal_of value (edge_at graph.now k).var) places.now) }
+{
+    let mut lits = vec![in alloc; head]?;
+    for place in places {
+        let lit = edge_literal(graph, *place, value);
+        lits.push(lit)?;
+    }
+    Ok(lits)
+}
+
+/// The lemma that the evidence makes of the atom.
+pub(crate) fn lemma_of(
+    alloc: Global,
+    graph: &Graph,
+    atom: Atom,
+    evidence: Evidence,
+) -> Result<Lemma, AllocError>
+    requires var { IsVar atom.var }
+    requires places { All (λ k. k < length graph.now.edges) evidence.edges }
+    ensures { IfOk result (λ m. m ≡ lemma_by graph.now atom evidence) }
+{
+    let Evidence { witness, edges } = evidence;
+    let value = is_positive(&witness);
+    let head = literal(atom.var, value);
+    let lits = clause_of(alloc, graph, head, edges.as_slice(), !value)?;
+    let clause = Clause::from_lits(alloc, lits.as_slice())?;
+    Ok(Lemma {
+        atom: atom.number,
+        clause,
+        witness,
+    })
+}

@@ -1,0 +1,269 @@
+//! A graph, atoms over it, and the literals that were seen: all that a theory is over, whatever its kind.
+//!
+//! The literals are over different variables that concern the theory, the two bounds are theirs, of the edges and of the
+//! atoms' own variables, and the list has room for one literal of each variable. So a literal comes without memory.
+
+ghost use Rattle.std.specs.Prelude.{◌≡◌, ◌==◌, ◌<◌, ◌≤◌, ◌++◌, ◌∷◌, ◌^◌, [], ℕ, pos, map, not, take, length, find, All, Some, IfOk, IsSome, IsTrue, slice_index_or, vec_len, vec_capacity};
+ghost use Rattle.mono_base.specs.Literal.{var_of};
+ghost use Rattle.mono_base.specs.Partial.{is_true_in, is_false_in, is_open_in, is_partial};
+ghost use Rattle.mono_graph.specs.Digraph.{IsGraph, has};
+ghost use Rattle.mono_problem.specs.Quiet.{under as under_of, over as over_of};
+ghost use Rattle.mono_problem.specs.Read.{no_atom};
+ghost use Rattle.mono_theory.specs.Bound.{edge_vars, IsBoundOf};
+ghost use Rattle.mono_theory.specs.Frames.{atom_vars, atom_numbers};
+
+use crate::index::Index;
+use crate::past::evidence_by;
+use crate::{Bounds, Evidence, Kind};
+use mono_base::Lit;
+use mono_graph::{Graph, Part};
+use mono_problem::{Atom, Predicate};
+use std::alloc::{AllocError, Global};
+use std::marker::Model;
+
+/// A graph, atoms over it, the literals that were seen, and the bounds that they leave.
+#[derive(Drop)]
+pub(crate) struct Frame {
+    graph: Graph,
+    atoms: Vec<Atom>,
+    numbers: Index,
+    lits: Vec<Lit>,
+    edges: Bounds,
+    own: Bounds,
+}
+
+impl Model for Frame {
+    ghost use Rattle.std.specs.Prelude.{vec_capacity};
+    ghost use Rattle.mono_theory.specs.Theories.{Facts};
+    ghost use Rattle.mono_theory.specs.Frames.{IsFrame};
+
+    ghost Value = { Facts };
+
+    ghost view = { λ s. record { graph = s.graph; atoms = s.atoms.items; seen = s.lits.items } };
+
+    ghost invariant = { λ s. IsFrame s.graph s.atoms.items s.lits.items s.edges s.own s.numbers (vec_capacity s.lits) };
+}
+
+/// The variables of the atoms.
+fn vars_of(alloc: Global, atoms: &[Atom]) -> Result<Vec<u32>, AllocError>
+    ensures { IfOk result (λ vars. vars.items ≡ atom_vars atoms.now) }
+{
+    atoms.iter().map(|x| x.var).collect(alloc)
+}
+
+/// The numbers of the atoms.
+fn numbers_of(alloc: Global, atoms: &[Atom]) -> Result<Vec<u32>, AllocError>
+    ensures { IfOk result (λ numbers. numbers.items ≡ atom_numbers atoms.now) }
+{
+    atoms.iter().map(|x| x.number).collect(alloc)
+}
+
+/// The first literals stay, and the bounds are theirs.
+fn rewind(lits: &mut Vec<Lit>, edges: &mut Bounds, own: &mut Bounds, kept: usize)
+    requires kept { kept ≤ length lits.old.items }
+    requires partial { IsTrue (is_partial lits.old.items) }
+    requires edges { IsBoundOf edges.old edges.old.vars lits.old.items }
+    requires own { IsBoundOf own.old own.old.vars lits.old.items }
+    ensures lits { lits.new.items ≡ take kept lits.old.items }
+    ensures capacity { vec_capacity lits.new ≡ vec_capacity lits.old }
+    ensures edges { IsBoundOf edges.new edges.old.vars (take kept lits.old.items) }
+    ensures own { IsBoundOf own.new own.old.vars (take kept lits.old.items) }
+{
+    'back: while lits.len() > kept {
+        let Some(lit) = lits.pop() else {
+            unreachable!()
+        };
+        edges.undo(lit);
+        own.undo(lit);
+    }
+}
+
+/// Puts a literal where there is room for it.
+fn push_within(lits: &mut Vec<Lit>, lit: Lit)
+    requires { vec_len lits.old < vec_capacity lits.old }
+    ensures items { lits.new.items ≡ lits.old.items ++ lit ∷ [] }
+    ensures room { vec_capacity lits.old ≤ vec_capacity lits.new }
+{
+    match lits.push(lit) {
+        Ok(()) => {}
+        Err(_) => unreachable!(),
+    }
+}
+
+impl Frame {
+    ghost use Rattle.mono_problem.specs.WellFormed.{IsOver};
+    ghost use Rattle.mono_theory.specs.Evidences.{IsEvidence, side};
+    ghost use Rattle.mono_theory.specs.Frames.{AreAtomsOf, IsVar};
+    ghost use Rattle.mono_theory.specs.Theories.{concerns_of, owns_of, atom_of};
+
+    /// Nothing was seen yet.
+    pub(crate) fn new(alloc: Global, graph: Graph, atoms: Vec<Atom>) -> Result<Frame, AllocError>
+        requires known { AreAtomsOf graph atoms.items }
+        requires few { length atoms.items < 2 ^ 32 }
+        ensures { IfOk result (λ s. s ≡ record { graph = graph; atoms = atoms.items; seen = [] }) }
+    {
+        let _ = graph.nodes();
+        let vars = vars_of(alloc, atoms.as_slice())?;
+        let own = Bounds::of_vars(alloc, vars)?;
+        let its_numbers = numbers_of(alloc, atoms.as_slice())?;
+        let numbers = Index::new(alloc, its_numbers)?;
+        let edges = Bounds::new(alloc, &graph)?;
+        let lits = Vec::with_capacity(alloc, graph.edge_count() as usize + atoms.len())?;
+        Ok(Frame {
+            graph,
+            atoms,
+            numbers,
+            lits,
+            edges,
+            own,
+        })
+    }
+
+    /// Whether an edge has the variable.
+    pub(crate) fn switches(&self, var: u32) -> bool
+        ensures { result ≡ has (edge_vars self.now.graph) var }
+    {
+        self.edges.has(var)
+    }
+
+    /// Whether the variable is one of the edges' or of the atoms'.
+    pub(crate) fn concerns(&self, var: u32) -> bool
+        ensures { result ≡ concerns_of self.now.graph self.now.atoms var }
+    {
+        self.edges.has(var) || self.own.has(var)
+    }
+
+    /// How many literals were seen.
+    pub(crate) fn seen(&self) -> usize
+        ensures count { result ≡ length self.now.seen }
+        ensures partial { IsTrue (is_partial self.now.seen) }
+    {
+        self.lits.len()
+    }
+
+    /// Whether the atom of this number is one of these.
+    pub(crate) fn owns(&self, number: u32) -> bool
+        ensures { result ≡ owns_of self.now.atoms number }
+    {
+        self.numbers.has(number)
+    }
+
+    /// One more literal is seen.
+    pub(crate) fn assign(&mut self, lit: Lit)
+        requires concerned { IsTrue (concerns_of self.old.graph self.old.atoms (var_of lit)) }
+        requires fresh { IsTrue (is_open_in self.old.seen lit) }
+        ensures { self.new ≡ record self.old { seen = self.old.seen ++ lit ∷ [] } }
+    {
+        self.edges.assign(lit);
+        self.own.assign(lit);
+        push_within(&mut self.lits, lit);
+    }
+
+    /// The first literals stay.
+    pub(crate) fn undo_to(&mut self, kept: usize)
+        requires { kept ≤ length self.old.seen }
+        ensures { self.new ≡ record self.old { seen = take kept self.old.seen } }
+    {
+        rewind(&mut self.lits, &mut self.edges, &mut self.own, kept);
+    }
+
+    /// How many atoms there are.
+    pub(crate) fn atom_count(&self) -> usize
+        ensures { result ≡ length self.now.atoms }
+    {
+        self.atoms.len()
+    }
+
+    /// The atom at a place.
+    pub(crate) fn atom_at(&self, place: usize) -> Atom
+        requires { place < length self.now.atoms }
+        ensures atom { result ≡ slice_index_or self.now.atoms place no_atom }
+        ensures var { IsVar result.var }
+        ensures over { IsOver self.now.graph result.predicate }
+        ensures found { atom_of self.now.atoms result.number ≡ Some result }
+    {
+        self.atoms[place]
+    }
+
+    /// The atom of the number.
+    pub(crate) fn atom(&self, number: u32) -> Atom
+        requires { IsSome (atom_of self.now.atoms number) }
+        ensures atom { atom_of self.now.atoms number ≡ Some result }
+        ensures var { IsVar result.var }
+        ensures over { IsOver self.now.graph result.predicate }
+    {
+        let Some(place) = self.numbers.place(number) else {
+            unreachable!()
+        };
+        self.atoms[place as usize]
+    }
+
+    /// The graph.
+    pub(crate) fn graph(&self) -> &Graph
+        ensures graph { result.now ≡ self.now.graph }
+        ensures known { IsGraph self.now.graph }
+        ensures atoms { AreAtomsOf self.now.graph self.now.atoms }
+    {
+        &self.graph
+    }
+
+    /// The surely present edges.
+    pub(crate) fn under(&self) -> &Part
+        ensures { result.now ≡ under_of self.now.graph self.now.seen }
+    {
+        self.edges.under()
+    }
+
+    /// The possibly present edges.
+    pub(crate) fn over(&self) -> &Part
+        ensures { result.now ≡ over_of self.now.graph self.now.seen }
+    {
+        self.edges.over()
+    }
+
+    /// Whether the variable of the atom at a place is true.
+    pub(crate) fn is_true(&self, place: usize) -> bool
+        requires { place < length self.now.atoms }
+        ensures { result ≡ is_true_in self.now.seen (pos (slice_index_or self.now.atoms place no_atom).var) }
+    {
+        self.own.under().has(place as u32)
+    }
+
+    /// Whether it is false.
+    pub(crate) fn is_false(&self, place: usize) -> bool
+        requires { place < length self.now.atoms }
+        ensures { result ≡ is_false_in self.now.seen (pos (slice_index_or self.now.atoms place no_atom).var) }
+    {
+        !self.own.over().has(place as u32)
+    }
+
+    /// What shows that the predicate holds or fails on the side of the literal, under the first literals.
+    pub(crate) fn evidence_at<K: Kind>(
+        &mut self,
+        alloc: Global,
+        kind: &mut K,
+        predicate: Predicate,
+        lit: Lit,
+        kept: usize,
+    ) -> Result<Evidence, AllocError>
+        requires size { K.nodes kind.old ≡ self.old.graph.nodes }
+        requires within { kept ≤ length self.old.seen }
+        requires kind { IsTrue (K.covers predicate) }
+        requires over { IsOver self.old.graph predicate }
+        ensures size { K.nodes kind.new ≡ K.nodes kind.old }
+        ensures same { self.new ≡ self.old }
+        ensures evidence { IfOk result (IsEvidence self.old.graph (side self.old.graph (take kept self.old.seen) lit) predicate) }
+    {
+        let lits = self.lits.as_slice();
+        evidence_by::<K>(
+            alloc,
+            kind,
+            &self.graph,
+            lits,
+            &mut self.edges,
+            predicate,
+            lit,
+            kept,
+        )
+    }
+}

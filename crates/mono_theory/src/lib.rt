@@ -1,0 +1,32 @@
+//! Theories of predicates over one graph: what they answer, and all that they share (Bayless et al. 2015).
+#![tactic(auto)]
+
+/// The edges that are surely and possibly present.
+mod bounds;
+/// What shows that a predicate holds or fails, as a lemma.
+mod evidence;
+/// A graph, atoms over it, and the literals that were seen.
+mod frame;
+/// Theories of one kind of predicate.
+mod graph_theory;
+/// Places by key.
+mod index;
+/// What a kind of predicate supplies.
+mod kind;
+/// What holds of bounds and lemmas by their definitions.
+pub mod laws;
+/// Absent edges at the border of a set of nodes.
+mod node_marks;
+/// What the first literals seen show.
+mod past;
+/// What theories answer.
+mod theory;
+/// Evidence from walks.
+pub mod walks;
+
+pub use bounds::Bounds;
+pub use evidence::Evidence;
+pub use graph_theory::GraphTheory;
+pub use kind::Kind;
+pub use node_marks::NodeMarks;
+pub use theory::{Finding, Force, Theory};

@@ -1,0 +1,91 @@
+//! What the first literals seen show. The bounds go back to these literals and come again to all of them, in proportion
+//! to those that are left out, and without memory.
+
+ghost use Rattle.std.specs.Prelude.{◌≡◌, ◌≤◌, length, take, pos, int_lt, if◌then◌else◌, IfOk, IsTrue};
+ghost use Rattle.mono_base.specs.Partial.{is_partial};
+ghost use Rattle.mono_problem.specs.WellFormed.{IsOver};
+ghost use Rattle.mono_theory.specs.Bound.{edge_vars, IsBoundOf};
+ghost use Rattle.mono_theory.specs.Evidences.{IsEvidence, side};
+
+use crate::{Bounds, Evidence, Kind};
+use mono_base::Lit;
+use mono_graph::Graph;
+use mono_problem::Predicate;
+use std::alloc::{AllocError, Global};
+
+/// The bounds go back to the first literals.
+fn retreat(lits: &[Lit], bounds: &mut Bounds, kept: usize)
+    requires within { kept ≤ length lits.now }
+    requires partial { IsTrue (is_partial lits.now) }
+    requires bounds { IsBoundOf bounds.old bounds.old.vars lits.now }
+    ensures { IsBoundOf bounds.new bounds.old.vars (take kept lits.now) }
+{
+    let mut at = lits.len();
+    'back: while at > kept {
+        at -= 1;
+        bounds.undo(lits[at]);
+    }
+}
+
+/// The bounds come to all literals again.
+fn advance(lits: &[Lit], bounds: &mut Bounds, kept: usize)
+    requires within { kept ≤ length lits.now }
+    requires partial { IsTrue (is_partial lits.now) }
+    requires bounds { IsBoundOf bounds.old bounds.old.vars (take kept lits.now) }
+    ensures { IsBoundOf bounds.new bounds.old.vars lits.now }
+{
+    for at in kept..lits.len() {
+        bounds.assign(lits[at]);
+    }
+}
+
+/// What shows that the predicate holds or fails with the edges on the side of the literal.
+fn evidence_beside<K: Kind>(
+    alloc: Global,
+    kind: &mut K,
+    graph: &Graph,
+    bounds: &Bounds,
+    predicate: Predicate,
+    lit: Lit,
+) -> Result<Evidence, AllocError>
+    requires size { K.nodes kind.old ≡ graph.now.nodes }
+    requires vars { bounds.now.vars ≡ edge_vars graph.now }
+    requires kind { IsTrue (K.covers predicate) }
+    requires over { IsOver graph.now predicate }
+    ensures size { K.nodes kind.new ≡ K.nodes kind.old }
+    ensures evidence { IfOk result (IsEvidence graph.now (if int_lt (pos 0) lit then bounds.now.under else bounds.now.over) predicate) }
+{
+    let part = if lit.is_positive() {
+        bounds.under()
+    } else {
+        bounds.over()
+    };
+    kind.evidence(alloc, graph, part, predicate)
+}
+
+/// What shows that the predicate holds or fails on the side of the literal, under the first literals.
+pub(crate) fn evidence_by<K: Kind>(
+    alloc: Global,
+    kind: &mut K,
+    graph: &Graph,
+    lits: &[Lit],
+    bounds: &mut Bounds,
+    predicate: Predicate,
+    lit: Lit,
+    kept: usize,
+) -> Result<Evidence, AllocError>
+    requires size { K.nodes kind.old ≡ graph.now.nodes }
+    requires within { kept ≤ length lits.now }
+    requires partial { IsTrue (is_partial lits.now) }
+    requires bounds { IsBoundOf bounds.old (edge_vars graph.now) lits.now }
+    requires kind { IsTrue (K.covers predicate) }
+    requires over { IsOver graph.now predicate }
+    ensures size { K.nodes kind.new ≡ K.nodes kind.old }
+    ensures same { bounds.new ≡ bounds.old }
+    ensures evidence { IfOk result (IsEvidence graph.now (side graph.now (take kept lits.now) lit) predicate) }
+{
+    retreat(lits, bounds, kept);
+    let found = evidence_beside::<K>(alloc, kind, graph, bounds, predicate, lit);
+    advance(lits, bounds, kept);
+    found
+}

@@ -1,0 +1,274 @@
+//! The variables that wait, the most active first.
+//!
+//! All variables stand in one array, and those that wait come first and are a binary heap there. A second array says
+//! where each variable stands. So a variable joins or leaves by an exchange with the one beside the border, and no array
+//! ever grows.
+
+ghost use Rattle.std.specs.Prelude.{◌≡◌, ◌≤◌, ◌+◌, ◌-◌, ◌<◌, ◌^◌, ℕ, nat_lt, length, replicate, true, false, All, IfOk, IfSome, IfNone, IsTrue, slice_set, slice_index_or};
+ghost use Rattle.std.specs.List.{range_with_len};
+ghost use Rattle.mono_base.specs.Literal.{value_in};
+ghost use Rattle.mono_trail.specs.Heap.{AreInverse, waits_of};
+ghost use Rattle.mono_trail.specs.Moves.{IsVar};
+
+use mono_base::limits::MAX_VARS;
+use std::alloc::{AllocError, Global};
+use std::marker::Model;
+
+/// What the first bumps add to an activity. With it a decay always makes the increment greater.
+const FIRST_INCREMENT: u64 = 64;
+
+/// By how many binary digits the activities and the increment are scaled down.
+const SCALE: u32 = 40;
+
+/// Which variables wait, and how active each one is.
+///
+/// Contracts see of each variable, variable 1 first, whether it waits.
+#[derive(Drop)]
+pub struct Heap {
+    /// All variables, counted from 0; those that wait come first.
+    items: Vec<u32>,
+    /// Where each variable stands.
+    places: Vec<u32>,
+    /// How many variables wait.
+    count: usize,
+    /// By variable, counted from 0.
+    activities: Vec<u64>,
+    /// What a bump adds.
+    increment: u64,
+}
+
+impl Model for Heap {
+    ghost use Rattle.std.specs.Prelude.{List, Bool, length};
+    ghost use Rattle.mono_trail.specs.Heap.{IsHeap, waits_of};
+
+    ghost Value = { List Bool };
+
+    ghost view = { λ h. waits_of h.count h.places.items };
+
+    ghost invariant = { λ h. IsHeap h.items.items h.places.items h.count (length h.activities.items) };
+}
+
+impl Heap {
+    /// Every variable from 1 to `vars` waits, and none is more active than another.
+    pub fn new(alloc: Global, vars: u32) -> Result<Heap, AllocError>
+        requires { vars ≤ MAX_VARS }
+        ensures { IfOk result (λ h. h ≡ replicate vars true) }
+    {
+        let items = numbers(alloc, vars)?;
+        let places = numbers(alloc, vars)?;
+        let activities = zeros(alloc, vars as usize)?;
+        Ok(Heap {
+            items,
+            places,
+            count: vars as usize,
+            activities,
+            increment: FIRST_INCREMENT,
+        })
+    }
+
+    /// The most active variable that waits, which waits no more: `None` exactly where none waits.
+    pub fn pop(&mut self) -> Option<u32>
+        ensures none { IfNone result ((self.new ≡ self.old) × (self.old ≡ replicate (length self.old) false)) }
+        ensures some { IfSome result (λ v. IsVar (length self.old) v × IsTrue (value_in self.old v) × (self.new ≡ slice_set self.old (v - 1) false)) }
+    {
+        if self.count == 0 {
+            return None;
+        }
+        let last = self.count - 1;
+        exchange(&mut self.items, &mut self.places, 0, last);
+        let index = self.items[last];
+        self.count = last;
+        sift_down(&mut self.items, &mut self.places, &self.activities, last);
+        Some(index + 1)
+    }
+
+    /// The variable waits, whether it did before or not.
+    pub fn insert(&mut self, var: u32)
+        requires { IsVar (length self.old) var }
+        ensures { self.new ≡ slice_set self.old (var - 1) true }
+    {
+        let place = self.places[var as usize - 1] as usize;
+        if place < self.count {
+            return;
+        }
+        let last = self.count;
+        exchange(&mut self.items, &mut self.places, place, last);
+        self.count = last + 1;
+        sift_up(
+            &mut self.items,
+            &mut self.places,
+            &self.activities,
+            last,
+            self.count,
+        );
+    }
+
+    /// The variable becomes more active.
+    pub fn bump(&mut self, var: u32)
+        requires { IsVar (length self.old) var }
+        ensures { self.new ≡ self.old }
+    {
+        let index = var as usize - 1;
+        make_room(&mut self.activities, &mut self.increment, index);
+        self.activities[index] += self.increment;
+        let place = self.places[index] as usize;
+        if place < self.count {
+            sift_up(
+                &mut self.items,
+                &mut self.places,
+                &self.activities,
+                place,
+                self.count,
+            );
+        }
+    }
+
+    /// Bumps add a sixteenth more from now on.
+    pub fn decay(&mut self)
+        ensures { self.new ≡ self.old }
+    {
+        halve_range(&mut self.activities, &mut self.increment);
+        self.increment += self.increment / 16;
+    }
+}
+
+/// The numbers from 0 up to so many.
+fn numbers(alloc: Global, count: u32) -> Result<Vec<u32>, AllocError>
+    requires { count ≤ MAX_VARS }
+    ensures { IfOk result (λ all. all.items ≡ range_with_len 0 count) }
+{
+    let mut all = Vec::with_capacity(alloc, count as usize)?;
+    for number in 0..count {
+        all.push(number)?;
+    }
+    Ok(all)
+}
+
+/// So many zeros.
+fn zeros(alloc: Global, count: usize) -> Result<Vec<u64>, AllocError>
+    ensures { IfOk result (λ all. length all.items ≡ count) }
+{
+    vec![in alloc; 0; count]
+}
+
+/// A bump of the variable fits afterwards.
+fn make_room(activities: &mut [u64], increment: &mut u64, index: usize)
+    requires { index < length activities.old }
+    ensures as_many { length activities.new ≡ length activities.old }
+    ensures fits { slice_index_or activities.new index 0 + increment.new < 2 ^ 64 }
+{
+    if activities[index] > u64::MAX - *increment {
+        scale_down(activities, increment);
+    }
+}
+
+/// The increment may double afterwards.
+fn halve_range(activities: &mut [u64], increment: &mut u64)
+    ensures as_many { length activities.new ≡ length activities.old }
+    ensures fits { increment.new < 2 ^ 63 }
+{
+    if *increment >= 1 << 63 {
+        scale_down(activities, increment);
+    }
+}
+
+/// The activities and the increment lose their last binary digits, and the order by activity stays.
+fn scale_down(activities: &mut [u64], increment: &mut u64)
+    ensures as_many { length activities.new ≡ length activities.old }
+    ensures small { All (λ a. a < 2 ^ 24) activities.new }
+    ensures increment { increment.new < 2 ^ 24 }
+{
+    for activity in activities {
+        *activity >>= SCALE;
+    }
+    *increment = (*increment >> SCALE).max(FIRST_INCREMENT);
+}
+
+/// The variables at two places change places.
+fn exchange(items: &mut [u32], places: &mut [u32], first: usize, second: usize)
+    requires inverse { AreInverse items.old places.old }
+    requires few { length items.old ≤ MAX_VARS }
+    requires first { first < length items.old }
+    requires second { second < length items.old }
+    ensures inverse { AreInverse items.new places.new }
+    ensures as_many { length items.new ≡ length items.old }
+    ensures moved { slice_index_or items.new second 0 ≡ slice_index_or items.old first 0 }
+    ensures waits { (n : ℕ) → nat_lt first n ≡ nat_lt second n → waits_of n places.new ≡ waits_of n places.old }
+{
+    let at_first = items[first];
+    let at_second = items[second];
+    items[first] = at_second;
+    items[second] = at_first;
+    places[at_second as usize] = first as u32;
+    places[at_first as usize] = second as u32;
+}
+
+/// The variable at a place of the heap goes up until none above it is less active.
+fn sift_up(items: &mut [u32], places: &mut [u32], activities: &[u64], start: usize, count: usize)
+    requires inverse { AreInverse items.old places.old }
+    requires few { length items.old ≤ MAX_VARS }
+    requires scored { length activities.now ≡ length items.old }
+    requires start { start < count }
+    requires count { count ≤ length items.old }
+    ensures inverse { AreInverse items.new places.new }
+    ensures as_many { length items.new ≡ length items.old }
+    ensures waits { waits_of count places.new ≡ waits_of count places.old }
+{
+    let mut place = start;
+    while place > 0 {
+        let parent = (place - 1) / 2;
+        if !is_before(items, activities, place, parent) {
+            return;
+        }
+        exchange(items, places, place, parent);
+        place = parent;
+    }
+}
+
+/// The variable at the top of the heap goes down until none below it is more active.
+fn sift_down(items: &mut [u32], places: &mut [u32], activities: &[u64], count: usize)
+    requires inverse { AreInverse items.old places.old }
+    requires few { length items.old ≤ MAX_VARS }
+    requires scored { length activities.now ≡ length items.old }
+    requires count { count ≤ length items.old }
+    ensures inverse { AreInverse items.new places.new }
+    ensures as_many { length items.new ≡ length items.old }
+    ensures waits { waits_of count places.new ≡ waits_of count places.old }
+{
+    let mut place = 0;
+    while let Some(child) = child_of(items, activities, place, count) {
+        if !is_before(items, activities, child, place) {
+            return;
+        }
+        exchange(items, places, place, child);
+        place = child;
+    }
+}
+
+/// The more active of the variables right below a place: `None` where there is none.
+fn child_of(items: &[u32], activities: &[u64], place: usize, count: usize) -> Option<usize>
+    requires listed { All (λ i. i < length activities.now) items.now }
+    requires few { length items.now ≤ MAX_VARS }
+    requires count { count ≤ length items.now }
+    requires place { place ≤ count }
+    ensures { IfSome result (λ child. (place < child) × (child < count)) }
+{
+    let left = 2 * place + 1;
+    if left >= count {
+        return None;
+    }
+    let right = left + 1;
+    if right < count && is_before(items, activities, right, left) {
+        return Some(right);
+    }
+    Some(left)
+}
+
+/// Whether the variable at the first place is more active than the one at the second.
+fn is_before(items: &[u32], activities: &[u64], first: usize, second: usize) -> bool
+    requires listed { All (λ i. i < length activities.now) items.now }
+    requires first { first < length items.now }
+    requires second { second < length items.now }
+{
+    activities[items[first] as usize] > activities[items[second] as usize]
+}

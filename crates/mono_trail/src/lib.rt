@@ -1,0 +1,20 @@
+//! What a search decides by: the trail of literals that are true, the order in which variables are decided, and Luby's
+//! sequence of restarts.
+//!
+//! No call after the constructors takes memory.
+#![tactic(auto)]
+
+mod heap;
+/// What holds of the definitions alone.
+pub mod laws;
+mod order;
+mod reason;
+mod restarts;
+#[cfg(test)]
+mod tests;
+mod trail;
+
+pub use order::Order;
+pub use reason::{Mark, Reason};
+pub use restarts::luby;
+pub use trail::Trail;
