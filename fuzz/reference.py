@@ -4,11 +4,13 @@ It is short and slow, and shares no code and no definition with the program. fuz
 flows and spanning trees are stands in fuzz/graphs.py.
 """
 
+import functools
 import re
 from dataclasses import dataclass, field
 
 import graphs
 
+NATURAL, SIGNED = re.compile(rb"[0-9]+"), re.compile(rb"-?[0-9]+")
 MOST_VARIABLES = 10**6
 MOST_32_BITS = 2**32 - 1
 MOST_BOUND = 2**53
@@ -67,11 +69,11 @@ def lines(text):
 
 
 def natural(token):
-    return int(token) if re.fullmatch(rb"[0-9]+", token) else None
+    return int(token) if NATURAL.fullmatch(token) else None
 
 
 def signed(token):
-    return int(token) if re.fullmatch(rb"-?[0-9]+", token) else None
+    return int(token) if SIGNED.fullmatch(token) else None
 
 
 class Reader:
@@ -171,6 +173,7 @@ class Reader:
         self.raise_variables(variable)
 
 
+@functools.lru_cache(maxsize=2)  # many answers to one input are judged in turn
 def read(text):
     return Reader(text).problem
 
@@ -227,12 +230,24 @@ def judge_model(problem, status_line, rest):
     for number, clause in enumerate(problem.clauses, 1):
         if not any(signs[abs(x)] == (x > 0) for x in clause):
             raise Rejected(ended, "ClauseFalse", number)
-    for number, predicate in enumerate(problem.predicates, 1):
-        edges = [e for e in edges_of(problem, predicate) if signs[e[3]]]
-        holds = graphs.holds(nodes_of(problem, predicate), edges, *meaning(predicate))
-        if holds != signs[variable_of(predicate)]:
-            raise Rejected(ended, "AtomWrong", number)
+    number = first_wrong_predicate(problem, signs)
+    if number:
+        raise Rejected(ended, "AtomWrong", number)
     return "accepted model"
+
+
+def holds(problem, predicate, signs):
+    """Whether the predicate holds where each variable has its sign."""
+    edges = [e for e in edges_of(problem, predicate) if signs[e[3]]]
+    return graphs.holds(nodes_of(problem, predicate), edges, *meaning(predicate))
+
+
+def first_wrong_predicate(problem, signs):
+    """The least number of a predicate whose variable isn't what its graph says, or None."""
+    for number, predicate in enumerate(problem.predicates, 1):
+        if holds(problem, predicate, signs) != signs[variable_of(predicate)]:
+            return number
+    return None
 
 
 def nodes_of(problem, predicate):

@@ -5,16 +5,14 @@ The same seed gives the same texts. The status is 0 exactly where no run differs
 """
 
 import argparse
-import collections
 import itertools
-import os
 import random
-import subprocess
 import sys
 import tempfile
 
 import graphs
 import reference
+from comparison import Comparison
 
 NUMBERS = [10**6, 10**6 + 1, 2**31, 2**32 - 1, 2**32, 2**53, 2**53 + 1, 2**63, 2**64 - 1, 2**64, 10**40]
 ODD_TOKENS = ["+1", "x", "1x", "--1", "-", "1.0", "\x00", "\xff", "-0", "007", "cnf", "int", "c", "v", "s", "p"]
@@ -261,47 +259,25 @@ class Texts:
         return (joined + "\n" * self.often(0.8)).encode("latin1")
 
 
-class Comparison:
-    def __init__(self, program):
-        self.program = os.path.abspath(program)
-        self.kinds = collections.Counter()
-        self.different = 0
-
-    def compare(self, folder, verb, text, answer=b""):
-        names = ["f"] if verb == "print" else ["f", "a"]
-        for name, held in zip(names, (text, answer)):
-            with open(os.path.join(folder, name), "wb") as out:
-                out.write(held)
-        run = subprocess.run([self.program, verb, *names], cwd=folder, capture_output=True)
-        status, due = reference.outcome(verb, text, answer)
-        words = due.split()
-        self.kinds[words[2] if status else " ".join(words[:2])] += 1
-        if (run.returncode, run.stdout, run.stderr) != (status, due.encode(), b""):
-            self.different += 1
-            print("%s differs: input %r, answer %r" % (verb, text, answer))
-            print("  due %d %r, found %d %r %r" % (status, due, run.returncode, run.stdout, run.stderr))
-
-
 def main():
     parser = argparse.ArgumentParser()
     parser.add_argument("--program", required=True)
     parser.add_argument("--rounds", type=int, default=500)
     parser.add_argument("--seed", type=int, default=1)
     args = parser.parse_args()
-    texts, comparison = Texts(args.seed), Comparison(args.program)
+    texts = Texts(args.seed)
     with tempfile.TemporaryDirectory() as folder:
+        comparison = Comparison(args.program, folder)
         for _ in range(args.rounds):
             text = texts.input()
-            comparison.compare(folder, "print", text)
+            comparison.compare("print", text)
             try:
                 problem = reference.read(text)
             except reference.Fault:
                 continue
             for _ in range(3):
-                comparison.compare(folder, "check", text, texts.answer(problem))
-    for kind, count in sorted(comparison.kinds.items()):
-        print("%7d %s" % (count, kind))
-    print("%d runs, %d different" % (sum(comparison.kinds.values()), comparison.different))
+                comparison.compare("check", text, texts.answer(problem))
+    comparison.show()
     sys.exit(1 if comparison.different else 0)
 
 

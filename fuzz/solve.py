@@ -10,17 +10,14 @@ import argparse
 import collections
 import itertools
 import os
-import random
 import subprocess
 import sys
 import tempfile
 
 import graphs
+import problems
 import reference
 
-NODE_PREDICATES = ["reach", "distance_leq", "distance_lt", "weighted_distance_leq", "weighted_distance_lt"]
-FLOW_PREDICATES = ["maximum_flow_geq", "maximum_flow_gt"]
-TREE_PREDICATES = ["mst_weight_leq", "mst_weight_lt"]
 STATUSES = {b"s SATISFIABLE": 10, b"s UNSATISFIABLE": 20, b"s UNKNOWN": 0}
 DEFAULT_BUDGET = 100_000
 
@@ -29,78 +26,12 @@ class Wrong(Exception):
     """What is wrong with a run."""
 
 
-# ---- problems
-
-
-class Small:
-    """One small problem, drawn with a seed, and a budget. Some need more conflicts, and most of these get a small budget."""
-
-    def __init__(self, seed):
-        self.random = random.Random(seed)
-        self.is_hard = self.often(0.2)
-        self.variables = self.random.randint(7, 9) if self.is_hard else self.random.randint(1, 8)
-
-    def budget(self):
-        return self.random.choice([1, 2, 3, 5, DEFAULT_BUDGET] if self.is_hard else [1, 3, DEFAULT_BUDGET])
-
-    def often(self, share):
-        return self.random.random() < share
-
-    def variable(self):
-        return self.random.randint(1, self.variables)
-
-    def clause(self):
-        if self.is_hard:
-            return [self.random.choice([-1, 1]) * x for x in self.random.sample(range(1, self.variables + 1), 3)]
-        width = self.random.choice([1, 2, 2, 3, 3, 3, 3, 4]) if self.often(0.995) else 0
-        return [self.random.choice([-1, 1]) * self.variable() for _ in range(width)]
-
-    def edge(self, graph, nodes):
-        ends = "%d %d" % (self.random.randrange(nodes), self.random.randrange(nodes))
-        return "edge %d %s %d %d" % (graph, ends, self.variable(), self.random.randint(0, 4))
-
-    def predicate(self, graph, nodes):
-        words = NODE_PREDICATES[:1] if self.often(0.5) else NODE_PREDICATES + TREE_PREDICATES
-        if nodes > 1 and self.often(0.3):
-            words = FLOW_PREDICATES
-        word, bound = self.random.choice(words), self.random.choice([0, 1, 2, 3, 5, 8])
-        if word in TREE_PREDICATES:
-            return "%s %d %d %d" % (word, graph, self.variable(), bound)
-        ends = self.random.sample(range(nodes), 2) if word in FLOW_PREDICATES else [self.random.randrange(nodes) for _ in "uv"]
-        row = "%s %d %d %d %d" % (word, graph, *ends, self.variable())
-        return row if word == "reach" else "%s %d" % (row, bound)
-
-    def graph(self, identity):
-        nodes = self.random.randint(1, 4)
-        rows = [self.edge(identity, nodes) for _ in range(self.random.randint(0, 7))]
-        rows += [self.predicate(identity, nodes) for _ in range(self.random.randint(0, 3))]
-        self.random.shuffle(rows)
-        return ["digraph int %d 0 %d" % (nodes, identity)] + rows
-
-    def text(self):
-        rows = ["p gnf %d 0" % self.random.randint(0, 8)] if self.often(0.3) else []
-        for identity in range(self.random.choice([0, 1, 1, 1, 2])):
-            rows += self.graph(identity)
-        count = 5 * self.variables
-        if not self.is_hard:
-            count = self.random.randint(0, self.random.choice([2, 4, 6]) * self.variables)
-        rows += [" ".join(map(str, self.clause() + [0])) for _ in range(count)]
-        return "".join(row + "\n" for row in rows).encode()
-
-
-def agrees(problem, signs):
-    for predicate in problem.predicates:
-        edges = [e for e in reference.edges_of(problem, predicate) if signs[e[3] - 1]]
-        holds = graphs.holds(reference.nodes_of(problem, predicate), edges, *reference.meaning(predicate))
-        if holds != signs[reference.variable_of(predicate) - 1]:
-            return False
-    return True
-
-
 def is_satisfiable(problem):
-    for signs in itertools.product([False, True], repeat=problem.variables):
-        if all(any(signs[abs(x) - 1] == (x > 0) for x in c) for c in problem.clauses) and agrees(problem, signs):
-            return True
+    for values in itertools.product([False, True], repeat=problem.variables):
+        signs = dict(enumerate(values, 1))
+        if all(any(signs[abs(x)] == (x > 0) for x in c) for c in problem.clauses):
+            if reference.first_wrong_predicate(problem, signs) is None:
+                return True
     return False
 
 
@@ -228,9 +159,9 @@ class Comparison:
         return "%s %s" % ({10: "model", 20: "refutation", 0: "progress"}[status], "+".join(sorted(kinds)))
 
     def round(self, seed):
-        small = Small(seed)
+        small = problems.Small(seed)
         text = small.text()
-        budget = small.budget()
+        budget = small.random.choice([1, 2, 3, 5, DEFAULT_BUDGET] if small.is_hard else [1, 3, DEFAULT_BUDGET])
         try:
             self.found[self.compare(text, budget)] += 1
         except Wrong as wrong:

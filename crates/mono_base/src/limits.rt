@@ -28,8 +28,8 @@ pub const MAX_LITERALS: u32 = 16_000_000;
 /// Bytes of an input: 2^28.
 pub const MAX_INPUT_BYTES: u64 = 268_435_456;
 
-/// Bytes of an answer that is checked: 2^30.
-pub const MAX_ANSWER_BYTES: u64 = 1_073_741_824;
+/// Bytes of an answer that is checked: 2^40.
+pub const MAX_ANSWER_BYTES: u64 = 1_099_511_627_776;
 
 /// The weight of an edge: 2^32 - 1.
 pub const MAX_WEIGHT: u64 = 4_294_967_295;
@@ -50,7 +50,7 @@ pub fn limits_are_these_numbers()
     ensures clauses { MAX_CLAUSES ≡ 8000000 }
     ensures literals { MAX_LITERALS ≡ 16000000 }
     ensures input_bytes { MAX_INPUT_BYTES ≡ 2 ^ 28 }
-    ensures answer_bytes { MAX_ANSWER_BYTES ≡ 2 ^ 30 }
+    ensures answer_bytes { MAX_ANSWER_BYTES ≡ 2 ^ 40 }
     ensures weight { MAX_WEIGHT + 1 ≡ 2 ^ 32 }
     ensures bound { MAX_BOUND ≡ 2 ^ 53 }
     ensures witness_value { MAX_WITNESS_VALUE ≡ 2 ^ 60 }

@@ -2,7 +2,10 @@ pub mod Walked
 pub mod Literals
 pub mod ValueFaults
 pub mod SeenMore
-pub mod LineByLine
+pub mod Alike
+pub mod Behind
+pub mod Cuts
+pub mod Fed
 pub mod Found
 pub mod WrongAtoms
 pub mod ModelEnds
@@ -10,3 +13,4 @@ pub mod AllTrue
 pub mod ValueRows
 pub mod ModelText
 pub mod Accepted
+mod Questions

@@ -118,7 +118,7 @@ apart l (m ∷ t) h =
     let s = or_parts (var_of m == var_of l) (has_var t (var_of l)) h in
     (false_from_ne_true (int_eq l m) (λ e. both_ways (var_of m == var_of l) s.0 (eq-eqb (var_of m) (var_of l) (ap var_of (sym (same_lit l m e))))), apart l t s.1)
 
-distinct_lits : (t : List ℤ) → IsTrue (is_partial t) → IsDistinct int_eq t
+pub distinct_lits : (t : List ℤ) → IsTrue (is_partial t) → IsDistinct int_eq t
 unfolding IsDistinct
 distinct_lits [] p = tt
 distinct_lits (l ∷ t) p = let j = joined l t p in (apart l t j.new, distinct_lits t j.rest)

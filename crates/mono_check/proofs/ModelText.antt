@@ -11,10 +11,10 @@ use Rattle.mono_check.specs.declared.reason.Reason.{Reason}
 use Rattle.mono_check.specs.declared.reason.Reason.TheVariants as reason
 use Rattle.mono_check.specs.Lines.{first_fault}
 use Rattle.mono_check.specs.Values.{are_values, is_end, literals_among, has_end, goes_on, passes_end, value_fault, model_line_fault, lits_in, ends_in, literals_in, has_ended}
-use Rattle.mono_check.specs.Answers.{values_item, AreValues}
+use Rattle.mono_check.specs.Answers.{values_item}
 use Rattle.mono_check.proofs.SeenMore.{literals_more, unmapped}
 use Rattle.mono_check.proofs.ValueFaults.{no_fault}
-use Rattle.mono_check.proofs.ValueRows.{IsOpenRow, IsLastRow, IsFront, IsWhole, row_shape, open_stops, last_ends, last_among, last_stops, split_row, none_among, no_end, values-front}
+use Rattle.mono_check.proofs.ValueRows.{IsOpenRow, IsLastRow, IsFront, IsWhole, row_shape, open_stops, last_ends, last_among, last_stops, split_row, none_among, values-front}
 
 -- ---- lines after lines, by what was said before
 

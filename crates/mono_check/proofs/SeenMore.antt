@@ -1,6 +1,6 @@
 -- What the checker keeps, behind one more line.
 use Rattle.std.proofs.Common.{◌≡◌, ℕ, ◌+◌, ◌≤◌, Bool, true, false, not, ◌&&◌, ◌||◌, List, [], ◌∷◌, ◌++◌, map, filter, find, length, Option, Some, None, option_map, refl, sym, ap, subst, ◌∙◌, All, ℤ, is_some, append-nil, length-append, arith}
-use Rattle.std.specs.Prelude.{IsTrue, nat_le, if◌then◌else◌}
+use Rattle.std.specs.Prelude.{IsTrue, nat_le, unwrap_or, if◌then◌else◌}
 use Rattle.std.specs.List.{last_or}
 use Rattle.std.specs.Option.{option_or}
 use Rattle.std.proofs.lemmas.Bool.{and_parts, leb-true}
@@ -25,11 +25,11 @@ use Rattle.mono_steps.proofs.ChainFaults.{no_fault_in}
 use Rattle.mono_answer.specs.declared.item.Item.{Item}
 use Rattle.mono_answer.specs.declared.item.Item.TheVariants as says
 use Rattle.mono_check.specs.declared.step_lines.StepLines.{StepLines}
-use Rattle.mono_check.specs.declared.values.Values.{Values}
 use Rattle.mono_check.specs.Values.{lits_in, ends_in, literals_in, has_ended, end_line}
 use Rattle.mono_check.specs.StepLines.{step_line_fault, reason_of, clauses_in, steps_in, step_in, is_chain, chain_count}
-use Rattle.mono_check.specs.Lines.{last_of}
-use Rattle.mono_check.specs.Seen.{AreMembers, AreValuesSeen, AreValuesAfter, AreStepsSeen, IsStepAfter}
+use Rattle.mono_check.specs.Lines.{last_of, last_line}
+use Rattle.mono_check.specs.Seen.{AreStepsAfter, AreStepsKept, steps_kept}
+use Rattle.mono_check.specs.SoFar.{ModelSoFar, StepsSoFar, model_more, steps_more}
 
 pub unmapped : {A B : Type 0} (f : A → B) (o : Option A) → option_map f o ≡ None → o ≡ None
 unmapped f None h = refl
@@ -62,13 +62,6 @@ ended_by_line (l ∷ ls) = by_head (ends_in l.1) (ended_by_line ls)
     by_head : (b : Bool) → has_ended ls ≡ is_some (end_line ls) → (b || has_ended ls) ≡ is_some (option_map (λ (k : ℕ × Option Item). k.0) (if b then Some l else find (λ (k : ℕ × Option Item). ends_in k.1) ls))
     by_head true h = refl
     by_head false h = h
-
-pub values_more : (p : Instance) (v after : Values) (before : List (ℕ × Option Item)) (n : ℕ) (i : Option Item) → AreValuesSeen p before v → AreValuesAfter p (literals_in before) v n i after → AreValuesSeen p (before ++ (n, i) ∷ []) after
-values_more p v after before n i seen h = record {
-  set = subst (λ (ls : List ℤ). AreMembers p ls after.set) (literals_more before n i) h.set;
-  end = h.end ∙ ap (λ (o : Option ℕ). option_or o (if ends_in i then Some n else None)) seen.end ∙ end_more before n i;
-  last = h.last ∙ last_more before n i;
-}
 
 -- ---- the lines of steps
 
@@ -119,19 +112,52 @@ names_known p earlier (step.Chain c) h =
     let a = and_parts (names_vars p c.clause && names_clauses earlier c.used) (covers c.clause (chain_end (clauses_named earlier c.used))) justified in
     (and_parts (names_vars p c.clause) (names_clauses earlier c.used) a.0).0
 
-pub steps_more : (p : Instance) (before : List (ℕ × Option Item)) (s after : StepLines) (n : ℕ) (i : Option Item) → AreStepsSeen p before s → None ≡ step_line_fault p s.earlier.items i → IsStepAfter s n i after → AreStepsSeen p (before ++ (n, i) ∷ []) after
-steps_more p before s after n None seen h k = absurd cc
-steps_more p before s after n (Some (says.Status q)) seen h k = absurd cc
-steps_more p before s after n (Some (says.Values zs)) seen h k = absurd cc
-steps_more p before s after n (Some (says.Step r)) seen h k =
+-- behind a step without a fault, what is kept is what it has to be
+pub steps_stay : (p : Instance) (s after : StepLines) (n : ℕ) (r : Step) → AreStepsKept p s → None ≡ step_line_fault p s.earlier.items (Some (says.Step r)) → AreStepsAfter s n r after → AreStepsKept p after
+steps_stay p s after n r kept h k =
     let none : step_fault p (p.clauses ++ s.earlier.items) r ≡ None = unmapped reason_of (step_fault p (p.clauses ++ s.earlier.items) r) (sym h) in
     let longer : length after.earlier.items ≡ length s.earlier.items + 1 = ap length k.earlier ∙ length-append s.earlier.items (clause_of r ∷ []) in
     record {
-      size = k.checker ∙ seen.size;
-      clauses = k.earlier ∙ ap (λ (cs : List (List ℤ)). cs ++ clause_of r ∷ []) seen.clauses ∙ sym (clauses_push before n r);
-      known = subst (λ (cs : List (List ℤ)). All (All (IsLitWithin p.vars)) cs) (sym k.earlier) (All-push (All (IsLitWithin p.vars)) s.earlier.items (clause_of r) seen.known (all_within p (clause_of r) (names_known p (p.clauses ++ s.earlier.items) r none)));
-      chains = k.chains ∙ ap (λ (m : ℕ). if is_chain r then m + 1 else m) seen.chains ∙ count_push (steps_in before) r ∙ sym (ap chain_count (steps_push before n r));
-      few = (let f = few_more (is_chain r) s.chains (length s.earlier.items) seen.few in omega (arith, f, longer, k.chains));
-      last = k.last ∙ last_more before n (Some (says.Step r));
-      ends = k.ends ∙ sym (ap ends_empty (steps_push before n r) ∙ ends_push (steps_in before) r);
+      size = k.checker ∙ kept.size;
+      known = subst (λ (cs : List (List ℤ)). All (All (IsLitWithin p.vars)) cs) (sym k.earlier) (All-push (All (IsLitWithin p.vars)) s.earlier.items (clause_of r) kept.known (all_within p (clause_of r) (names_known p (p.clauses ++ s.earlier.items) r none)));
+      few = (let f = few_more (is_chain r) s.chains (length s.earlier.items) kept.few in omega (arith, f, longer, k.chains));
     }
+
+same_steps : (c d : List (List ℤ)) (k m : ℕ) (a b : Bool) (l n : ℕ) → c ≡ d → k ≡ m → a ≡ b → l ≡ n → ◌≡◌ {A = StepsSoFar} (record { clauses = c; chains = k; ends_empty = a; last = l }) (record { clauses = d; chains = m; ends_empty = b; last = n })
+same_steps c d k m a b l n e f g h = cc
+
+-- and they are one step more
+pub steps_grow : (s after : StepLines) (n : ℕ) (r : Step) → AreStepsAfter s n r after → (k : ℕ) → steps_kept k after ≡ steps_more n (Some (says.Step r)) (steps_kept k s)
+steps_grow s after n r k status =
+    same_steps after.earlier.items (s.earlier.items ++ clause_of r ∷ []) after.chains (if is_chain r then s.chains + 1 else s.chains) after.ends_empty (is_empty_chain r) (unwrap_or after.last status) n
+    k.earlier k.chains k.ends (ap (λ (o : Option ℕ). unwrap_or o status) k.last)
+
+-- ---- what lines say, as the checker keeps it
+
+-- of the lines of steps behind the status line, line n
+abbrev pub steps_said : ℕ → List (ℕ × Option Item) → StepsSoFar
+steps_said n ls = record { clauses = clauses_in ls; chains = chain_count (steps_in ls); ends_empty = ends_empty (steps_in ls); last = last_line n ls }
+
+last_is : (before : List (ℕ × Option Item)) (n m : ℕ) (i : Option Item) → last_line n (before ++ (m, i) ∷ []) ≡ m
+last_is before n m i = ap (λ (o : Option ℕ). unwrap_or o n) (sym (last_more before m i))
+
+pub steps_said_more : (p : Instance) (n : ℕ) (before : List (ℕ × Option Item)) (m : ℕ) (i : Option Item) → None ≡ step_line_fault p (clauses_in before) i → steps_said n (before ++ (m, i) ∷ []) ≡ steps_more m i (steps_said n before)
+steps_said_more p n before m None h = absurd cc
+steps_said_more p n before m (Some (says.Status q)) h = absurd cc
+steps_said_more p n before m (Some (says.Values zs)) h = absurd cc
+steps_said_more p n before m (Some (says.Step r)) h =
+    same_steps (clauses_in (before ++ (m, Some (says.Step r)) ∷ [])) (clauses_in before ++ clause_of r ∷ []) (chain_count (steps_in (before ++ (m, Some (says.Step r)) ∷ []))) (if is_chain r then chain_count (steps_in before) + 1 else chain_count (steps_in before))
+    (ends_empty (steps_in (before ++ (m, Some (says.Step r)) ∷ []))) (is_empty_chain r) (last_line n (before ++ (m, Some (says.Step r)) ∷ [])) m
+    (clauses_push before m r) (ap chain_count (steps_push before m r) ∙ sym (count_push (steps_in before) r)) (ap ends_empty (steps_push before m r) ∙ ends_push (steps_in before) r) (last_is before n m (Some (says.Step r)))
+
+-- of the lines of a model behind the status line, line n
+abbrev pub model_said : ℕ → List (ℕ × Option Item) → ModelSoFar
+model_said n ls = record { lits = literals_in ls; end = end_line ls; last = last_line n ls }
+
+same_model_said : (c d : List ℤ) (a b : Option ℕ) (l n : ℕ) → c ≡ d → a ≡ b → l ≡ n → ◌≡◌ {A = ModelSoFar} (record { lits = c; end = a; last = l }) (record { lits = d; end = b; last = n })
+same_model_said c d a b l n e f g = cc
+
+pub model_said_more : (n : ℕ) (before : List (ℕ × Option Item)) (m : ℕ) (i : Option Item) → model_said n (before ++ (m, i) ∷ []) ≡ model_more m i (model_said n before)
+model_said_more n before m i =
+    same_model_said (literals_in (before ++ (m, i) ∷ [])) (literals_in before ++ lits_in i) (end_line (before ++ (m, i) ∷ [])) (option_or (end_line before) (if ends_in i then Some m else None)) (last_line n (before ++ (m, i) ∷ [])) m
+    (sym (literals_more before m i)) (sym (end_more before m i)) (last_is before n m i)

@@ -7,7 +7,7 @@ use Rattle.mono_check.specs.declared.reason.Reason.{Reason}
 use Rattle.mono_check.specs.declared.reason.Reason.TheVariants as reason
 use Rattle.mono_check.specs.Values.{are_values, has_end, literals_among, passes_end, value_fault}
 
-abbrev told : Bool → Bool → Bool → Option Reason
+abbrev pub told : Bool → Bool → Bool → Option Reason
 told a b c = if a then Some reason.BadLine else if not b || c then Some reason.ModelVariables else None
 
 is_told : (a b c x y z : Bool) → a ≡ x → b ≡ y → c ≡ z → told x y z ≡ told a b c

@@ -6,5 +6,10 @@ pub mod Atoms
 pub mod Verdicts
 pub mod Seen
 pub mod Enabled
+pub mod Questions
 pub mod Worked
 pub mod Answers
+pub mod SoFar
+pub mod Checking
+pub mod Judges
+pub mod FromShelf

@@ -1,5 +1,5 @@
 -- Lines, each judged over those before it.
-use Rattle.std.specs.Prelude.{◌≡◌, ℕ, List, [], ◌∷◌, ◌++◌, map, Option, Some, None, option_map, unwrap_or}
+use Rattle.std.specs.Prelude.{ℕ, List, [], ◌∷◌, ◌++◌, map, Option, None, option_map, unwrap_or}
 use Rattle.std.specs.List.{last_or}
 use Rattle.std.specs.Option.{option_or}
 use Rattle.mono_answer.specs.declared.item.Item.{Item}
@@ -17,8 +17,3 @@ last_of ls = last_or None (map (λ l. l.0) ls)
 -- the number of the last line, or that of the status line, line n
 abbrev pub last_line : ℕ → List (ℕ × Option Item) → ℕ
 last_line n ls = unwrap_or (last_of ls) n
-
--- the first of the lines, and those behind it
-abbrev pub AreNext : List (ℕ × Option Item) → Option (ℕ × Option Item) → List (ℕ × Option Item) → Type 0
-AreNext items None rest = items ≡ []
-AreNext items (Some i) rest = items ≡ i ∷ rest

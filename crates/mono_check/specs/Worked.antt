@@ -1,7 +1,9 @@
 -- What answers to small problems come to, for rows that are worked out.
-use Rattle.std.specs.Prelude.{ℕ, ℤ, pos, negsuc, List, [], ◌∷◌}
+use Rattle.std.specs.Prelude.{ℕ, ℤ, pos, negsuc, true, List, [], ◌∷◌}
 use Rattle.mono_problem.specs.Instance.{Instance}
 use Rattle.mono_problem.specs.declared.atom.Predicate.TheVariants as kind
+use Rattle.mono_check.specs.Checking.{later}
+use Rattle.mono_check.specs.SoFar.{SoFar}
 use Rattle.mono_check.specs.Verdicts.{Outcome, outcome_of}
 
 -- over the problem of these clauses and the variables 1 to `vars`
@@ -20,3 +22,12 @@ two_edges cs = record {
 -- over these edges and the clauses {1}, {2} and {-3}, which the predicate contradicts
 abbrev pub reached : List ℕ → Outcome
 reached text = outcome_of (two_edges ((pos 1 ∷ []) ∷ (pos 2 ∷ []) ∷ (negsuc 2 ∷ []) ∷ [])) text
+
+-- behind what the lines so far have said over the clauses {1} and {-1}, so many lines, and the bytes of the next one that have come: what the answer comes to once these bytes follow
+abbrev pub left : SoFar → ℕ → List ℕ → List ℕ → Outcome
+left so_far lines unfinished rest = later (record {
+  problem = record { vars = 1; graphs = []; atoms = []; clauses = (pos 1 ∷ []) ∷ (negsuc 0 ∷ []) ∷ [] };
+  judging = record { so_far = so_far; lines = lines; unfinished = unfinished };
+  fed = 0;
+  is_live = true;
+}) rest

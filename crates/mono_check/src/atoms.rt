@@ -1,12 +1,41 @@
 //! Predicates whose variables have the wrong value.
+//!
+//! Predicates on walks of one graph from one node are decided by one search, wherever they stand among the others. So
+//! what is done first doesn't depend on the order of the predicates, and what is answered does.
 
-ghost use Rattle.std.specs.Prelude.{◌≡◌, IfOk, length};
+ghost use Rattle.std.specs.Prelude.{◌≡◌, IfOk, OnOk, length};
 ghost use Rattle.mono_base.specs.Literal.{value_in};
 ghost use Rattle.mono_check.specs.Atoms.{IsWrongAtom};
+ghost use Rattle.mono_check.specs.Enabled.{IsEnabled};
+ghost use Rattle.mono_check.specs.Questions.{AreTruths};
 
 use crate::enabled::EnabledPart;
+use crate::question::{alike_count, questions_in_order};
 use mono_problem::Problem;
 use std::alloc::{AllocError, Global};
+
+/// What is known of the predicates by their places: the truth of those on walks of which one search answers several.
+fn truths_of_walks(
+    alloc: Global,
+    problem: &Problem,
+    model: &[bool],
+    part: &mut EnabledPart,
+) -> Result<Vec<Option<bool>>, AllocError>
+    requires model { length model.now ≡ problem.now.vars }
+    requires enabled { IsEnabled problem.now (value_in model.now) part.old }
+    ensures truths { IfOk result (λ truths. AreTruths problem.now (value_in model.now) truths.items) }
+    ensures enabled { OnOk result (IsEnabled problem.now (value_in model.now) part.new) }
+{
+    let mut truths = vec![in alloc; None; problem.atom_count() as usize]?;
+    let questions = questions_in_order(alloc, problem)?;
+    let mut rest = questions.as_slice();
+    while !rest.is_empty() {
+        let (alike, others) = rest.split_at(alike_count(rest));
+        part.decide(alloc, problem, model, alike, &mut truths)?;
+        rest = others;
+    }
+    Ok(truths)
+}
 
 /// The number of the first predicate whose variable is true where the predicate fails or false where it holds: `None`
 /// exactly where each predicate's variable is true exactly where its predicate holds. Variable x has the value
@@ -26,8 +55,9 @@ pub fn first_wrong_atom(
     let _ = problem.vars();
     let first = problem.atom(1);
     let mut part = EnabledPart::new(alloc, problem, model, first.graph)?;
+    let truths = truths_of_walks(alloc, problem, model, &mut part)?;
     for place in 0..count {
-        if !part.is_right(alloc, problem, model, place + 1)? {
+        if !part.is_right(alloc, problem, model, place + 1, truths[place as usize])? {
             return Ok(Some(place + 1));
         }
     }

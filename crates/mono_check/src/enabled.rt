@@ -1,20 +1,22 @@
 //! The part of a graph that an assignment enables, and whether predicates hold in it.
 
-ghost use Rattle.std.specs.Prelude.{◌≡◌, ◌<◌, ◌≤◌, ◌↔◌, ◌==◌, ◌&&◌, ◌||◌, ℕ, IsTrue, IfOk, OnOk, length};
+ghost use Rattle.std.specs.Prelude.{◌≡◌, ◌<◌, ◌≤◌, ◌↔◌, ◌==◌, ◌&&◌, ◌||◌, ℕ, All, IsTrue, IfOk, IfSome, OnOk, length};
 ghost use Rattle.mono_base.specs.Literal.{value_in};
 ghost use Rattle.mono_graph.specs.Digraph.{edge_at, enabled, present};
 ghost use Rattle.mono_problem.specs.Instance.{graph_at};
 ghost use Rattle.mono_problem.specs.WellFormed.{IsOver};
-ghost use Rattle.mono_problem.specs.Holds.{Holds};
+ghost use Rattle.mono_problem.specs.Holds.{Holds, HoldsAtom};
 ghost use Rattle.mono_problem.specs.Read.{atom_numbered};
 ghost use Rattle.mono_check.specs.Atoms.{IsJudged};
 ghost use Rattle.mono_check.specs.Enabled.{IsEnabled};
+ghost use Rattle.mono_check.specs.Questions.{IsQuestion, AreAlike, AreTruths, question_at};
 
 use crate::predicates::{carries, reaches, reaches_in_steps, reaches_in_weight, spans};
+use crate::question::{WalkQuestion, keep_answers, targets_of};
 use mono_flows::FlowFinder;
 use mono_graph::{Graph, Part};
 use mono_paths::WalkFinder;
-use mono_problem::{Predicate, Problem};
+use mono_problem::{Atom, Predicate, Problem};
 use mono_trees::TreeFinder;
 use std::alloc::{AllocError, Global};
 
@@ -144,6 +146,70 @@ impl EnabledPart {
         }
     }
 
+    /// Decides predicates on walks that one search answers, and keeps what was found by their places.
+    ///
+    /// One that is alone is left until its turn comes, since one before it may be wrong.
+    pub(crate) fn decide(
+        &mut self,
+        alloc: Global,
+        problem: &Problem,
+        model: &[bool],
+        questions: &[WalkQuestion],
+        truths: &mut Vec<Option<bool>>,
+    ) -> Result<(), AllocError>
+        requires model { length model.now ≡ problem.now.vars }
+        requires some { 0 < length questions.now }
+        requires questions { All (IsQuestion problem.now) questions.now }
+        requires alike { All (AreAlike (question_at questions.now 0)) questions.now }
+        requires enabled { IsEnabled problem.now (value_in model.now) self.old }
+        requires truths { AreTruths problem.now (value_in model.now) truths.old.items }
+        ensures enabled { OnOk result (IsEnabled problem.now (value_in model.now) self.new) }
+        ensures truths { OnOk result (AreTruths problem.now (value_in model.now) truths.new.items) }
+    {
+        if questions.len() < 2 {
+            return Ok(());
+        }
+        let _ = problem.vars();
+        let first = questions[0];
+        self.turn_to(alloc, problem, model, first.graph)?;
+        let targets = targets_of(alloc, questions)?;
+        let answers = self.walks.which_are_reached(
+            problem.graph(first.graph),
+            &self.part,
+            first.from,
+            first.measure,
+            &targets,
+        )?;
+        keep_answers(truths, questions, &answers);
+        Ok(())
+    }
+
+    /// Whether the predicate of an atom holds, if that isn't known yet.
+    fn truth(
+        &mut self,
+        alloc: Global,
+        problem: &Problem,
+        model: &[bool],
+        atom: Atom,
+        known: Option<bool>,
+    ) -> Result<bool, AllocError>
+        requires model { length model.now ≡ problem.now.vars }
+        requires graph { atom.graph < length problem.now.graphs }
+        requires over { IsOver (graph_at problem.now atom.graph) atom.predicate }
+        requires enabled { IsEnabled problem.now (value_in model.now) self.old }
+        requires known { IfSome known (λ b. IsTrue b ↔ HoldsAtom problem.now (value_in model.now) atom) }
+        ensures holds { IfOk result (λ holds. IsTrue holds ↔ HoldsAtom problem.now (value_in model.now) atom) }
+        ensures enabled { OnOk result (IsEnabled problem.now (value_in model.now) self.new) }
+    {
+        if let Some(holds) = known {
+            return Ok(holds);
+        }
+        let _ = problem.vars();
+        self.turn_to(alloc, problem, model, atom.graph)?;
+        let holds = self.holds(alloc, problem.graph(atom.graph), atom.predicate)?;
+        Ok(holds)
+    }
+
     /// Whether the variable of the predicate of this number is true exactly where the predicate holds.
     pub(crate) fn is_right(
         &mut self,
@@ -151,18 +217,19 @@ impl EnabledPart {
         problem: &Problem,
         model: &[bool],
         number: u32,
+        known: Option<bool>,
     ) -> Result<bool, AllocError>
         requires model { length model.now ≡ problem.now.vars }
         requires low { 0 < number }
         requires high { number ≤ length problem.now.atoms }
         requires enabled { IsEnabled problem.now (value_in model.now) self.old }
+        requires known { IfSome known (λ b. IsTrue b ↔ HoldsAtom problem.now (value_in model.now) (atom_numbered problem.now number)) }
         ensures right { IfOk result (IsJudged problem.now (value_in model.now) (atom_numbered problem.now number)) }
         ensures enabled { OnOk result (IsEnabled problem.now (value_in model.now) self.new) }
     {
         let _ = problem.vars();
         let atom = problem.atom(number);
-        self.turn_to(alloc, problem, model, atom.graph)?;
-        let holds = self.holds(alloc, problem.graph(atom.graph), atom.predicate)?;
+        let holds = self.truth(alloc, problem, model, atom, known)?;
         if value(model, atom.var) {
             Ok(holds)
         } else {

@@ -1,19 +1,38 @@
-//! The verdict on an answer.
+//! The verdict on an answer, line by line.
 //!
 //! The names of the function `verdict` and the type `Verdict` differ only in case, so the two can't stand in one module:
 //! the function has this one.
 
-ghost use Rattle.std.specs.Prelude.{IfOk};
-ghost use Rattle.mono_check.specs.Verdicts.{IsVerdict};
+ghost use Rattle.std.specs.Prelude.{◌≡◌, ◌≤◌, ◌<◌, ◌+◌, ◌^◌, ◌++◌, ◌∷◌, [], ℕ, List, IfOk, OnOk, IfSome, IfNone, length};
+ghost use Rattle.mono_answer.specs.Items.{items_in};
+ghost use Rattle.mono_problem.specs.Instance.{Instance};
+ghost use Rattle.mono_check.specs.Checking.{later_by};
+ghost use Rattle.mono_check.specs.Judges.{IsKept, IsOneLine, IsSound, judging, size_of, so_far};
+ghost use Rattle.mono_check.specs.SoFar.{behind};
+ghost use Rattle.mono_check.specs.Verdicts.{IsOutcome, IsVerdict, outcome_of};
 
-use crate::reading::next_item;
-use crate::step_lines::judge_steps;
-use crate::values::judge_model;
-use crate::{Reason, Verdict};
-use mono_answer::{Item, ItemReader, Kind};
+use crate::Verdict;
+use crate::said::Said;
+use memchr::memchr;
+use mono_answer::{ItemReader, ItemRefusal};
 use mono_problem::Problem;
-use mono_text::Lines;
+use mono_text::Line;
 use std::alloc::{AllocError, Global};
+
+/// Judges the lines of an answer, whose bytes come piece by piece.
+///
+/// Each line is judged as soon as it has ended. Then only what later lines are judged by is kept: the clauses of the
+/// steps, or the literals of a model.
+#[derive(Drop)]
+pub(crate) struct Judge {
+    alloc: Global,
+    reader: ItemReader,
+    said: Said,
+    /// How many lines have ended.
+    lines: u64,
+    /// The bytes of the next line that have come.
+    unfinished: Vec<u8>,
+}
 
 /// The verdict on the text of an answer to the problem, for all bytes.
 ///
@@ -22,27 +41,122 @@ use std::alloc::{AllocError, Global};
 pub fn verdict(alloc: Global, problem: &Problem, answer: &[u8]) -> Result<Verdict, AllocError>
     ensures { IfOk result (IsVerdict problem.now answer.now) }
 {
-    let mut reader = ItemReader::new(alloc);
-    let mut lines = Lines::new(answer);
-    match next_item(&mut reader, &mut lines)? {
-        None => Ok(Verdict::Rejected {
-            line: 1,
-            reason: Reason::NotAnswer,
-        }),
-        Some((number, item)) => match item {
-            Some(Item::Status(Kind::Model)) => {
-                judge_model(alloc, problem, &mut reader, number, lines)
-            }
-            Some(Item::Status(Kind::Refutation)) => {
-                judge_steps(alloc, problem, &mut reader, true, number, lines)
-            }
-            Some(Item::Status(Kind::Progress)) => {
-                judge_steps(alloc, problem, &mut reader, false, number, lines)
-            }
-            _ => Ok(Verdict::Rejected {
-                line: number,
-                reason: Reason::NotAnswer,
-            }),
-        },
+    let mut judge = Judge::new(alloc);
+    judge.feed(problem, answer)?;
+    judge.finish(problem)
+}
+
+/// The bytes up to the first line feed, and those behind it: `None` where there is no line feed.
+fn split_line(bytes: &[u8]) -> Option<(&[u8], &[u8])>
+    ensures parts { IfSome result (λ parts. bytes.now ≡ parts.0.now ++ 10 ∷ parts.1.now) }
+    ensures line { IfSome result (λ parts. IsOneLine parts.0.now) }
+    ensures none { IfNone result (IsOneLine bytes.now) }
+{
+    let end = memchr(b'\n', bytes)?;
+    Some((&bytes[..end], &bytes[end + 1..]))
+}
+
+/// Judges the next line.
+fn judge_line(
+    alloc: Global,
+    reader: &mut ItemReader,
+    said: &mut Said,
+    problem: &Problem,
+    line: Line<'_>,
+) -> Result<(), AllocError>
+    requires { IsSound problem.now said.old }
+    ensures sound { OnOk result (IsSound problem.now said.new) }
+    ensures behind { OnOk result ((ls : List (ℕ × List ℕ)) → behind problem.now (so_far said.new) (items_in ls) ≡ behind problem.now (so_far said.old) (items_in ((line.entry.number, line.entry.text.now) ∷ ls))) }
+{
+    match reader.read(&line) {
+        Ok(None) => Ok(()),
+        Ok(Some(item)) => said.add(alloc, reader, problem, line.number, Some(item)),
+        Err(ItemRefusal::BadLine) => said.add(alloc, reader, problem, line.number, None),
+        Err(ItemRefusal::Memory) => Err(AllocError),
+    }
+}
+
+impl Judge {
+    /// A judge that was fed nothing.
+    pub(crate) fn new(alloc: Global) -> Judge
+        ensures kept { (p : Instance) → IsKept p result }
+        ensures size { size_of result ≡ 0 }
+        ensures later { (p : Instance) (rest : List ℕ) → later_by p (judging result) rest ≡ outcome_of p rest }
+    {
+        Judge {
+            alloc,
+            reader: ItemReader::new(alloc),
+            said: Said::Nothing,
+            lines: 0,
+            unfinished: Vec::new(alloc),
+        }
+    }
+
+    /// Takes the last bytes of a line, which a line feed follows, and judges it.
+    fn end_line(&mut self, problem: &Problem, end: &[u8]) -> Result<(), AllocError>
+        requires kept { IsKept problem.now self.old }
+        requires few { size_of self.old + length end.now + 1 < 2 ^ 63 }
+        requires one_line { IsOneLine end.now }
+        ensures kept { OnOk result (IsKept problem.now self.new) }
+        ensures size { OnOk result (size_of self.new ≤ size_of self.old + length end.now + 1) }
+        ensures later { OnOk result ((rest : List ℕ) → later_by problem.now (judging self.new) rest ≡ later_by problem.now (judging self.old) (end.now ++ 10 ∷ rest)) }
+    {
+        self.lines += 1;
+        self.unfinished.extend_from_slice(end)?;
+        let line = Line {
+            number: self.lines,
+            text: self.unfinished.as_slice(),
+        };
+        judge_line(self.alloc, &mut self.reader, &mut self.said, problem, line)?;
+        self.unfinished.clear();
+        Ok(())
+    }
+
+    /// Takes the next bytes, and judges each line that ends among them. Behind a line at fault it passes over them.
+    pub(crate) fn feed(&mut self, problem: &Problem, piece: &[u8]) -> Result<(), AllocError>
+        requires kept { IsKept problem.now self.old }
+        requires few { size_of self.old + length piece.now < 2 ^ 63 }
+        ensures kept { OnOk result (IsKept problem.now self.new) }
+        ensures size { OnOk result (size_of self.new ≤ size_of self.old + length piece.now) }
+        ensures later { OnOk result ((rest : List ℕ) → later_by problem.now (judging self.new) rest ≡ later_by problem.now (judging self.old) (piece.now ++ rest)) }
+    {
+        if self.said.has_fault() {
+            return Ok(());
+        }
+        let mut rest = piece;
+        'lines: while let Some((end, behind)) = split_line(rest) {
+            self.end_line(problem, end)?;
+            rest = behind;
+        }
+        self.unfinished.extend_from_slice(rest)?;
+        Ok(())
+    }
+
+    /// Judges the last line, where it has bytes and no line feed.
+    fn end_text(&mut self, problem: &Problem) -> Result<(), AllocError>
+        requires kept { IsKept problem.now self.old }
+        requires few { size_of self.old < 2 ^ 63 }
+        ensures sound { OnOk result (IsSound problem.now self.new.said) }
+        ensures end { OnOk result (behind problem.now (so_far self.new.said) [] ≡ later_by problem.now (judging self.old) []) }
+    {
+        if self.unfinished.is_empty() {
+            return Ok(());
+        }
+        let line = Line {
+            number: self.lines + 1,
+            text: self.unfinished.as_slice(),
+        };
+        judge_line(self.alloc, &mut self.reader, &mut self.said, problem, line)?;
+        Ok(())
+    }
+
+    /// The verdict where no bytes follow.
+    pub(crate) fn finish(mut self, problem: &Problem) -> Result<Verdict, AllocError>
+        requires kept { IsKept problem.now self }
+        requires few { size_of self < 2 ^ 63 }
+        ensures { IfOk result (IsOutcome problem.now (later_by problem.now (judging self) [])) }
+    {
+        self.end_text(problem)?;
+        self.said.verdict(self.alloc, problem)
     }
 }

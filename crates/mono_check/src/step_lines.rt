@@ -3,21 +3,16 @@
 //! The clauses of the steps are kept, since later chains name them by number, and one checker serves all steps. Of a
 //! line nothing else stays once it is judged.
 
-ghost use Rattle.std.specs.Prelude.{◌≡◌, ◌≤◌, [], Some, All, IfOk, IfNone, OnOk, length};
-ghost use Rattle.mono_base.specs.Literal.{IsLitWithin};
-ghost use Rattle.mono_steps.specs.Checkers.{problem_size};
-ghost use Rattle.mono_answer.specs.Items.{items_in};
+ghost use Rattle.std.specs.Prelude.{◌≡◌, ◌≤◌, ℕ, Some, IfOk, IfNone, OnOk, length};
 ghost use Rattle.mono_answer.specs.declared.item.Item.TheVariants as says;
 ghost use Rattle.mono_check.specs.StepLines.{reason_of, step_line_fault};
-ghost use Rattle.mono_check.specs.Seen.{AreStepsSeen, AreStepsAfter, IsStepAfter, seen_verdict};
-ghost use Rattle.mono_check.specs.Verdicts.{IsOutcome, steps_outcome};
+ghost use Rattle.mono_check.specs.Seen.{AreStepsKept, AreStepsAfter, steps_kept};
+ghost use Rattle.mono_check.specs.SoFar.{no_steps, steps_more, steps_so_far};
 
-use crate::reading::next_item;
 use crate::{Reason, Verdict};
 use mono_answer::{Item, ItemReader};
 use mono_problem::Problem;
 use mono_steps::{Chain, Clause, Lemma, Step, StepChecker, StepFault};
-use mono_text::Lines;
 use std::alloc::{AllocError, Global};
 
 /// What the lines of steps have said so far.
@@ -49,8 +44,9 @@ fn reason(fault: StepFault) -> Reason
 }
 
 impl StepLines {
-    fn new(alloc: Global, problem: &Problem) -> Result<StepLines, AllocError>
-        ensures { IfOk result (AreStepsSeen problem.now []) }
+    pub(crate) fn new(alloc: Global, problem: &Problem) -> Result<StepLines, AllocError>
+        ensures kept { IfOk result (AreStepsKept problem.now) }
+        ensures none { IfOk result (λ steps. (n : ℕ) → steps_kept n steps ≡ no_steps n) }
     {
         Ok(StepLines {
             checker: StepChecker::new(alloc, problem)?,
@@ -97,11 +93,10 @@ impl StepLines {
         number: u64,
         step: Step,
     ) -> Result<Option<Reason>, AllocError>
-        requires size { self.old.checker ≡ problem_size problem.now }
-        requires known { All (All (IsLitWithin problem.now.vars)) self.old.earlier.items }
-        requires few { self.old.chains ≤ length self.old.earlier.items }
+        requires { AreStepsKept problem.now self.old }
         ensures fault { IfOk result (λ reason. reason ≡ step_line_fault problem.now self.old.earlier.items (Some (says.Step step))) }
-        ensures after { IfOk result (λ reason. IfNone reason (AreStepsAfter self.old number step self.new)) }
+        ensures kept { IfOk result (λ reason. IfNone reason (AreStepsKept problem.now self.new)) }
+        ensures more { IfOk result (λ reason. IfNone reason ((n : ℕ) → steps_kept n self.new ≡ steps_more number (Some (says.Step step)) (steps_kept n self.old))) }
     {
         if let Some(fault) = self.checker.fault(problem, self.earlier.as_slice(), &step)? {
             return Ok(Some(reason(fault)));
@@ -111,18 +106,17 @@ impl StepLines {
     }
 
     /// Judges a line, and adds what it says where it isn't at fault.
-    fn add(
+    pub(crate) fn add(
         &mut self,
         reader: &mut ItemReader,
         problem: &Problem,
         number: u64,
         item: Option<Item>,
     ) -> Result<Option<Reason>, AllocError>
-        requires size { self.old.checker ≡ problem_size problem.now }
-        requires known { All (All (IsLitWithin problem.now.vars)) self.old.earlier.items }
-        requires few { self.old.chains ≤ length self.old.earlier.items }
+        requires { AreStepsKept problem.now self.old }
         ensures fault { IfOk result (λ reason. reason ≡ step_line_fault problem.now self.old.earlier.items item) }
-        ensures after { IfOk result (λ reason. IfNone reason (IsStepAfter self.old number item self.new)) }
+        ensures kept { IfOk result (λ reason. IfNone reason (AreStepsKept problem.now self.new)) }
+        ensures more { IfOk result (λ reason. IfNone reason ((n : ℕ) → steps_kept n self.new ≡ steps_more number item (steps_kept n self.old))) }
     {
         match item {
             Some(Item::Step(step)) => self.add_step(reader, problem, number, step),
@@ -131,8 +125,8 @@ impl StepLines {
     }
 
     /// The verdict behind the last line, where no line is at fault. `status` is the status line.
-    fn verdict(&self, refutes: bool, status: u64) -> Verdict
-        ensures { result ≡ seen_verdict refutes status self.now }
+    pub(crate) fn verdict(&self, refutes: bool, status: u64) -> Verdict
+        ensures { result ≡ steps_so_far refutes (steps_kept status self.now) }
     {
         if !refutes {
             return Verdict::Progress(self.chains);
@@ -146,28 +140,4 @@ impl StepLines {
             }
         }
     }
-}
-
-/// The verdict on the lines behind the status line of steps, whose number is given. It says whether they are to be a
-/// refutation.
-pub(crate) fn judge_steps(
-    alloc: Global,
-    problem: &Problem,
-    reader: &mut ItemReader,
-    refutes: bool,
-    status: u64,
-    mut lines: Lines<'_>,
-) -> Result<Verdict, AllocError>
-    ensures { IfOk result (IsOutcome problem.now (steps_outcome problem.now refutes status (items_in lines.entry))) }
-{
-    let mut steps = StepLines::new(alloc, problem)?;
-    while let Some((number, item)) = next_item(reader, &mut lines)? {
-        if let Some(reason) = steps.add(reader, problem, number, item)? {
-            return Ok(Verdict::Rejected {
-                line: number,
-                reason,
-            });
-        }
-    }
-    Ok(steps.verdict(refutes, status))
 }

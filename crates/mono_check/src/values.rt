@@ -3,24 +3,23 @@
 //! The literals so far are the members of one set. So each literal is judged in constant time, and the model is read off
 //! the set at the end.
 
-ghost use Rattle.std.specs.Prelude.{◌≡◌, ◌<◌, ◌≤◌, ◌++◌, ◌&&◌, ◌||◌, ℤ, ℕ, List, [], pos, map, not, length, is_some, unwrap_or, IsTrue, IfOk, IfNone};
+ghost use Rattle.std.specs.Prelude.{◌≡◌, ◌<◌, ◌≤◌, ◌++◌, ◌&&◌, ◌||◌, ℤ, ℕ, List, Option, pos, map, not, length, is_some, unwrap_or, IsTrue, IfOk, IfNone};
 ghost use Rattle.std.specs.List.{range_with_len};
 ghost use Rattle.std.specs.Ordering.{int_eq};
 ghost use Rattle.mono_base.specs.Literal.{has_lit};
-ghost use Rattle.mono_answer.specs.Items.{items_in};
+ghost use Rattle.mono_answer.specs.declared.item.Item.{Item};
 ghost use Rattle.mono_answer.specs.declared.item.Item.TheVariants as says;
 ghost use Rattle.mono_check.specs.Values.{are_values, literals_among, has_end, goes_on, is_end, passes_end, value_fault, model_of};
-ghost use Rattle.mono_check.specs.Seen.{AreMembers, AreValuesSeen, AreValuesAfter, fits, is_new};
-ghost use Rattle.mono_check.specs.Verdicts.{IsOutcome, model_outcome, ended_outcome};
+ghost use Rattle.mono_check.specs.Seen.{AreMembers, AreValuesKept, AreValuesAfter, fits, is_new, model_kept};
+ghost use Rattle.mono_check.specs.SoFar.{model_behind, model_more, no_values};
+ghost use Rattle.mono_check.specs.Verdicts.{IsOutcome, ended_outcome};
 
 use crate::atoms::first_wrong_atom;
-use crate::reading::next_item;
 use crate::{Reason, Verdict};
 use mono_answer::{Item, ItemReader};
 use mono_base::limits::MAX_VARS;
 use mono_base::{Lit, LitSet};
 use mono_problem::Problem;
-use mono_text::Lines;
 use std::alloc::{AllocError, Global};
 
 /// What the lines of a model have said so far.
@@ -133,8 +132,9 @@ fn model(alloc: Global, problem: &Problem, set: &LitSet) -> Result<Vec<bool>, Al
 }
 
 impl Values {
-    fn new(alloc: Global, problem: &Problem) -> Result<Values, AllocError>
-        ensures { IfOk result (AreValuesSeen problem.now []) }
+    pub(crate) fn new(alloc: Global, problem: &Problem) -> Result<Values, AllocError>
+        ensures kept { IfOk result (AreValuesKept problem.now) }
+        ensures none { IfOk result (λ values. (n : ℕ) → model_kept n values ≡ no_values n) }
     {
         Ok(Values {
             set: LitSet::new(alloc, problem.vars())?,
@@ -165,20 +165,22 @@ impl Values {
     }
 
     /// Judges a line, and adds what it says where it isn't at fault. The reader gets its room back.
-    fn add(
+    pub(crate) fn add(
         &mut self,
         reader: &mut ItemReader,
         problem: &Problem,
         number: u64,
         item: Option<Item>,
     ) -> Option<Reason>
-        requires { self.old.set.vars ≡ problem.now.vars }
-        ensures fault { (lits : List ℤ) → AreMembers problem.now lits self.old.set → result ≡ value_fault problem.now lits (is_some self.old.end) item }
-        ensures after { (lits : List ℤ) → AreMembers problem.now lits self.old.set → IfNone result (AreValuesAfter problem.now lits self.old number item self.new) }
+        requires { AreValuesKept problem.now self.old }
+        ensures fault { result ≡ value_fault problem.now self.old.set.members (is_some self.old.end) item }
+        ensures kept { IfNone result (AreValuesKept problem.now self.new) }
+        ensures behind { IfNone result ((n : ℕ) (ls : List (ℕ × Option Item)) → model_behind problem.now (model_kept n self.new) ls ≡ model_behind problem.now (model_more number item (model_kept n self.old)) ls) }
     {
         match item {
             Some(Item::Values(values)) => {
                 let reason = self.add_values(problem, number, values.as_slice());
+                let _ = self.set.members();
                 reader.reuse_values(values);
                 reason
             }
@@ -187,7 +189,12 @@ impl Values {
     }
 
     /// The verdict behind the last line, where no line is at fault. `status` is the status line.
-    fn verdict(&self, alloc: Global, problem: &Problem, status: u64) -> Result<Verdict, AllocError>
+    pub(crate) fn verdict(
+        &self,
+        alloc: Global,
+        problem: &Problem,
+        status: u64,
+    ) -> Result<Verdict, AllocError>
         requires { self.now.set.vars ≡ problem.now.vars }
         ensures { IfOk result (IsOutcome problem.now (ended_outcome problem.now self.now.end (unwrap_or self.now.last status) (model_of problem.now self.now.set.members))) }
     {
@@ -213,26 +220,4 @@ impl Values {
             None => Ok(Verdict::Model),
         }
     }
-}
-
-/// The verdict on the lines behind the status line of a model, whose number is given.
-pub(crate) fn judge_model(
-    alloc: Global,
-    problem: &Problem,
-    reader: &mut ItemReader,
-    status: u64,
-    mut lines: Lines<'_>,
-) -> Result<Verdict, AllocError>
-    ensures { IfOk result (IsOutcome problem.now (model_outcome problem.now status (items_in lines.entry))) }
-{
-    let mut values = Values::new(alloc, problem)?;
-    while let Some((number, item)) = next_item(reader, &mut lines)? {
-        if let Some(reason) = values.add(reader, problem, number, item) {
-            return Ok(Verdict::Rejected {
-                line: number,
-                reason,
-            });
-        }
-    }
-    values.verdict(alloc, problem, status)
 }

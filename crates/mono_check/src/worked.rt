@@ -1,8 +1,9 @@
 //! Rows that were worked by hand, as the definitions compute them. A problem is given by its clauses over the variables
 //! from 1 to a number, and an answer by its text. Of a model the values are told, which the predicates decide on.
 
-ghost use Rattle.std.specs.Prelude.{◌≡◌, [], ◌∷◌, pos, negsuc, codes, true, false};
-ghost use Rattle.mono_check.specs.Worked.{judged, reached};
+ghost use Rattle.std.specs.Prelude.{◌≡◌, [], ◌∷◌, pos, negsuc, codes, true, false, None};
+ghost use Rattle.mono_check.specs.SoFar.{Nothing, OfModel, OfSteps, AtFault, no_steps};
+ghost use Rattle.mono_check.specs.Worked.{judged, left, reached};
 ghost use Rattle.mono_check.specs.Verdicts.{Decided, ValuesIn};
 ghost use Rattle.mono_check.specs.declared.reason.Reason.TheVariants as reason;
 ghost use Rattle.mono_check.specs.declared.verdict.Verdict.TheVariants as verdict;
@@ -16,6 +17,7 @@ pub fn worked_steps()
     ensures empty_clause_counts { judged 1 ((pos 1 ∷ []) ∷ (negsuc 0 ∷ []) ∷ []) (codes "s UNKNOWN\nchain 0 1 2") ≡ Decided (verdict.Progress 1) }
     ensures one_clause { judged 2 ((pos 1 ∷ []) ∷ []) (codes "s UNKNOWN\nchain 2 1 0 1") ≡ Decided (verdict.Progress 1) }
     ensures names_a_step { judged 2 ((pos 1 ∷ pos 2 ∷ []) ∷ (negsuc 0 ∷ pos 2 ∷ []) ∷ (negsuc 1 ∷ []) ∷ []) (codes "s UNSATISFIABLE\nc two steps\n\nchain 2 0 1 2\nchain 0 4 3\n") ≡ Decided verdict.Refutation }
+    ensures names_the_first_step { judged 2 ((pos 1 ∷ []) ∷ (negsuc 0 ∷ pos 2 ∷ []) ∷ (negsuc 1 ∷ []) ∷ []) (codes "s UNSATISFIABLE\nchain 2 0 1 2\nchain -2 0 3\nchain 0 4 3\n") ≡ Decided verdict.Refutation }
     ensures blanks { judged 1 ((pos 1 ∷ []) ∷ (negsuc 0 ∷ []) ∷ []) (codes "c\n\n s\tUNSATISFIABLE\r\nchain  -0 001 2") ≡ Decided verdict.Refutation }
 {}
 
@@ -33,9 +35,15 @@ pub fn worked_models()
     ensures no_lines { judged 1 [] (codes "\ns SATISFIABLE\n") ≡ Decided (verdict.Rejected 2 reason.BadLine) }
     ensures number_behind_end { judged 1 [] (codes "s SATISFIABLE\nv 1 1 0 1") ≡ Decided (verdict.Rejected 2 reason.BadLine) }
     ensures second_end { judged 1 [] (codes "s SATISFIABLE\nv 1 0\nv 0") ≡ Decided (verdict.Rejected 3 reason.BadLine) }
+    ensures numbers_behind_end { judged 2 [] (codes "s SATISFIABLE\nv 0 1 2\nv 0") ≡ Decided (verdict.Rejected 2 reason.BadLine) }
+    ensures end_behind_empty_line { judged 1 [] (codes "s SATISFIABLE\nv 1 0\nv\nv 0") ≡ Decided (verdict.Rejected 4 reason.BadLine) }
+    ensures behind_a_comment { judged 1 [] (codes "s SATISFIABLE\nc\nv 2 0") ≡ Decided (verdict.Rejected 3 reason.ModelVariables) }
     ensures too_large { judged 1 [] (codes "s SATISFIABLE\nv 2 1000001 0") ≡ Decided (verdict.Rejected 2 reason.BadLine) }
     ensures lemma_word { judged 1 [] (codes "s SATISFIABLE\npath 1 1 0") ≡ Decided (verdict.Rejected 2 reason.BadLine) }
     ensures step { judged 1 ((pos 1 ∷ []) ∷ []) (codes "s SATISFIABLE\nchain 1 0 1") ≡ Decided (verdict.Rejected 2 reason.BadLine) }
+    ensures step_before_values { judged 1 ((pos 1 ∷ []) ∷ []) (codes "s SATISFIABLE\nchain 1 0 1\nv 1 0") ≡ Decided (verdict.Rejected 2 reason.BadLine) }
+    ensures status_behind_values { judged 1 [] (codes "s SATISFIABLE\nv 1 0\ns SATISFIABLE") ≡ Decided (verdict.Rejected 3 reason.BadLine) }
+    ensures unknown_behind_values { judged 1 [] (codes "s SATISFIABLE\nv 1 0\nx") ≡ Decided (verdict.Rejected 3 reason.BadLine) }
 {}
 
 /// Worked rejections.
@@ -88,4 +96,20 @@ pub fn worked_lemmas()
     ensures values_among_steps { reached (codes "s UNSATISFIABLE\npath 1 -1 -2 3 0 1 2\nv 1 0\n") ≡ Decided (verdict.Rejected 3 reason.BadLine) }
     ensures clause_before_atoms { reached (codes "s SATISFIABLE\nv 1 2 3 0") ≡ Decided (verdict.Rejected 2 (reason.ClauseFalse 3)) }
     ensures left_to_atoms { reached (codes "s SATISFIABLE\nv 1 2 -3\nv 0\nv") ≡ ValuesIn 3 (true ∷ true ∷ false ∷ []) }
+{}
+
+/// Worked answers that come in two pieces.
+pub fn worked_pieces()
+    ensures nothing { left Nothing 0 [] [] ≡ Decided (verdict.Rejected 1 reason.NotAnswer) }
+    ensures status { left Nothing 1 (codes "s UNKN") (codes "OWN\n") ≡ Decided (verdict.Progress 0) }
+    ensures number { left Nothing 4 (codes "b") (codes "ad\n") ≡ Decided (verdict.Rejected 5 reason.NotAnswer) }
+    ensures returns { left Nothing 0 (codes "s UNKNOWN\r") (codes "\nchain 0 1 2") ≡ Decided (verdict.Progress 1) }
+    ensures blank { left Nothing 0 (codes "s UNKNOWN") (codes "\n\n bad") ≡ Decided (verdict.Rejected 3 reason.BadLine) }
+    ensures token { left (OfSteps false (no_steps 1)) 1 (codes "chain 0 1") (codes "2\n") ≡ Decided (verdict.Rejected 2 reason.UnknownNumber) }
+    ensures values { left (OfModel (record { lits = pos 1 ∷ []; end = None; last = 2 })) 2 (codes "v") (codes " 0\n") ≡ Decided (verdict.Rejected 3 (reason.ClauseFalse 2)) }
+    ensures twice { left (OfModel (record { lits = pos 1 ∷ []; end = None; last = 2 })) 2 (codes "v -1") (codes " 0") ≡ Decided (verdict.Rejected 3 reason.ModelVariables) }
+    ensures no_end { left (OfModel (record { lits = pos 1 ∷ []; end = None; last = 2 })) 4 [] (codes "c 0") ≡ Decided (verdict.Rejected 2 reason.BadLine) }
+    ensures steps { left (OfSteps true (record { clauses = (pos 1 ∷ []) ∷ []; chains = 1; ends_empty = false; last = 2 })) 2 (codes "chain 0 ") (codes "3 2") ≡ Decided verdict.Refutation }
+    ensures no_empty_clause { left (OfSteps true (record { clauses = (pos 1 ∷ []) ∷ []; chains = 1; ends_empty = false; last = 2 })) 4 [] [] ≡ Decided (verdict.Rejected 2 reason.NoEmptyClause) }
+    ensures fault { left (AtFault 2 reason.BadLine) 9 (codes "s ") (codes "UNKNOWN\n") ≡ Decided (verdict.Rejected 2 reason.BadLine) }
 {}

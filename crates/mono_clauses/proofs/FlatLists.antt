@@ -1,5 +1,5 @@
 -- Clauses in one flat list, when one joins, leaves, or has another literal at its head.
-use Rattle.std.proofs.Common.{◌≡◌, ℕ, zero, suc, ◌+◌, ◌-◌, ◌<◌, ◌≤◌, List, [], ◌∷◌, ◌++◌, length, get_or, take, drop, map, set, min, Bool, true, false, ltb, eqb, arith, refl, sym, ◌∙◌, ap, subst, length-append, get_or-set_same, get_or-set_other, ◌≢◌, ◌⊎◌, inl, inr}
+use Rattle.std.proofs.Common.{◌≡◌, ℕ, suc, ◌+◌, ◌-◌, ◌<◌, ◌≤◌, List, [], ◌∷◌, ◌++◌, length, get_or, take, drop, map, set, min, Bool, true, false, ltb, eqb, arith, refl, sym, ◌∙◌, ap, subst, length-append, get_or-set_same, get_or-set_other, ◌≢◌, ◌⊎◌, inl, inr}
 use Rattle.std.specs.Prelude.{ℤ, pos, slice_range, Option, Some, None, IsSome}
 use Rattle.std.specs.Option.{option_to_list}
 use Rattle.std.proofs.lemmas.List.{take-append-le, drop-append-le, get_or-take, get_or-drop, length-drop, length-take, map-append, get_or_append_left, get_or-append_right, take_all}
@@ -8,6 +8,7 @@ use Rattle.std.proofs.lemmas.List.{length-set, get_or-map}
 use Rattle.std.proofs.lemmas.Bool.{ltb-true, ltb-false}
 use Rattle.std.proofs.lemmas.Bool.Decides.{eqb_tells}
 use Rattle.mono_base.specs.Literal.{var_of, lit_at}
+use Rattle.mono_clauses.proofs.OldAndNew.{old_or_new}
 use Rattle.mono_clauses.specs.ClauseList.{ClausesView, with_clause, Undone}
 use Rattle.mono_clauses.specs.ClauseValues.{AllVars}
 use Rattle.mono_clauses.specs.FlatList.{clause_of, no_entry, IsFlat}
@@ -67,16 +68,6 @@ flat_less vars flat held less o e f = record {
 pub undone_of : (vars : ℕ) (flat : List ℤ) (held less : List Entry) (o : Option Entry) (v : ClausesView) → record { vars = vars; list = map (clause_of flat) held } ≡ v → held ≡ less ++ option_to_list o → IsSome o → Undone v (record { vars = vars; list = map (clause_of flat) less })
 undone_of vars flat held less None v at e some = absurd cc
 undone_of vars flat held less (Some h) v at e some = subst (λ (q : ClausesView). Undone q (record { vars = vars; list = map (clause_of flat) less })) at (record { vars = refl; last = clause_of flat h; was = ap (map (clause_of flat)) e ∙ map-append (clause_of flat) less (h ∷ []) })
-
-old_or_new : (p n : ℕ) → p < n + 1 → (p < n) ⊎ (p ≡ n)
-old_or_new zero zero lt = inr refl
-old_or_new zero (suc n) lt = inl (omega arith)
-old_or_new (suc p) zero lt = absurd (omega arith)
-old_or_new (suc p) (suc n) lt = up (old_or_new p n (omega arith))
-  where
-    up : (p < n) ⊎ (p ≡ n) → (suc p < suc n) ⊎ (suc p ≡ suc n)
-    up (inl a) = inl (omega arith)
-    up (inr e) = inr (ap suc e)
 
 abbrev pub newest : ℕ → ℤ → List ℤ → List ℤ → Entry
 newest n third flat more = record { number = n; start = length flat; end = length flat + length more; third = third }

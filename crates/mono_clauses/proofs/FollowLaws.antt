@@ -11,6 +11,7 @@ use Rattle.mono_trail.specs.declared.reason.Mark.{Mark}
 use Rattle.mono_trail.specs.declared.reason.Reason.{Reason}
 use Rattle.mono_trail.specs.declared.reason.Reason.TheVariants.{Decided, Clause, Late}
 use Rattle.mono_clauses.proofs.Levels.{kept_low, low_kept}
+use Rattle.mono_clauses.proofs.OldAndNew.{old_or_new}
 use Rattle.mono_clauses.specs.Store.{StoreView, no_clauses, watch_at, other, IsTrueBy, Guards, Follows, FollowsBelow}
 use Rattle.mono_clauses.specs.Walk.{Guarded}
 
@@ -33,17 +34,6 @@ true_joined t l b why level as_many i = record {
   there = get_or_append_left t.lits (l ∷ []) (pos 0) i.place i.within ∙ i.there;
   low = rw (level_old t.marks (record { level = next_level why t.level; reason = why }) i.place (omega (arith, i.within, as_many))) i.low;
 }
-
--- a place of a longer list is an old one or the last
-old_or_new : (p n : ℕ) → p < n + 1 → (p < n) ⊎ (p ≡ n)
-old_or_new zero zero lt = inr refl
-old_or_new zero (suc n) lt = inl (omega arith)
-old_or_new (suc p) zero lt = absurd (omega arith)
-old_or_new (suc p) (suc n) lt = up (old_or_new p n (omega arith))
-  where
-    up : (p < n) ⊎ (p ≡ n) → (suc p < suc n) ⊎ (suc p ≡ suc n)
-    up (inl a) = inl (omega arith)
-    up (inr e) = inr (ap suc e)
 
 -- a guard stays where the level does, or all was given
 pub guards_joined : (t : TrailView) (l a b : ℤ) (why : Reason) (n : ℕ) → length t.marks ≡ length t.lits → n ≤ length t.lits → ((p : ℕ) → n ≤ p → p < length t.lits → next_level why t.level ≡ t.level) → Guards t n a b → Guards (joined t l why) n a b

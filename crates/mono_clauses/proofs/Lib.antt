@@ -8,6 +8,7 @@ mod LateLemmas
 mod Levels
 mod Literals
 mod LookLemmas
+mod OldAndNew
 mod PoolLemmas
 mod ShortClauses
 mod StackLemmas

@@ -1,5 +1,5 @@
 -- The store from the parts that it has.
-use Rattle.std.proofs.Common.{◌≡◌, ℕ, zero, suc, ◌+◌, ◌-◌, ◌*◌, ◌/◌, ◌<◌, List, [], ◌∷◌, ◌++◌, length, get_or, arith, refl, sym, ◌∙◌, ap, subst, ◌⊎◌, inl, inr, length-append}
+use Rattle.std.proofs.Common.{◌≡◌, ℕ, suc, ◌+◌, ◌-◌, ◌*◌, ◌/◌, ◌<◌, List, [], ◌∷◌, ◌++◌, length, get_or, arith, refl, sym, ◌∙◌, ap, subst, ◌⊎◌, inl, inr, length-append}
 use Rattle.std.specs.Prelude.{ℤ, Option, Some, None, IsTrue}
 use Rattle.std.proofs.lemmas.Bool.{and_from}
 use Rattle.std.proofs.lemmas.List.{get_or_append_left, get_or_past}
@@ -11,6 +11,7 @@ use Rattle.mono_clauses.proofs.FollowLaws.{below_of}
 use Rattle.mono_clauses.proofs.Growth.{Grows-vars, HasTrue-grows}
 use Rattle.mono_clauses.proofs.Literals.{quiet_clause}
 use Rattle.mono_clauses.proofs.LookLemmas.{some_within}
+use Rattle.mono_clauses.proofs.OldAndNew.{old_or_new}
 use Rattle.mono_clauses.proofs.Times.{none_more, times_same, times_other}
 use Rattle.mono_clauses.proofs.WalkLemmas.{half_even, other_half, other_other, quiet_watched}
 use Rattle.mono_clauses.specs.ClauseList.{ClausesView, with_clause}
@@ -85,16 +86,6 @@ settled_vars c v u t s due e d = d.following.vars ∙ Grows-vars c t s d.grows �
 
 pub followed_vars : (c : List Held) (v u : WatchesView) (t s : TrailView) → v.vars ≡ t.vars → Followed c v u t s → u.vars ≡ v.vars
 followed_vars c v u t s e d = d.following.vars ∙ Grows-vars c t s d.grows ∙ sym e
-
-old_or_new : (p n : ℕ) → p < n + 1 → (p < n) ⊎ (p ≡ n)
-old_or_new zero zero lt = inr refl
-old_or_new zero (suc n) lt = inl (omega arith)
-old_or_new (suc p) zero lt = absurd (omega arith)
-old_or_new (suc p) (suc n) lt = up (old_or_new p n (omega arith))
-  where
-    up : (p < n) ⊎ (p ≡ n) → (suc p < suc n) ⊎ (suc p ≡ suc n)
-    up (inl a) = inl (omega arith)
-    up (inr e) = inr (ap suc e)
 
 -- a clause joins
 pub store_added : (c : ClausesView) (v : WatchesView) (due : List ℕ) (n : ℕ) (lits : List ℤ) → IsStore c v due → IsStore (with_clause c n lits) (more_watches v) (due ++ length c.list ∷ [])

@@ -1,3 +1,4 @@
+mod Causes
 mod Format
 mod Needs
 mod OneEnding
@@ -7,3 +8,4 @@ mod Solves
 mod Sound
 mod Stages
 mod Values
+mod Summaries

@@ -1,8 +1,9 @@
 -- Over a steady shelf that holds what the command comes to, no read fault is answered, and the command is carried out.
-use Rattle.std.proofs.Common.{◌≡◌, ◌≢◌, ◌<◌, ◌≤◌, ◌⊎◌, ◌+◌, ℕ, List, Option, Some, None, IsSome, IsNone, IsTrue, IfSome, length, refl, sym, ap, subst, ◌∙◌, inl, inr, arith}
+use Rattle.std.proofs.Common.{◌≡◌, ◌≢◌, ◌<◌, ◌≤◌, ◌⊎◌, ◌+◌, ℕ, Bool, true, false, List, Option, Some, None, IsSome, IsNone, IsTrue, IfSome, length, refl, sym, ap, subst, ◌∙◌, inl, inr, arith}
 use Rattle.std.specs.Prelude.{IsSomeAnd}
 use Rattle.mono_base.specs.declared.limits.TheConstants.{MAX_INPUT_BYTES, MAX_ANSWER_BYTES}
 use Rattle.mono_problem.specs.Instance.{Instance}
+use Rattle.mono_gen.specs.declared.kind.GenKind.{GenKind}
 use Rattle.mono_answer.specs.declared.answer.Answer.{Answer}
 use Rattle.mono_answer.specs.declared.answer.Answer.TheVariants as answer
 use Rattle.mono_check.specs.declared.verdict.Verdict.{Verdict}
@@ -16,7 +17,7 @@ use Rattle.mono_cmd.specs.declared.status.Status.TheVariants as status
 use Rattle.mono_cmd.specs.declared.ending.Ending.{Ending}
 use Rattle.mono_cmd.specs.declared.ending.Ending.TheVariants as ending
 use Rattle.mono_cmd.specs.Endings.{status_of, answer_status, verdict_status}
-use Rattle.mono_cmd.specs.Runs.{ComesTo, Ends, Writes, HasProblem, HasNoFault, EachReached, IsHeld, IsHeldWithin, IsCarriedOut, IsSolved, EndsAtFile}
+use Rattle.mono_cmd.specs.Runs.{ComesTo, Ends, Writes, HasProblem, HasNoFault, EachReached, IsHeld, IsHeldWithin, IsCarriedOut, IsSolved, IsGenerated, EndsAtFile}
 use Rattle.mono_cmd.proofs.Stages.{ends_else}
 
 -- ---- one file
@@ -58,6 +59,8 @@ never_read_fault : (found : Option Command) (old new : ShelfView) → IsTrue old
 never_read_fault None old new steady holds comes = holds
 never_read_fault (Some (command.Solve file budget)) old new steady holds (inl ends) = held_not_lacking old.texts file MAX_INPUT_BYTES holds (ends.lacking steady)
 never_read_fault (Some (command.Solve file budget)) old new steady holds (inr (p, shelf, has, end)) = absurd end.0
+never_read_fault (Some (command.Gen k size seed false)) old new steady holds comes = absurd (cc comes.0)
+never_read_fault (Some (command.Gen k size seed true)) old new steady holds comes = absurd (cc comes.0.is)
 never_read_fault (Some (command.Print file)) old new steady holds (inl ends) = held_not_lacking old.texts file MAX_INPUT_BYTES holds (ends.lacking steady)
 never_read_fault (Some (command.Print file)) old new steady holds (inr (p, shelf, has, end)) = absurd (cc end.0)
 never_read_fault (Some (command.Check file answer)) old new steady holds (inl ends) = held_not_lacking old.texts file MAX_INPUT_BYTES holds.0 (ends.lacking steady)
@@ -70,6 +73,8 @@ never_too_long : (found : Option Command) (old new : ShelfView) → IsSomeAnd fo
 never_too_long None old new holds comes = holds
 never_too_long (Some (command.Solve file budget)) old new holds (inl ends) = within_not_longer old.texts file MAX_INPUT_BYTES holds ends.longer
 never_too_long (Some (command.Solve file budget)) old new holds (inr (p, shelf, has, end)) = absurd end.0
+never_too_long (Some (command.Gen k size seed false)) old new holds comes = absurd (cc comes.0)
+never_too_long (Some (command.Gen k size seed true)) old new holds comes = absurd (cc comes.0.is)
 never_too_long (Some (command.Print file)) old new holds (inl ends) = within_not_longer old.texts file MAX_INPUT_BYTES holds ends.longer
 never_too_long (Some (command.Print file)) old new holds (inr (p, shelf, has, end)) = absurd (cc end.0)
 never_too_long (Some (command.Check file answer)) old new holds (inl ends) = within_not_longer old.texts file MAX_INPUT_BYTES holds.0 ends.longer
@@ -81,6 +86,7 @@ never_too_long (Some (command.Check file answer)) old new holds (inr (p, read, h
 reached_held : (texts : Option Texts) (found : Option Command) → IsSomeAnd found (EachReached (IsHeldWithin texts) texts) → IsSomeAnd found (EachReached (IsHeld texts) texts)
 reached_held texts None holds = holds
 reached_held texts (Some (command.Solve file budget)) holds = within_held texts file MAX_INPUT_BYTES holds
+reached_held texts (Some (command.Gen k size seed solve)) holds = tt
 reached_held texts (Some (command.Print file)) holds = within_held texts file MAX_INPUT_BYTES holds
 reached_held texts (Some (command.Check file answer)) holds =
     (within_held texts file MAX_INPUT_BYTES holds.0, λ reached. within_held texts answer MAX_ANSWER_BYTES (holds.1 reached))
@@ -118,7 +124,7 @@ no_read_fault e status.Refused before now w other no_fault = λ same. absurd (le
 no_read_fault e status.TooLong before now w other no_fault = λ same. absurd (let is = w.0 ∙ ap status_of same in cc)
 
 -- only this ending has that status
-its_read_fault : (e : Ending) → status.ReadFault ≡ status_of e → e ≡ ending.ReadFault
+pub its_read_fault : (e : Ending) → status.ReadFault ≡ status_of e → e ≡ ending.ReadFault
 its_read_fault ending.ReadFault is = refl
 its_read_fault ending.Words is = absurd cc
 its_read_fault ending.Memory is = absurd cc
@@ -126,6 +132,12 @@ its_read_fault ending.TooLong is = absurd cc
 its_read_fault (ending.Refused line fault) is = absurd cc
 its_read_fault (ending.Printed text) is = absurd cc
 its_read_fault (ending.Solved a) is = absurd (by_answer a is)
+  where
+    by_answer : (b : Answer) → status.ReadFault ≡ answer_status b → ⊥
+    by_answer (answer.Model values) is = cc
+    by_answer (answer.Refutation steps) is = cc
+    by_answer (answer.Progress steps) is = cc
+its_read_fault (ending.Summed s) is = absurd (by_answer s.answer is)
   where
     by_answer : (b : Answer) → status.ReadFault ≡ answer_status b → ⊥
     by_answer (answer.Model values) is = cc
@@ -168,6 +180,8 @@ solve_done file budget old new (ending.Solved a) over comes = by_answer a
     by_answer (answer.Progress steps) = inr (inr (inl refl))
 solve_done file budget old new (ending.Judged v) over (inl ends) = absurd ends
 solve_done file budget old new (ending.Judged v) over (inr (p, shelf, has, end)) = absurd end.0
+solve_done file budget old new (ending.Summed s) over (inl ends) = absurd ends
+solve_done file budget old new (ending.Summed s) over (inr (p, shelf, has, end)) = absurd end.0
 solve_done file budget old new (ending.Printed text) over (inl ends) = absurd ends
 solve_done file budget old new (ending.Printed text) over (inr (p, shelf, has, end)) = absurd end.0
 
@@ -181,6 +195,8 @@ print_done file old new (ending.Solved a) over (inl ends) = absurd ends
 print_done file old new (ending.Solved a) over (inr (p, shelf, has, end)) = absurd (let same = end.0 in cc)
 print_done file old new (ending.Judged v) over (inl ends) = absurd ends
 print_done file old new (ending.Judged v) over (inr (p, shelf, has, end)) = absurd (let same = end.0 in cc)
+print_done file old new (ending.Summed s) over (inl ends) = absurd ends
+print_done file old new (ending.Summed s) over (inr (p, shelf, has, end)) = absurd (let same = end.0 in cc)
 print_done file old new (ending.Printed text) over comes = inl refl
 
 check_done : (file answer : List ℕ) (old new : ShelfView) (e : Ending) → IsOver e → ComesTo (Some (command.Check file answer)) old new e → IsCarriedOut (command.Check file answer) (status_of e)
@@ -192,6 +208,9 @@ check_done file answer old new (ending.Refused line fault) over comes = inr (inr
 check_done file answer old new (ending.Solved a) over (inl ends) = absurd ends
 check_done file answer old new (ending.Solved a) over (inr (p, read, has, inl ends)) = absurd ends
 check_done file answer old new (ending.Solved a) over (inr (p, read, has, inr (text, shelf, given, end))) = absurd end.0
+check_done file answer old new (ending.Summed s) over (inl ends) = absurd ends
+check_done file answer old new (ending.Summed s) over (inr (p, read, has, inl ends)) = absurd ends
+check_done file answer old new (ending.Summed s) over (inr (p, read, has, inr (text, shelf, given, end))) = absurd end.0
 check_done file answer old new (ending.Judged v) over comes = by_verdict v
   where
     by_verdict : (w : Verdict) → IsCarriedOut (command.Check file answer) (verdict_status w)
@@ -203,10 +222,21 @@ check_done file answer old new (ending.Printed text) over (inl ends) = absurd en
 check_done file answer old new (ending.Printed text) over (inr (p, read, has, inl ends)) = absurd ends
 check_done file answer old new (ending.Printed text) over (inr (p, read, has, inr (t, shelf, given, end))) = absurd end.0
 
+gen_done : (k : GenKind) (size seed : ℕ) (solve : Bool) (e : Ending) → IsGenerated k size seed solve e → IsCarriedOut (command.Gen k size seed solve) (status_of e)
+gen_done k size seed false e printed = ap status_of printed
+gen_done k size seed true e sums = subst (λ (s : Status). IsCarriedOut (command.Gen k size seed true) s) (sym (ap status_of sums.is)) (by_answer sums.summary.answer)
+  where
+    by_answer : (a : Answer) → IsCarriedOut (command.Gen k size seed true) (answer_status a)
+    by_answer (answer.Model values) = inl refl
+    by_answer (answer.Refutation steps) = inr (inl refl)
+    by_answer (answer.Progress steps) = inr (inr refl)
+
 -- a command never ends as other words do
 never_words : (c : Command) (old new : ShelfView) → ComesTo (Some c) old new ending.Words → ⊥
 never_words (command.Solve file budget) old new (inl ends) = ends
 never_words (command.Solve file budget) old new (inr (p, shelf, has, end)) = end.0
+never_words (command.Gen k size seed false) old new comes = absurd (cc comes.0)
+never_words (command.Gen k size seed true) old new comes = absurd (cc comes.0.is)
 never_words (command.Print file) old new (inl ends) = ends
 never_words (command.Print file) old new (inr (p, shelf, has, end)) = absurd (cc end.0)
 never_words (command.Check file answer) old new (inl ends) = ends
@@ -235,5 +265,6 @@ complete (Some c) old new e s before now ends writes is_steady holds no_fault me
 
     by_command : (d : Command) → ComesTo (Some d) old new e → IsOver e → IsCarriedOut d (status_of e)
     by_command (command.Solve file budget) comes o = solve_done file budget old new e o comes
+    by_command (command.Gen k size seed solve) comes o = gen_done k size seed solve e comes.0
     by_command (command.Print file) comes o = print_done file old new e o comes
     by_command (command.Check file answer) comes o = check_done file answer old new e o comes

@@ -1,5 +1,5 @@
 -- Over the same told texts one command comes to one ending, or to answers of `solve` that don't contradict each other.
-use Rattle.std.proofs.Common.{◌≡◌, ◌≢◌, ◌<◌, ◌≤◌, ◌⊎◌, ◌+◌, ℕ, List, Option, Some, None, IsNone, IsTrue, IfSome, length, refl, sym, ap, subst, ◌∙◌, inl, inr, arith}
+use Rattle.std.proofs.Common.{◌≡◌, ◌≢◌, ◌<◌, ◌≤◌, ◌⊎◌, ◌+◌, ℕ, Bool, true, false, List, Option, Some, None, IsNone, IsTrue, IfSome, length, refl, sym, ap, subst, ◌∙◌, inl, inr, arith}
 use Rattle.std.specs.Prelude.{IsSomeAnd}
 use Rattle.mono_base.specs.declared.limits.TheConstants.{MAX_INPUT_BYTES, MAX_ANSWER_BYTES}
 use Rattle.mono_base.specs.Literal.{value_in}
@@ -9,6 +9,8 @@ use Rattle.mono_steps.proofs.StepTruth.{refutation_excludes}
 use Rattle.mono_gnf.proofs.WellFormedReading.{stands_well_formed}
 use Rattle.mono_answer.specs.declared.answer.Answer.{Answer}
 use Rattle.mono_answer.specs.declared.answer.Answer.TheVariants as answer
+use Rattle.mono_gen.specs.Generated.{generated}
+use Rattle.mono_gen.specs.declared.kind.GenKind.{GenKind}
 use Rattle.mono_gnf.specs.Faults.{first_fault}
 use Rattle.mono_gnf.specs.Printed.{printed}
 use Rattle.mono_gnf.specs.Stands.{Stands}
@@ -19,9 +21,11 @@ use Rattle.mono_io.specs.Reading.{IsRead, IsTooLong, IsNotRead}
 use Rattle.mono_io.specs.Shelf.{Texts, ShelfView, text_named, Lacks}
 use Rattle.mono_cmd.specs.declared.command.Command.{Command}
 use Rattle.mono_cmd.specs.declared.command.Command.TheVariants as command
+use Rattle.mono_cmd.specs.declared.command.TheConstants.{DEFAULT_BUDGET}
+use Rattle.mono_cmd.specs.declared.summary.Summary.{Summary}
 use Rattle.mono_cmd.specs.declared.ending.Ending.{Ending}
 use Rattle.mono_cmd.specs.declared.ending.Ending.TheVariants as ending
-use Rattle.mono_cmd.specs.Runs.{EndsAtText, EndsAtFile, HasProblem, IsJudged, IsSolved, ComesTo, Ends, AreConsistent, AreAlike}
+use Rattle.mono_cmd.specs.Runs.{EndsAtText, EndsAtFile, HasProblem, IsJudged, IsSolved, ComesTo, Ends, AreConsistent, AreAlike, IsGenerated, IsSolving}
 use Rattle.mono_cmd.specs.Solved.{IsAnswer, IsSolution}
 use Rattle.mono_cmd.proofs.Sound.{same_problem}
 use Rattle.mono_cmd.proofs.Stages.{ends_else}
@@ -73,6 +77,7 @@ one_judged p text (ending.Judged v) ending.Memory a b = absurd b
 one_judged p text (ending.Judged v) (ending.Refused line fault) a b = absurd b
 one_judged p text (ending.Judged v) (ending.Solved s) a b = absurd b
 one_judged p text (ending.Judged v) (ending.Printed t) a b = absurd b
+one_judged p text (ending.Judged v) (ending.Summed s) a b = absurd b
 one_judged p text ending.Words e' a b = absurd a
 one_judged p text ending.ReadFault e' a b = absurd a
 one_judged p text ending.TooLong e' a b = absurd a
@@ -80,6 +85,7 @@ one_judged p text ending.Memory e' a b = absurd a
 one_judged p text (ending.Refused line fault) e' a b = absurd a
 one_judged p text (ending.Solved s) e' a b = absurd a
 one_judged p text (ending.Printed t) e' a b = absurd a
+one_judged p text (ending.Summed s) e' a b = absurd a
 
 -- ---- answers of `solve`
 
@@ -101,6 +107,7 @@ same_alike e e' same = subst (AreAlike e) same (itself e)
     itself (ending.Solved a) = by_answer a
     itself (ending.Judged v) = refl
     itself (ending.Printed text) = refl
+    itself (ending.Summed s) = by_answer s.answer
 
 -- a problem that has a refutation has no model
 consistent : (p : Instance) (budget : ℕ) (a b : Answer) → IsInstance p → IsAnswer p budget a → IsAnswer p budget b → AreConsistent a b
@@ -121,6 +128,7 @@ one_solved p budget (ending.Solved s) ending.TooLong ok a b = absurd b
 one_solved p budget (ending.Solved s) (ending.Refused line fault) ok a b = absurd b
 one_solved p budget (ending.Solved s) (ending.Judged v) ok a b = absurd b
 one_solved p budget (ending.Solved s) (ending.Printed t) ok a b = absurd b
+one_solved p budget (ending.Solved s) (ending.Summed t) ok a b = absurd b
 one_solved p budget ending.Words e' ok a b = absurd a
 one_solved p budget ending.ReadFault e' ok a b = absurd a
 one_solved p budget ending.Memory e' ok a b = absurd a
@@ -128,6 +136,17 @@ one_solved p budget ending.TooLong e' ok a b = absurd a
 one_solved p budget (ending.Refused line fault) e' ok a b = absurd a
 one_solved p budget (ending.Judged v) e' ok a b = absurd a
 one_solved p budget (ending.Printed t) e' ok a b = absurd a
+one_solved p budget (ending.Summed t) e' ok a b = absurd a
+
+-- ---- generated inputs
+
+one_generated : (k : GenKind) (size seed : ℕ) (solve : Bool) (e e' : Ending) → IsGenerated k size seed solve e → IsGenerated k size seed solve e' → AreAlike e e'
+one_generated k size seed false e e' a b = same_alike e e' (a ∙ sym b)
+one_generated k size seed true e e' a b =
+    let same = same_problem (generated k size seed) a.problem b.problem a.stands b.stands in
+    let left = subst (λ (q : Instance). IsAnswer q DEFAULT_BUDGET a.summary.answer) same a.right.solves.right in
+    let ok = stands_well_formed (generated k size seed) b.problem b.stands in
+    subst (λ (d : Ending). AreAlike d e') (sym a.is) (subst (λ (d : Ending). AreAlike (ending.Summed a.summary) d) (sym b.is) (consistent b.problem DEFAULT_BUDGET a.summary.answer b.summary.answer ok left b.right.solves.right))
 
 -- ---- FILE
 
@@ -201,6 +220,7 @@ module _ (held : Texts) where
   at_text file limit old new ending.Words else over ends = absurd ends
   at_text file limit old new (ending.Refused line fault) else over ends = absurd ends
   at_text file limit old new (ending.Judged v) else over ends = absurd ends
+  at_text file limit old new (ending.Summed s) else over ends = absurd ends
   at_text file limit old new (ending.Solved reply) else over ends = absurd ends
   at_text file limit old new (ending.Printed text) else over ends = absurd ends
 
@@ -212,6 +232,7 @@ module _ (held : Texts) where
   at_file file old new ending.Memory else over ends = absurd (else refl)
   at_file file old new ending.Words else over ends = absurd ends
   at_file file old new (ending.Judged v) else over ends = absurd ends
+  at_file file old new (ending.Summed s) else over ends = absurd ends
   at_file file old new (ending.Solved reply) else over ends = absurd ends
   at_file file old new (ending.Printed text) else over ends = absurd ends
 
@@ -231,6 +252,7 @@ module _ (held : Texts) where
   comes_once (Some (command.Solve file budget)) old new old' new' e e' else else' over over' (inr (p, shelf, has, end)) (inr (q, shelf', has', end')) =
       let same = one_problem (text_named file held) p q (stands_for file old shelf p over.texts has) (stands_for file old' shelf' q over'.texts has') in
       one_solved q budget e e' (stands_well_formed has'.text q has'.stands) (subst (λ (r : Instance). IsSolved r budget e) same end.0) end'.0
+  comes_once (Some (command.Gen k size seed solve)) old new old' new' e e' else else' over over' a b = one_generated k size seed solve e e' a.0 b.0
   comes_once (Some (command.Print file)) old new old' new' e e' else else' over over' (inl a) (inl b) =
       same_alike e e' (file_file (text_named file held) e e' (at_file file old new e else over a) (at_file file old' new' e' else' over' b))
   comes_once (Some (command.Print file)) old new old' new' e e' else else' over over' (inl a) (inr (q, shelf', has', end')) =
@@ -277,28 +299,42 @@ module _ (held : Texts) where
   alike found old new old' new' e e' told told' sure sure' a b else else' =
       comes_once found old new old' new' e e' else else' (record { texts = told; sure = sure }) (record { texts = told'; sure = sure' }) (ends_else found old new e else a) (ends_else found old' new' e' else' b)
 
-  -- only `solve` ends with an answer
-  only_solve : (found : Option Command) (old new : ShelfView) (a : Answer) → ((file : List ℕ) (budget : ℕ) → found ≢ Some (command.Solve file budget)) → ComesTo found old new (ending.Solved a) → ⊥
-  only_solve None old new a other comes = absurd (cc comes.0)
-  only_solve (Some (command.Solve file budget)) old new a other comes = other file budget refl
-  only_solve (Some (command.Print file)) old new a other (inl ends) = ends
-  only_solve (Some (command.Print file)) old new a other (inr (p, shelf, has, end)) = absurd (cc end.0)
-  only_solve (Some (command.Check file answer)) old new a other (inl ends) = ends
-  only_solve (Some (command.Check file answer)) old new a other (inr (p, read, has, inl ends)) = ends
-  only_solve (Some (command.Check file answer)) old new a other (inr (p, read, has, inr (text, shelf, given, end))) = end.0
+  -- only where an answer is looked for the run ends with one
+  only_solving : (found : Option Command) (old new : ShelfView) (a : Answer) → ¬ IsSolving found → ComesTo found old new (ending.Solved a) → ⊥
+  only_solving None old new a other comes = absurd (cc comes.0)
+  only_solving (Some (command.Solve file budget)) old new a other comes = other tt
+  only_solving (Some (command.Gen k size seed false)) old new a other comes = absurd (cc comes.0)
+  only_solving (Some (command.Gen k size seed true)) old new a other comes = other tt
+  only_solving (Some (command.Print file)) old new a other (inl ends) = ends
+  only_solving (Some (command.Print file)) old new a other (inr (p, shelf, has, end)) = absurd (cc end.0)
+  only_solving (Some (command.Check file answer)) old new a other (inl ends) = ends
+  only_solving (Some (command.Check file answer)) old new a other (inr (p, read, has, inl ends)) = ends
+  only_solving (Some (command.Check file answer)) old new a other (inr (p, read, has, inr (text, shelf, given, end))) = end.0
 
-  alike_same : (e e' : Ending) → ((a : Answer) → e ≡ ending.Solved a → ⊥) → AreAlike e e' → e ≡ e'
-  alike_same ending.Words e' other is = is
-  alike_same ending.ReadFault e' other is = is
-  alike_same ending.Memory e' other is = is
-  alike_same ending.TooLong e' other is = is
-  alike_same (ending.Refused line fault) e' other is = is
-  alike_same (ending.Solved a) e' other is = absurd (other a refl)
-  alike_same (ending.Judged v) e' other is = is
-  alike_same (ending.Printed text) e' other is = is
+  only_summing : (found : Option Command) (old new : ShelfView) (s : Summary) → ¬ IsSolving found → ComesTo found old new (ending.Summed s) → ⊥
+  only_summing None old new s other comes = absurd (cc comes.0)
+  only_summing (Some (command.Solve file budget)) old new s other comes = other tt
+  only_summing (Some (command.Gen k size seed false)) old new s other comes = absurd (cc comes.0)
+  only_summing (Some (command.Gen k size seed true)) old new s other comes = other tt
+  only_summing (Some (command.Print file)) old new s other (inl ends) = ends
+  only_summing (Some (command.Print file)) old new s other (inr (p, shelf, has, end)) = absurd (cc end.0)
+  only_summing (Some (command.Check file answer)) old new s other (inl ends) = ends
+  only_summing (Some (command.Check file answer)) old new s other (inr (p, read, has, inl ends)) = ends
+  only_summing (Some (command.Check file answer)) old new s other (inr (p, read, has, inr (text, shelf, given, end))) = end.0
 
-  pub same : (found : Option Command) (old new old' new' : ShelfView) (e e' : Ending) → ((file : List ℕ) (budget : ℕ) → found ≢ Some (command.Solve file budget)) → old.texts ≡ Some held → old'.texts ≡ Some held
+  alike_same : (e e' : Ending) → ((a : Answer) → e ≡ ending.Solved a → ⊥) → ((s : Summary) → e ≡ ending.Summed s → ⊥) → AreAlike e e' → e ≡ e'
+  alike_same ending.Words e' other sums is = is
+  alike_same ending.ReadFault e' other sums is = is
+  alike_same ending.Memory e' other sums is = is
+  alike_same ending.TooLong e' other sums is = is
+  alike_same (ending.Refused line fault) e' other sums is = is
+  alike_same (ending.Solved a) e' other sums is = absurd (other a refl)
+  alike_same (ending.Summed s) e' other sums is = absurd (sums s refl)
+  alike_same (ending.Judged v) e' other sums is = is
+  alike_same (ending.Printed text) e' other sums is = is
+
+  pub same : (found : Option Command) (old new old' new' : ShelfView) (e e' : Ending) → ¬ IsSolving found → old.texts ≡ Some held → old'.texts ≡ Some held
       → (e ≡ ending.ReadFault → IsTrue old.steady) → (e' ≡ ending.ReadFault → IsTrue old'.steady)
       → Ends found old new e → Ends found old' new' e' → e ≢ ending.Memory → e' ≢ ending.Memory → e ≡ e'
   same found old new old' new' e e' other told told' sure sure' a b else else' =
-      alike_same e e' (λ s is. only_solve found old new s other (subst (Ends found old new) is a)) (alike found old new old' new' e e' told told' sure sure' a b else else')
+      alike_same e e' (λ s is. only_solving found old new s other (subst (Ends found old new) is a)) (λ s is. only_summing found old new s other (subst (Ends found old new) is a)) (alike found old new old' new' e e' told told' sure sure' a b else else')

@@ -1,5 +1,5 @@
 -- Where the shelf stands as a run ends, by its ending.
-use Rattle.std.proofs.Common.{◌≡◌, ◌≢◌, ◌<◌, ◌≤◌, ◌⊎◌, ◌+◌, ◌^◌, ◌↔◌, ℕ, List, Option, Some, None, IfSome, length, refl, sym, ap, subst, ◌∙◌, inl, inr, arith, max, min}
+use Rattle.std.proofs.Common.{true, false, ◌≡◌, ◌≢◌, ◌<◌, ◌≤◌, ◌⊎◌, ◌+◌, ◌^◌, ◌↔◌, ℕ, List, Option, Some, None, IfSome, length, refl, sym, ap, subst, ◌∙◌, inl, inr, arith, max, min}
 use Rattle.mono_base.specs.declared.limits.TheConstants.{MAX_INPUT_BYTES, MAX_ANSWER_BYTES}
 use Rattle.mono_io.specs.Faults.{counted}
 use Rattle.mono_io.specs.Reading.{IsRead}
@@ -23,6 +23,7 @@ text_place file limit old new ending.Memory else ends = ends.place
 text_place file limit old new ending.Words else ends = absurd ends
 text_place file limit old new (ending.Refused line fault) else ends = absurd ends
 text_place file limit old new (ending.Judged v) else ends = absurd ends
+text_place file limit old new (ending.Summed s) else ends = absurd ends
 text_place file limit old new (ending.Solved reply) else ends = absurd ends
 text_place file limit old new (ending.Printed text) else ends = absurd ends
 
@@ -37,6 +38,7 @@ file_place file old new ending.Memory else ends = ends.place
 file_place file old new ending.Words else ends = absurd ends
 file_place file old new (ending.Refused line fault) else ends = read_place new.place MAX_INPUT_BYTES ends.text ends.read.place ends.read.within
 file_place file old new (ending.Judged v) else ends = absurd ends
+file_place file old new (ending.Summed s) else ends = absurd ends
 file_place file old new (ending.Solved reply) else ends = absurd ends
 file_place file old new (ending.Printed text) else ends = absurd ends
 
@@ -52,6 +54,7 @@ both_ways e place limit behind within = (behind, from e behind within)
     from ending.Memory b w is = absurd (not_behind place limit (w (λ same. cc)) is)
     from (ending.Refused line fault) b w is = absurd (not_behind place limit (w (λ same. cc)) is)
     from (ending.Judged v) b w is = absurd (not_behind place limit (w (λ same. cc)) is)
+    from (ending.Summed s) b w is = absurd (not_behind place limit (w (λ same. cc)) is)
     from (ending.Solved reply) b w is = absurd (not_behind place limit (w (λ same. cc)) is)
     from (ending.Printed text) b w is = absurd (not_behind place limit (w (λ same. cc)) is)
 
@@ -128,6 +131,8 @@ answer_too_long file answer old new e ends else few twice = by_stage (ends_else 
 pub past_limit : (found : Option Command) (old new : ShelfView) → ComesTo found old new ending.TooLong → (new.place ≡ Some (MAX_INPUT_BYTES + 1)) ⊎ (new.place ≡ Some (MAX_ANSWER_BYTES + 1))
 past_limit None old new comes = absurd (cc comes.0)
 past_limit (Some (command.Solve file budget)) old new comes = inl (solve_behind file budget old new comes)
+past_limit (Some (command.Gen k size seed false)) old new comes = absurd (cc comes.0)
+past_limit (Some (command.Gen k size seed true)) old new comes = absurd (cc comes.0.is)
 past_limit (Some (command.Print file)) old new comes = inl (print_behind file old new comes)
 past_limit (Some (command.Check file answer)) old new (inl ends) = inl ends.place
 past_limit (Some (command.Check file answer)) old new (inr (p, read, has, inl ends)) = inr ends.place

@@ -19,6 +19,7 @@ use Rattle.mono_cmd.specs.declared.command.Command.{Command}
 use Rattle.mono_cmd.specs.declared.command.Command.TheVariants as command
 use Rattle.mono_cmd.specs.declared.status.Status.{Status}
 use Rattle.mono_cmd.specs.declared.status.Status.TheVariants as status
+use Rattle.mono_cmd.specs.declared.summary.Summary.{Summary}
 use Rattle.mono_cmd.specs.declared.ending.Ending.{Ending}
 use Rattle.mono_cmd.specs.declared.ending.Ending.TheVariants as ending
 use Rattle.mono_cmd.specs.Endings.{status_of, text_of, answer_status, verdict_status}
@@ -28,18 +29,22 @@ use Rattle.mono_cmd.proofs.Sound.{appended, its_problem}
 
 -- ---- the statuses of `solve`
 
-abbrev is_answer_status : Status → Bool
+abbrev pub is_answer_status : Status → Bool
 is_answer_status status.Satisfiable = true
 is_answer_status status.Unsatisfiable = true
 is_answer_status status.Unknown = true
 is_answer_status s = false
 
-not_answered : (s t : Status) → s ≡ t → IsTrue (is_answer_status s) → is_answer_status t ≡ false → ⊥
+pub not_answered : (s t : Status) → s ≡ t → IsTrue (is_answer_status s) → is_answer_status t ≡ false → ⊥
 not_answered s t is able none = absurd (let h = sym able ∙ ap is_answer_status is ∙ none in cc)
 
--- only an answer has such a status
-answered : (e : Ending) (s : Status) → s ≡ status_of e → IsTrue (is_answer_status s) → (a : Answer) × (e ≡ ending.Solved a)
-answered (ending.Solved a) s is able = (a, refl)
+-- only an answer has such a status, or a summary of one
+abbrev HasReply : Ending → Type 0
+HasReply e = ((a : Answer) × (e ≡ ending.Solved a)) ⊎ ((t : Summary) × (e ≡ ending.Summed t))
+
+answered : (e : Ending) (s : Status) → s ≡ status_of e → IsTrue (is_answer_status s) → HasReply e
+answered (ending.Solved a) s is able = inl (a, refl)
+answered (ending.Summed t) s is able = inr (t, refl)
 answered ending.Words s is able = absurd (not_answered s status.Words is able refl)
 answered ending.ReadFault s is able = absurd (not_answered s status.ReadFault is able refl)
 answered ending.Memory s is able = absurd (not_answered s status.Memory is able refl)
@@ -65,6 +70,10 @@ from_file : (file : List ℕ) (budget : ℕ) (old new : ShelfView) (a : Answer) 
 from_file file budget old new a (inl ends) = absurd ends
 from_file file budget old new a (inr (q, read, has, end)) = (q, record { read = read; has = has; solves = end.0 })
 
+never_summed : (file : List ℕ) (budget : ℕ) (old new : ShelfView) (t : Summary) → ComesTo (Some (command.Solve file budget)) old new (ending.Summed t) → ⊥
+never_summed file budget old new t (inl ends) = ends
+never_summed file budget old new t (inr (q, read, has, end)) = end.0
+
 -- what a run of `solve` over a told FILE ended with
 record HasAnswer (p : Instance) (budget : ℕ) (s : Status) (before now : Option (List ℕ)) : Type 0 where
   answer : Answer
@@ -74,17 +83,24 @@ record HasAnswer (p : Instance) (budget : ℕ) (s : Status) (before now : Option
 
 its_answer : (found : Option Command) (old new : ShelfView) (s : Status) (before now : Option (List ℕ)) (p : Instance) (budget : ℕ) (e : Ending) → Ends found old new e → s ≡ status_of e → now ≡ append_known before (text_of e)
     → IsTrue (is_answer_status s) → Solves found old.texts p budget → HasAnswer p budget s before now
-its_answer found old new s before now p budget e ends is wrote able solves =
-    let a = answered e s is able in
-    let comes : ComesTo found old new (ending.Solved a.0) = subst (λ (d : Ending). Ends found old new d) a.1 ends in
-    let from = from_file solves.file budget old new a.0 (subst (λ (c : Option Command). ComesTo c old new (ending.Solved a.0)) solves.is comes) in
-    let same = its_problem solves.file solves.text old from.1.read p from.0 solves.told solves.stands from.1.has in
-    record {
-      answer = a.0;
-      status = is ∙ ap status_of a.1;
-      wrote = wrote ∙ ap (λ (d : Ending). append_known before (text_of d)) a.1;
-      solves = subst (λ (q : Instance). IsSolution q budget a.0) same from.1.solves;
-    }
+its_answer found old new s before now p budget e ends is wrote able solves = elim (answered e s is able) [ inl a ↦ by_answer a.0 a.1 | inr t ↦ absurd (by_summary t.0 t.1) ]
+  where
+    its_end : (d : Ending) → e ≡ d → Ends (Some (command.Solve solves.file budget)) old new d
+    its_end d same = subst (λ (c : Option Command). Ends c old new d) solves.is (subst (λ (x : Ending). Ends found old new x) same ends)
+
+    by_summary : (t : Summary) → e ≡ ending.Summed t → ⊥
+    by_summary t same = never_summed solves.file budget old new t (its_end (ending.Summed t) same)
+
+    by_answer : (a : Answer) → e ≡ ending.Solved a → HasAnswer p budget s before now
+    by_answer a same =
+        let from = from_file solves.file budget old new a (its_end (ending.Solved a) same) in
+        let one = its_problem solves.file solves.text old from.1.read p from.0 solves.told solves.stands from.1.has in
+        record {
+          answer = a;
+          status = is ∙ ap status_of same;
+          wrote = wrote ∙ ap (λ (d : Ending). append_known before (text_of d)) same;
+          solves = subst (λ (q : Instance). IsSolution q budget a) one from.1.solves;
+        }
 
 -- ---- as clauses of a run
 

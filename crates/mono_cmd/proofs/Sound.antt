@@ -21,6 +21,7 @@ use Rattle.mono_cmd.specs.declared.command.Command.{Command}
 use Rattle.mono_cmd.specs.declared.command.Command.TheVariants as command
 use Rattle.mono_cmd.specs.declared.status.Status.{Status}
 use Rattle.mono_cmd.specs.declared.status.Status.TheVariants as status
+use Rattle.mono_cmd.specs.declared.summary.Summary.{Summary}
 use Rattle.mono_cmd.specs.declared.ending.Ending.{Ending}
 use Rattle.mono_cmd.specs.declared.ending.Ending.TheVariants as ending
 use Rattle.mono_cmd.specs.Endings.{status_of, text_of, verdict_text}
@@ -113,6 +114,11 @@ never_printed file answer old new text (inl ends) = ends
 never_printed file answer old new text (inr (p, read, has, inl ends)) = ends
 never_printed file answer old new text (inr (p, read, has, inr (t, shelf, given, end))) = end.0
 
+never_summed : (file answer : List ℕ) (old new : ShelfView) (s : Summary) → ComesTo (Some (command.Check file answer)) old new (ending.Summed s) → ⊥
+never_summed file answer old new s (inl ends) = ends
+never_summed file answer old new s (inr (p, read, has, inl ends)) = ends
+never_summed file answer old new s (inr (p, read, has, inr (t, shelf, given, end))) = end.0
+
 -- `check` writes a text that begins with `accepted` for a verdict alone
 only_verdicts : (e : Ending) (file answer : List ℕ) (old new : ShelfView) (front : List ℕ) (count : ℕ) → Ends (Some (command.Check file answer)) old new e → take count (text_of e) ≡ front → 0 < length front → slice_index front 0 ≡ 97
     → (v : Verdict) × (e ≡ ending.Judged v) × ComesTo (Some (command.Check file answer)) old new (ending.Judged v)
@@ -123,6 +129,7 @@ only_verdicts ending.TooLong file answer old new front count ends is some a = ab
 only_verdicts (ending.Refused line fault) file answer old new front count ends is some a = absurd (differs (text_of (ending.Refused line fault)) front count 0 114 97 is some refl a refl)
 only_verdicts (ending.Solved reply) file answer old new front count ends is some a = absurd (never_solved file answer old new reply ends)
 only_verdicts (ending.Printed text) file answer old new front count ends is some a = absurd (never_printed file answer old new text ends)
+only_verdicts (ending.Summed s) file answer old new front count ends is some a = absurd (never_summed file answer old new s ends)
 only_verdicts (ending.Judged v) file answer old new front count ends is some a = (v, refl, ends)
 
 -- ---- the problem that FILE stands for

@@ -18,6 +18,7 @@ ends_cases found old new ending.Memory ends = inl ends
 ends_cases found old new ending.TooLong ends = inr ends
 ends_cases found old new (ending.Refused line fault) ends = inr ends
 ends_cases found old new (ending.Judged v) ends = inr ends
+ends_cases found old new (ending.Summed s) ends = inr ends
 ends_cases found old new (ending.Solved reply) ends = inr ends
 ends_cases found old new (ending.Printed text) ends = inr ends
 
@@ -28,6 +29,7 @@ ends_else found old new ending.Memory else ends = absurd (else refl)
 ends_else found old new ending.TooLong else ends = ends
 ends_else found old new (ending.Refused line fault) else ends = ends
 ends_else found old new (ending.Judged v) else ends = ends
+ends_else found old new (ending.Summed s) else ends = ends
 ends_else found old new (ending.Solved reply) else ends = ends
 ends_else found old new (ending.Printed text) else ends = ends
 
@@ -40,6 +42,7 @@ text_begun file limit old new ending.Memory ends = ends.once.begun
 text_begun file limit old new ending.Words ends = absurd ends
 text_begun file limit old new (ending.Refused line fault) ends = absurd ends
 text_begun file limit old new (ending.Judged v) ends = absurd ends
+text_begun file limit old new (ending.Summed s) ends = absurd ends
 text_begun file limit old new (ending.Solved reply) ends = absurd ends
 text_begun file limit old new (ending.Printed text) ends = absurd ends
 
@@ -50,6 +53,7 @@ text_faults file limit old new ending.Memory else ends = ends.faults
 text_faults file limit old new ending.Words else ends = absurd ends
 text_faults file limit old new (ending.Refused line fault) else ends = absurd ends
 text_faults file limit old new (ending.Judged v) else ends = absurd ends
+text_faults file limit old new (ending.Summed s) else ends = absurd ends
 text_faults file limit old new (ending.Solved reply) else ends = absurd ends
 text_faults file limit old new (ending.Printed text) else ends = absurd ends
 
@@ -63,6 +67,7 @@ file_begun file old new ending.Memory ends = ends.once.begun
 file_begun file old new ending.Words ends = absurd ends
 file_begun file old new (ending.Refused line fault) ends = ends.read.once.begun
 file_begun file old new (ending.Judged v) ends = absurd ends
+file_begun file old new (ending.Summed s) ends = absurd ends
 file_begun file old new (ending.Solved reply) ends = absurd ends
 file_begun file old new (ending.Printed text) ends = absurd ends
 
@@ -73,6 +78,7 @@ file_faults file old new ending.Memory else ends = ends.faults
 file_faults file old new ending.Words else ends = absurd ends
 file_faults file old new (ending.Refused line fault) else ends = ends.read.faults
 file_faults file old new (ending.Judged v) else ends = absurd ends
+file_faults file old new (ending.Summed s) else ends = absurd ends
 file_faults file old new (ending.Solved reply) else ends = absurd ends
 file_faults file old new (ending.Printed text) else ends = absurd ends
 
@@ -86,6 +92,7 @@ comes_begun None old new e comes = omega (arith, ap (λ (shelf : ShelfView). she
 comes_begun (Some (command.Solve file budget)) old new e (inl ends) = omega (arith, file_begun file old new e ends)
 comes_begun (Some (command.Solve file budget)) old new e (inr (p, shelf, has, solved)) =
     omega (arith, has.read.once.begun, ap (λ (s : ShelfView). s.begun) solved.1)
+comes_begun (Some (command.Gen k size seed solve)) old new e comes = omega (arith, ap (λ (shelf : ShelfView). shelf.begun) comes.1)
 comes_begun (Some (command.Print file)) old new e (inl ends) = omega (arith, file_begun file old new e ends)
 comes_begun (Some (command.Print file)) old new e (inr (p, shelf, has, printed)) =
     omega (arith, has.read.once.begun, ap (λ (s : ShelfView). s.begun) printed.1)
@@ -100,6 +107,7 @@ comes_faults None old new e else comes = ap (λ (shelf : ShelfView). shelf.fault
 comes_faults (Some (command.Solve file budget)) old new e else (inl ends) = file_faults file old new e else ends
 comes_faults (Some (command.Solve file budget)) old new e else (inr (p, shelf, has, solved)) =
     ap (λ (s : ShelfView). s.faults) solved.1 ∙ has.read.faults
+comes_faults (Some (command.Gen k size seed solve)) old new e else comes = ap (λ (shelf : ShelfView). shelf.faults) comes.1
 comes_faults (Some (command.Print file)) old new e else (inl ends) = file_faults file old new e else ends
 comes_faults (Some (command.Print file)) old new e else (inr (p, shelf, has, printed)) =
     ap (λ (s : ShelfView). s.faults) printed.1 ∙ has.read.faults

@@ -1,5 +1,5 @@
 -- What a run came to before it writes: its status, and the text that is due.
-use Rattle.std.specs.Prelude.{ℕ, List, [], ◌∷◌, codes, decimal}
+use Rattle.std.specs.Prelude.{ℕ, List, [], ◌∷◌, ◌++◌, codes, decimal}
 use Rattle.mono_text.specs.Text.{spaced}
 use Rattle.mono_answer.specs.declared.answer.Answer.{Answer}
 use Rattle.mono_answer.specs.declared.answer.Answer.TheVariants as answer
@@ -9,6 +9,8 @@ use Rattle.mono_io.specs.declared.refusal.ReadRefusal.TheVariants as reading
 use Rattle.mono_gnf.specs.Names.{fault_name}
 use Rattle.mono_gnf.specs.declared.refusal.GnfRefusal.{GnfRefusal}
 use Rattle.mono_gnf.specs.declared.refusal.GnfRefusal.TheVariants as form
+use Rattle.mono_check.specs.declared.refusal.CheckRefusal.{CheckRefusal}
+use Rattle.mono_check.specs.declared.refusal.CheckRefusal.TheVariants as judging
 use Rattle.mono_check.specs.Names.{reason_name}
 use Rattle.mono_check.specs.declared.reason.Reason.{Reason}
 use Rattle.mono_check.specs.declared.reason.Reason.TheVariants as reason
@@ -16,6 +18,7 @@ use Rattle.mono_check.specs.declared.verdict.Verdict.{Verdict}
 use Rattle.mono_check.specs.declared.verdict.Verdict.TheVariants as verdict
 use Rattle.mono_cmd.specs.declared.status.Status.{Status}
 use Rattle.mono_cmd.specs.declared.status.Status.TheVariants as status
+use Rattle.mono_cmd.specs.declared.summary.Summary.{Summary}
 use Rattle.mono_cmd.specs.declared.ending.Ending.{Ending}
 use Rattle.mono_cmd.specs.declared.ending.Ending.TheVariants as ending
 
@@ -38,6 +41,7 @@ status_of ending.TooLong = status.TooLong
 status_of (ending.Refused line fault) = status.Refused
 status_of (ending.Solved a) = answer_status a
 status_of (ending.Judged v) = verdict_status v
+status_of (ending.Summed s) = answer_status s.answer
 status_of (ending.Printed text) = status.Printed
 
 -- the name of a reason, and the number that it carries, if it carries one
@@ -52,14 +56,39 @@ verdict_text verdict.Refutation = codes "accepted refutation\n"
 verdict_text (verdict.Progress n) = spaced (codes "accepted" ∷ codes "progress" ∷ decimal n ∷ [])
 verdict_text (verdict.Rejected line r) = spaced (codes "rejected" ∷ decimal line ∷ reason_words r)
 
+-- the six lines of a summary. The verdict's text ends its line itself
+abbrev pub summary_lines : ℕ → ℕ → ℕ → ℕ → List ℕ → List ℕ → List ℕ
+summary_lines vars clauses edges predicates result verdict =
+    spaced (codes "variables" ∷ decimal vars ∷ [])
+    ++ spaced (codes "clauses" ∷ decimal clauses ∷ [])
+    ++ spaced (codes "edges" ∷ decimal edges ∷ [])
+    ++ spaced (codes "predicates" ∷ decimal predicates ∷ [])
+    ++ spaced (codes "result" ∷ result ∷ [])
+    ++ (codes "verdict " ++ verdict)
+
+abbrev pub result_word : Answer → List ℕ
+result_word (answer.Model values) = codes "satisfiable"
+result_word (answer.Refutation steps) = codes "unsatisfiable"
+result_word (answer.Progress steps) = codes "unknown"
+
+-- progress is printed behind the six lines
+abbrev pub progress_text : Answer → List ℕ
+progress_text (answer.Model values) = []
+progress_text (answer.Refutation steps) = []
+progress_text (answer.Progress steps) = answer_text (answer.Progress steps)
+
+abbrev pub summary_text : Summary → List ℕ
+summary_text s = summary_lines s.vars s.clauses s.edges s.predicates (result_word s.answer) (verdict_text s.verdict) ++ progress_text s.answer
+
 abbrev pub text_of : Ending → List ℕ
-text_of ending.Words = codes "usage: solve FILE [--conflicts N] | check FILE ANSWER | print FILE\n"
+text_of ending.Words = codes "usage: solve FILE [--conflicts N] | check FILE ANSWER | print FILE | gen KIND SIZE SEED [--solve]\n"
 text_of ending.ReadFault = codes "read fault\n"
 text_of ending.Memory = []
 text_of ending.TooLong = codes "too long\n"
 text_of (ending.Refused line fault) = spaced (codes "refused" ∷ decimal line ∷ fault_name fault ∷ [])
 text_of (ending.Solved a) = answer_text a
 text_of (ending.Judged v) = verdict_text v
+text_of (ending.Summed s) = summary_text s
 text_of (ending.Printed text) = text
 
 -- ---- the ending where a step of the run ends it
@@ -68,6 +97,11 @@ abbrev pub unread_ending : ReadRefusal → Ending
 unread_ending reading.Memory = ending.Memory
 unread_ending reading.Fault = ending.ReadFault
 unread_ending reading.TooLong = ending.TooLong
+
+abbrev pub unjudged_ending : CheckRefusal → Ending
+unjudged_ending judging.Memory = ending.Memory
+unjudged_ending judging.Fault = ending.ReadFault
+unjudged_ending judging.TooLong = ending.TooLong
 
 abbrev pub refused_ending : GnfRefusal → Ending
 refused_ending form.Memory = ending.Memory

@@ -1,15 +1,19 @@
 -- What a run comes to, by its command and by what contracts see of the shelf as it begins (`old`) and as it ends (`new`).
-use Rattle.std.specs.Prelude.{◌≡◌, ◌≢◌, ℕ, ◌≤◌, ◌+◌, ◌⊎◌, List, [], ◌∷◌, ◌++◌, length, Option, Some, None, IsSome, IsSomeAnd}
+use Rattle.std.specs.Prelude.{◌≡◌, ◌≢◌, ℕ, ◌≤◌, ◌+◌, ◌⊎◌, Bool, true, false, List, [], ◌∷◌, ◌++◌, length, codes, Option, Some, None, IsSome, IsSomeAnd}
 use Rattle.std.specs.Io.KnownBytes.{append_known}
 use Rattle.mono_base.specs.declared.limits.TheConstants.{MAX_INPUT_BYTES, MAX_ANSWER_BYTES}
 use Rattle.mono_io.specs.Faults.{counted}
 use Rattle.mono_io.specs.Reading.{IsRead, IsTooLong, IsNotRead, IsGivenUp}
 use Rattle.mono_io.specs.Shelf.{Texts, ShelfView, told_text}
 use Rattle.mono_io.specs.Sink.{AppendsPrefix}
-use Rattle.mono_problem.specs.Instance.{Instance}
+use Rattle.mono_problem.specs.Instance.{Instance, edges_total}
 use Rattle.mono_gnf.specs.Faults.{first_fault}
 use Rattle.mono_gnf.specs.Stands.{Stands}
 use Rattle.mono_gnf.specs.Printed.{printed}
+use Rattle.mono_gen.specs.Generated.{generated}
+use Rattle.mono_gen.specs.declared.kind.GenKind.{GenKind}
+use Rattle.mono_steps.specs.declared.step.Step.{Step}
+use Rattle.mono_answer.specs.Printed.{answer_text}
 use Rattle.mono_gnf.specs.declared.fault.GnfFault.{GnfFault}
 use Rattle.mono_answer.specs.declared.answer.Answer.{Answer}
 use Rattle.mono_answer.specs.declared.answer.Answer.TheVariants as answer
@@ -20,11 +24,13 @@ use Rattle.mono_cmd.specs.declared.command.Command.{Command}
 use Rattle.mono_cmd.specs.declared.command.Command.TheVariants as command
 use Rattle.mono_cmd.specs.declared.status.Status.{Status}
 use Rattle.mono_cmd.specs.declared.status.Status.TheVariants as status
+use Rattle.mono_cmd.specs.declared.summary.Summary.{Summary}
 use Rattle.mono_cmd.specs.declared.ending.Ending.{Ending}
 use Rattle.mono_cmd.specs.declared.ending.Ending.TheVariants as ending
 use Rattle.mono_cmd.specs.Commands.{files_of}
-use Rattle.mono_cmd.specs.Endings.{status_of, text_of}
-use Rattle.mono_cmd.specs.Solved.{IsSolution}
+use Rattle.mono_cmd.specs.declared.command.TheConstants.{DEFAULT_BUDGET}
+use Rattle.mono_cmd.specs.Endings.{status_of, text_of, summary_lines, verdict_text}
+use Rattle.mono_cmd.specs.Solved.{IsSolution, IsProgress, IsSummary}
 
 -- ---- a file on the way
 
@@ -72,6 +78,21 @@ abbrev pub IsSolved : Instance → ℕ → Ending → Type 0
 IsSolved p budget (ending.Solved a) = IsSolution p budget a
 IsSolved p budget e = ⊥
 
+-- ---- a generated input
+
+-- the summary of an answer to the problem that a generated input stands for
+pub record SumsUp (k : GenKind) (size seed : ℕ) (e : Ending) : Type 0 where
+  pub problem : Instance
+  pub stands : Stands (generated k size seed) problem
+  pub summary : Summary
+  pub is : e ≡ ending.Summed summary
+  pub right : IsSummary problem DEFAULT_BUDGET summary
+
+-- the generated input is printed, or solved and summed up
+abbrev pub IsGenerated : GenKind → ℕ → ℕ → Bool → Ending → Type 0
+IsGenerated k size seed false e = e ≡ ending.Printed (generated k size seed)
+IsGenerated k size seed true e = SumsUp k size seed e
+
 -- ---- commands
 
 -- What a run with this command comes to, where memory is found.
@@ -81,6 +102,7 @@ ComesTo (Some (command.Solve file budget)) old new e =
     WithProblem file old new e (λ p shelf. IsSolved p budget e × (new ≡ shelf))
 ComesTo (Some (command.Print file)) old new e =
     WithProblem file old new e (λ p shelf. (e ≡ ending.Printed (printed p)) × (new ≡ shelf))
+ComesTo (Some (command.Gen k size seed solve)) old new e = IsGenerated k size seed solve e × (new ≡ old)
 ComesTo (Some (command.Check file answer)) old new e =
     WithProblem file old new e (λ p read.
     WithText answer MAX_ANSWER_BYTES read new e (λ text shelf. IsJudged p text e × (new ≡ shelf)))
@@ -130,6 +152,26 @@ IsVerdictBy status.Unsatisfiable p budget text = IsVerdict p text verdict.Refuta
 IsVerdictBy status.Unknown p budget text = IsVerdict p text (verdict.Progress budget)
 IsVerdictBy s p budget text = Unit {0}
 
+-- `gen` with `--solve` runs, and the generated input stands for the problem
+pub record SolvesGenerated (found : Option Command) (p : Instance) : Type 0 where
+  pub kind : GenKind
+  pub size : ℕ
+  pub seed : ℕ
+  pub is : found ≡ Some (command.Gen kind size seed true)
+  pub stands : Stands (generated kind size seed) p
+
+-- the summary of a problem, with a result and the text of a verdict
+abbrev pub summary_of : Instance → List ℕ → List ℕ → List ℕ
+summary_of p result verdict = summary_lines p.vars (length p.clauses) (edges_total p) (length p.atoms) result verdict
+
+-- what `gen` with `--solve` writes with this status. With an answer it is the six lines, with progress the steps too
+abbrev pub IsSummaryBy : Status → Instance → List ℕ → Type 0
+IsSummaryBy status.Satisfiable p text = text ≡ summary_of p (codes "satisfiable") (codes "accepted model\n")
+IsSummaryBy status.Unsatisfiable p text = text ≡ summary_of p (codes "unsatisfiable") (codes "accepted refutation\n")
+IsSummaryBy status.Unknown p text =
+    (steps : List Step) × IsProgress p DEFAULT_BUDGET steps × (text ≡ summary_of p (codes "unknown") (verdict_text (verdict.Progress DEFAULT_BUDGET)) ++ answer_text (answer.Progress steps))
+IsSummaryBy s p text = Unit {0}
+
 -- `check` wrote this behind what was there, and FILE is told and stands for the problem
 pub record CheckWrote (found : Option Command) (texts : Option Texts) (before now : Option (List ℕ)) (p : Instance) (written : List ℕ) : Type 0 where
   pub file : List ℕ
@@ -161,22 +203,32 @@ abbrev pub EachReached : (List ℕ → ℕ → Type 0) → Option Texts → Comm
 EachReached Holds texts (command.Check file answer) = Holds file MAX_INPUT_BYTES × (HasNoFault texts file → Holds answer MAX_ANSWER_BYTES)
 EachReached Holds texts (command.Print file) = Holds file MAX_INPUT_BYTES
 EachReached Holds texts (command.Solve file budget) = Holds file MAX_INPUT_BYTES
+EachReached Holds texts (command.Gen k size seed solve) = Unit {0}
 
 -- how a command ends that is carried out
 abbrev pub IsCarriedOut : Command → Status → Type 0
 IsCarriedOut (command.Solve file budget) s = (s ≡ status.Satisfiable) ⊎ (s ≡ status.Unsatisfiable) ⊎ (s ≡ status.Unknown) ⊎ (s ≡ status.Refused)
 IsCarriedOut (command.Check file answer) s = (s ≡ status.Accepted) ⊎ (s ≡ status.Rejected) ⊎ (s ≡ status.Refused)
 IsCarriedOut (command.Print file) s = (s ≡ status.Printed) ⊎ (s ≡ status.Refused)
+IsCarriedOut (command.Gen k size seed false) s = s ≡ status.Printed
+IsCarriedOut (command.Gen k size seed true) s = (s ≡ status.Satisfiable) ⊎ (s ≡ status.Unsatisfiable) ⊎ (s ≡ status.Unknown)
 
 -- ---- two runs
 
--- two answers of `solve` don't contradict each other: not one a model and the other a refutation
+-- an answer is looked for, and which one is found isn't fixed
+abbrev pub IsSolving : Option Command → Type 0
+IsSolving (Some (command.Solve file budget)) = Unit {0}
+IsSolving (Some (command.Gen k size seed true)) = Unit {0}
+IsSolving found = ⊥
+
+-- two answers don't contradict each other: not one a model and the other a refutation
 abbrev pub AreConsistent : Answer → Answer → Type 0
 AreConsistent (answer.Model values) (answer.Refutation steps) = ⊥
 AreConsistent (answer.Refutation steps) (answer.Model values) = ⊥
 AreConsistent a b = Unit {0}
 
--- the same ending, or two answers of `solve`, which model or refutation it finds isn't fixed
+-- the same ending, or two answers that don't contradict each other
 abbrev pub AreAlike : Ending → Ending → Type 0
 AreAlike (ending.Solved a) (ending.Solved b) = AreConsistent a b
+AreAlike (ending.Summed s) (ending.Summed t) = AreConsistent s.answer t.answer
 AreAlike e e' = e ≡ e'

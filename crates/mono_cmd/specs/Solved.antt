@@ -1,6 +1,6 @@
--- What `solve` answers.
+-- What `solve` answers, and what the summary of a solved problem says.
 use Rattle.std.specs.Prelude.{◌≡◌, ℕ, ◌+◌, ◌<◌, ◌^◌, List, length, IsTrue}
-use Rattle.mono_problem.specs.Instance.{Instance}
+use Rattle.mono_problem.specs.Instance.{Instance, edges_total}
 use Rattle.mono_steps.specs.declared.step.Step.{Step}
 use Rattle.mono_steps.specs.Steps.{are_justified, is_refutation}
 use Rattle.mono_steps.specs.Trimmed.{IsNamedLater}
@@ -13,6 +13,7 @@ use Rattle.mono_answer.specs.Printed.{answer_text}
 use Rattle.mono_check.specs.declared.verdict.Verdict.{Verdict}
 use Rattle.mono_check.specs.declared.verdict.Verdict.TheVariants as verdict
 use Rattle.mono_check.specs.Verdicts.{IsVerdict}
+use Rattle.mono_cmd.specs.declared.summary.Summary.{Summary}
 
 -- a refutation of nothing but what its last step rests on
 pub record IsTrimRefutation (p : Instance) (steps : List Step) : Type 0 where
@@ -42,3 +43,12 @@ verdict_of (answer.Progress steps) = verdict.Progress (chain_count steps)
 pub record IsSolution (p : Instance) (budget : ℕ) (a : Answer) : Type 0 where
   pub right : IsAnswer p budget a
   pub accepted : IsVerdict p (answer_text a) (verdict_of a)
+
+-- the sizes of a problem, an answer to it, and the verdict of `check` on the answer's text
+pub record IsSummary (p : Instance) (budget : ℕ) (s : Summary) : Type 0 where
+  pub vars : s.vars ≡ p.vars
+  pub clauses : s.clauses ≡ length p.clauses
+  pub edges : s.edges ≡ edges_total p
+  pub predicates : s.predicates ≡ length p.atoms
+  pub solves : IsSolution p budget s.answer
+  pub judged : IsVerdict p (answer_text s.answer) s.verdict

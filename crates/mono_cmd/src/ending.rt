@@ -6,19 +6,21 @@ ghost use Rattle.std.specs.Prelude.{◌≡◌, ◌≢◌, ◌∷◌, [], IfOk, O
 ghost use Rattle.std.specs.Cow.{cow_slice_items};
 ghost use Rattle.mono_text.specs.Text.{spaced};
 ghost use Rattle.mono_check.specs.Names.{reason_name};
-ghost use Rattle.mono_cmd.specs.Endings.{status_of, text_of, unread_ending, refused_ending, answer_status as status_of_answer, verdict_status as status_of_verdict, verdict_text as text_of_verdict};
+ghost use Rattle.mono_cmd.specs.Endings.{status_of, text_of, unread_ending, unjudged_ending, refused_ending, answer_status as status_of_answer, verdict_status as status_of_verdict, verdict_text as text_of_verdict};
 ghost use Rattle.mono_cmd.specs.declared.ending.Ending.TheVariants.{Memory};
 
 use crate::status::Status;
+use crate::summary::Summary;
 use mono_answer::{Answer, print_answer};
 use mono_base::Row;
-use mono_check::{Reason, Verdict};
+use mono_check::{CheckRefusal, Reason, Verdict};
 use mono_gnf::{GnfFault, GnfRefusal};
 use mono_io::ReadRefusal;
 use std::alloc::{AllocError, Global};
 use std::borrow::CowSlice;
 
-const USAGE: &[u8] = b"usage: solve FILE [--conflicts N] | check FILE ANSWER | print FILE\n";
+const USAGE: &[u8] =
+    b"usage: solve FILE [--conflicts N] | check FILE ANSWER | print FILE | gen KIND SIZE SEED [--solve]\n";
 
 /// What a run comes to.
 #[derive(Drop)]
@@ -37,7 +39,9 @@ pub enum Ending {
     Solved(Answer),
     /// The verdict on the answer.
     Judged(Verdict),
-    /// The printed form of the input.
+    /// A generated input that was solved, summed up.
+    Summed(Summary),
+    /// The printed form of the input, or a generated input.
     Printed(Row<u8>),
 }
 
@@ -57,6 +61,18 @@ impl From<ReadRefusal> for Ending {
             ReadRefusal::Memory => Ending::Memory,
             ReadRefusal::Fault => Ending::ReadFault,
             ReadRefusal::TooLong => Ending::TooLong,
+        }
+    }
+}
+
+impl From<CheckRefusal> for Ending {
+    ghost from_gives = { λ refusal ending. ending ≡ unjudged_ending refusal };
+
+    fn from(refusal: CheckRefusal) -> Ending {
+        match refusal {
+            CheckRefusal::Memory => Ending::Memory,
+            CheckRefusal::Fault => Ending::ReadFault,
+            CheckRefusal::TooLong => Ending::TooLong,
         }
     }
 }
@@ -85,6 +101,7 @@ impl Ending {
             Ending::Refused { line: _, fault: _ } => Status::Refused,
             Ending::Solved(answer) => answer_status(answer),
             Ending::Judged(verdict) => verdict_status(*verdict),
+            Ending::Summed(summary) => answer_status(&summary.answer),
             Ending::Printed(_) => Status::Printed,
         }
     }
@@ -102,6 +119,7 @@ impl Ending {
             Ending::Refused { line, fault } => refused_text(alloc, line, fault)?,
             Ending::Solved(answer) => print_answer(alloc, &answer)?,
             Ending::Judged(verdict) => verdict_text(alloc, verdict)?,
+            Ending::Summed(summary) => summary.text(alloc)?,
             Ending::Printed(text) => text.into_vec(),
         };
         Ok(CowSlice::Owned(text))
@@ -140,7 +158,8 @@ fn refused_text(alloc: Global, line: u64, fault: GnfFault) -> Result<Vec<u8>, Al
     Ok(format!(in alloc; "refused {line} {name}\n")?.into_bytes())
 }
 
-fn verdict_text(alloc: Global, verdict: Verdict) -> Result<Vec<u8>, AllocError>
+/// The line of a verdict.
+pub(crate) fn verdict_text(alloc: Global, verdict: Verdict) -> Result<Vec<u8>, AllocError>
     ensures { IfOk result (λ text. text.items ≡ text_of_verdict verdict) }
 {
     match verdict {

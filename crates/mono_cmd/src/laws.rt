@@ -8,16 +8,16 @@ ghost use Rattle.mono_cmd.specs.declared.command.Command.{Command as CommandOf};
 ghost use Rattle.mono_cmd.specs.declared.command.Command.TheVariants as command;
 ghost use Rattle.mono_cmd.specs.declared.ending.Ending.{Ending as EndingOf};
 ghost use Rattle.mono_cmd.specs.declared.ending.Ending.TheVariants as ending;
-ghost use Rattle.mono_cmd.specs.Runs.{Ends, AreAlike};
+ghost use Rattle.mono_cmd.specs.Runs.{Ends, AreAlike, IsSolving};
 
 /// Over the same told texts one command comes to one ending: over steady shelves whatever it is, and over other ones where
-/// neither run met a read fault. Want of memory alone is free, and which answer `solve` finds: but two answers don't
+/// neither run met a read fault. Want of memory alone is free, and which answer is found: but two answers don't
 /// contradict each other. So each ending comes exactly where its definition says.
 pub fn one_ending()
     ensures alike { (found : Option CommandOf) (held : Texts) (old new old' new' : ShelfView) (e e' : EndingOf) → old.texts ≡ Some held → old'.texts ≡ Some held
         → (e ≡ ending.ReadFault → IsTrue old.steady) → (e' ≡ ending.ReadFault → IsTrue old'.steady)
         → Ends found old new e → Ends found old' new' e' → e ≢ ending.Memory → e' ≢ ending.Memory → AreAlike e e' }
-    ensures same { (found : Option CommandOf) (held : Texts) (old new old' new' : ShelfView) (e e' : EndingOf) → ((file : List ℕ) (budget : ℕ) → found ≢ Some (command.Solve file budget)) → old.texts ≡ Some held → old'.texts ≡ Some held
+    ensures same { (found : Option CommandOf) (held : Texts) (old new old' new' : ShelfView) (e e' : EndingOf) → ¬ IsSolving found → old.texts ≡ Some held → old'.texts ≡ Some held
         → (e ≡ ending.ReadFault → IsTrue old.steady) → (e' ≡ ending.ReadFault → IsTrue old'.steady)
         → Ends found old new e → Ends found old' new' e' → e ≢ ending.Memory → e' ≢ ending.Memory → e ≡ e' }
 {}

@@ -18,6 +18,8 @@ pub mod run;
 pub mod solving;
 /// How a run ends.
 pub mod status;
+/// Summaries of generated inputs.
+pub mod summary;
 #[cfg(test)]
 mod tests;
 /// The words of a command line.

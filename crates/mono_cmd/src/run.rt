@@ -1,26 +1,34 @@
 //! The whole program: words, a shelf of files and a sink in, a status out.
 //!
-//! The order is: the words; FILE is read, then its form; it is solved, or ANSWER is read and judged; the text is written.
+//! The order is: the words; FILE is read, then its form; it is solved, or ANSWER is read to its end, its lines judged on the
+//! way; the text is written.
 //! The first refusal in this order decides. All text is made before the first write, so with want of memory nothing was written.
 //!
 //! Each step answers what the next one needs, or the ending of the run: `?` ends it there. So a form is a few lines.
 
-ghost use Rattle.std.specs.Prelude.{◌≡◌, ◌≢◌, ◌≤◌, ◌+◌, ◌++◌, ◌^◌, ◌<◌, ◌⊎◌, ℕ, Bool, List, Option, Some, IsTrue, IsSomeAnd, MatchResult, codes, map, string_bytes};
+ghost use Rattle.std.specs.Prelude.{◌≡◌, ◌≢◌, ◌≤◌, ◌+◌, ◌++◌, ◌^◌, ◌<◌, ◌⊎◌, ℕ, Bool, List, Option, Some, None, IsTrue, IsSomeAnd, MatchResult, codes, map, string_bytes};
 ghost use Rattle.mono_io.specs.Faults.{counted};
 ghost use Rattle.mono_problem.specs.Instance.{Instance};
 ghost use Rattle.mono_problem.specs.Holds.{HasNoModel, Satisfies};
+ghost use Rattle.mono_gnf.specs.Faults.{first_fault};
+ghost use Rattle.mono_gnf.specs.Stands.{Stands};
+ghost use Rattle.mono_cmd.specs.declared.command.TheConstants.{DEFAULT_BUDGET};
+ghost use Rattle.mono_cmd.specs.declared.summary.Summary.{Summary as SummaryOf};
+ghost use Rattle.mono_cmd.specs.Solved.{IsSummary};
 ghost use Rattle.mono_cmd.specs.Commands.{command_of, files_of};
-ghost use Rattle.mono_cmd.specs.Runs.{Ends, EndsAtFile, HasProblem, Runs, Writes, Solves, IsVerdictBy, CheckWrote, IsCarriedOut, EachReached, IsHeld, IsHeldWithin, begun_for};
+ghost use Rattle.mono_cmd.specs.Runs.{Ends, EndsAtFile, IsGenerated, SolvesGenerated, IsSummaryBy, HasProblem, Runs, Writes, Solves, IsVerdictBy, CheckWrote, IsCarriedOut, EachReached, IsHeld, IsHeldWithin, begun_for};
 
 use crate::command::Command;
 use crate::ending::Ending;
 use crate::solving::answer_to;
 use crate::status::Status;
+use crate::summary::sum_up;
 use crate::words::command;
 use mono_base::Row;
 use mono_base::limits::{MAX_ANSWER_BYTES, MAX_INPUT_BYTES};
-use mono_check::judge::verdict;
-use mono_gnf::{print_gnf, read_gnf};
+use mono_check::verdict_from;
+use mono_gen::{GenKind, generate};
+use mono_gnf::{GnfRefusal, print_gnf, read_gnf};
 use mono_io::{Shelf, Sink, read_whole, write_whole};
 use mono_problem::Problem;
 use std::alloc::{AllocError, Global};
@@ -33,7 +41,9 @@ use std::alloc::{AllocError, Global};
 ///   `Unknown` only with that of justified progress: exactly as many nonempty learned clauses as the budget, each new, and
 ///   only where the budget is below 3^V, V being the number of variables.
 /// - `Accepted` and `Rejected` come by the verdict on ANSWER for the problem that FILE stands for, `Printed` with its
-///   printed form.
+///   printed form, or with the generated input of a kind, a size and a seed.
+/// - `gen` with `--solve` ends as `solve` does on the generated input, with the six lines of its summary. The last one is
+///   the checker's verdict on the answer; with `Unknown` the progress follows.
 /// - `ReadFault` comes only where one call of the shelf failed, the last one, at FILE, or at ANSWER where FILE has no
 ///   fault. Over a steady shelf it comes only for a file that the shelf lacks.
 /// - `TooLong` comes only for a file with more bytes than its limit: the shelf's place is limit + 1 then.
@@ -65,6 +75,12 @@ pub fn run<S: Shelf, K: Sink>(alloc: Global, words: &[String], shelf: &mut S, ou
     ensures unknown { (p : Instance) (budget : ℕ) → Solves (command_of (map string_bytes words.now)) (S.seen shelf.old).texts p budget → result ≡ Status.Unknown → budget < 3 ^ p.vars }
     ensures verdict { (p : Instance) (budget : ℕ) (there written : List ℕ) → Solves (command_of (map string_bytes words.now)) (S.seen shelf.old).texts p budget → K.written out.old ≡ Some there → K.written out.new ≡ Some (there ++ written) → IsVerdictBy result p budget written }
 
+    // `gen` with `--solve`: the same of the problem that the generated input stands for, and what is written.
+    ensures gen_satisfiable { (p : Instance) → SolvesGenerated (command_of (map string_bytes words.now)) p → result ≡ Status.Satisfiable → (a : ℕ → Bool) × Satisfies p a }
+    ensures gen_unsatisfiable { (p : Instance) → SolvesGenerated (command_of (map string_bytes words.now)) p → result ≡ Status.Unsatisfiable → HasNoModel p }
+    ensures gen_unknown { (p : Instance) → SolvesGenerated (command_of (map string_bytes words.now)) p → result ≡ Status.Unknown → DEFAULT_BUDGET < 3 ^ p.vars }
+    ensures summary { (p : Instance) (there written : List ℕ) → SolvesGenerated (command_of (map string_bytes words.now)) p → K.written out.old ≡ Some there → K.written out.new ≡ Some (there ++ written) → IsSummaryBy result p written }
+
     // With this text written, no assignment satisfies the problem that FILE stands for; with the other one, some does.
     ensures refutes { (p : Instance) → CheckWrote (command_of (map string_bytes words.now)) (S.seen shelf.old).texts (K.written out.old) (K.written out.new) p (codes "accepted refutation\n") → HasNoModel p }
     ensures models { (p : Instance) → CheckWrote (command_of (map string_bytes words.now)) (S.seen shelf.old).texts (K.written out.old) (K.written out.new) p (codes "accepted model\n") → (a : ℕ → Bool) × Satisfies p a }
@@ -93,6 +109,14 @@ fn carry_out<S: Shelf>(alloc: Global, words: &[String], shelf: &mut S) -> Result
             check(alloc, shelf, file.as_str(), answer.as_str())
         }
         Some(Command::Print { file }) => print(alloc, shelf, file.as_str()),
+        Some(
+            Command::Gen {
+                kind,
+                size,
+                seed,
+                solve,
+            },
+        ) => generated(alloc, kind, size, seed, solve),
     }
 }
 
@@ -110,8 +134,8 @@ fn check<S: Shelf>(alloc: Global, shelf: &mut S, file: &str, answer: &str) -> Re
     ensures { let ends = Ends (Some (Command.Check file.now answer.now)) (S.seen shelf.old) (S.seen shelf.new) in MatchResult result ends ends }
 {
     let problem = read_problem(alloc, shelf, file)?;
-    let text = read_whole(alloc, shelf, answer, MAX_ANSWER_BYTES)?;
-    Ok(Ending::Judged(verdict(alloc, &problem, text.as_slice())?))
+    let verdict = verdict_from(alloc, &problem, shelf, answer, MAX_ANSWER_BYTES)?;
+    Ok(Ending::Judged(verdict))
 }
 
 /// `print FILE`.
@@ -120,6 +144,37 @@ fn print<S: Shelf>(alloc: Global, shelf: &mut S, file: &str) -> Result<Ending, E
 {
     let text = print_gnf(alloc, &read_problem(alloc, shelf, file)?)?;
     Ok(Ending::Printed(Row::from_vec(text)))
+}
+
+/// `gen KIND SIZE SEED`, with `--solve` or without: no file is read.
+fn generated(
+    alloc: Global,
+    kind: GenKind,
+    size: u32,
+    seed: u64,
+    solve: bool,
+) -> Result<Ending, Ending>
+    requires low { 2 ≤ size }
+    requires high { size ≤ 100 }
+    ensures { MatchResult result (IsGenerated kind size seed solve) (λ e. e ≡ Ending.Memory) }
+{
+    let text = generate(alloc, kind, size, seed)?;
+    if solve {
+        return summed(alloc, text.as_slice());
+    }
+    Ok(Ending::Printed(Row::from_vec(text)))
+}
+
+/// Solves the problem that a text without fault stands for, and sums it up.
+fn summed(alloc: Global, text: &[u8]) -> Result<Ending, Ending>
+    requires { first_fault text.now ≡ None }
+    ensures { MatchResult result (λ e. (p : Instance) × (s : SummaryOf) × Stands text.now p × (e ≡ Ending.Summed s) × IsSummary p DEFAULT_BUDGET s) (λ e. e ≡ Ending.Memory) }
+{
+    match read_gnf(alloc, text) {
+        Ok(problem) => Ok(Ending::Summed(sum_up(alloc, &problem)?)),
+        Err(GnfRefusal::Memory) => Err(Ending::Memory),
+        Err(GnfRefusal::At { line: _, fault: _ }) => unreachable!(),
+    }
 }
 
 /// The problem that FILE stands for.

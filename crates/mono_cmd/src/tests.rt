@@ -8,6 +8,7 @@ use std::process::Abort;
 use std::test::Fail;
 
 mod faults;
+mod generated;
 mod input;
 mod lemmas;
 mod memory;
@@ -30,17 +31,19 @@ fn words_of(alloc: Global, line: &[&str]) -> Result<Vec<String>, AllocError> {
     Ok(words)
 }
 
-/// Runs these words over a shelf that holds the files `f` and `a`.
-fn outcome_of(
+/// Runs these words over a shelf that holds the files `f` and `a`, and gives at most that many bytes at a time.
+fn outcome_by(
     alloc: Global,
     line: &[&str],
     input: &[u8],
     answer: &[u8],
+    most: usize,
 ) -> Result<Outcome, AllocError> {
     let mut shelf = MemoryShelf::new(alloc);
     shelf.put("f", input)?;
     shelf.put("a", answer)?;
-    let mut out = MemorySink::new(alloc, 1 << 20)?;
+    shelf.pieces(most.max(1));
+    let mut out = MemorySink::new(alloc, 1 << 21)?;
     let words = words_of(alloc, line)?;
     let status = run(alloc, words.as_slice(), &mut shelf, &mut out);
     Ok(Outcome {
@@ -49,7 +52,17 @@ fn outcome_of(
     })
 }
 
-/// The run of `check f a` ends so.
+/// The same, by pieces as large as any.
+fn outcome_of(
+    alloc: Global,
+    line: &[&str],
+    input: &[u8],
+    answer: &[u8],
+) -> Result<Outcome, AllocError> {
+    outcome_by(alloc, line, input, answer, 1 << 16)
+}
+
+/// The run of `check f a` ends so, however the shelf cuts the files.
 fn checks(
     rt: &(impl Abort + AllocGlobal),
     input: &[u8],
@@ -57,9 +70,11 @@ fn checks(
     text: &[u8],
     status: Status,
 ) -> Result<(), Fail> {
-    let found = outcome_of(rt.alloc(), &["check", "f", "a"], input, answer)?;
-    assert_eq!(rt; found.text.as_slice(), text);
-    assert_eq!(rt; found.status, status);
+    for most in [1, 7, 1 << 16] {
+        let found = outcome_by(rt.alloc(), &["check", "f", "a"], input, answer, most)?;
+        assert_eq!(rt; found.text.as_slice(), text);
+        assert_eq!(rt; found.status, status);
+    }
     Ok(())
 }
 

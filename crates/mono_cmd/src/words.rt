@@ -1,30 +1,38 @@
 //! The words of a command line, read by hand.
 
 ghost use Rattle.std.specs.Prelude.{◌≡◌, ◌≤◌, ◌∷◌, [], IfOk, IfSome, map, string_bytes};
-ghost use Rattle.mono_cmd.specs.Commands.{HasBudget, command_of, budget_of, is_file_name as is_name};
+ghost use Rattle.mono_cmd.specs.Commands.{IsWithinRange, command_of, budget_of, budgeted_command as budgeted, kind_of as kind_named, size_of as size_named, seed_of as seed_named, gen_command as generating, is_file_name as is_name};
 
 use crate::command::{Command, DEFAULT_BUDGET};
 use mono_base::Name;
+use mono_gen::GenKind;
 use mono_text::natural;
 use std::alloc::{AllocError, Global};
 
 /// The command that the words behind the program's name are: `None` exactly where they are no form.
 pub fn command(alloc: Global, words: &[String]) -> Result<Option<Command>, AllocError>
     ensures form { IfOk result (λ found. found ≡ command_of (map string_bytes words.now)) }
-    ensures budget { IfOk result (λ found. IfSome found HasBudget) }
+    ensures ranges { IfOk result (λ found. IfSome found IsWithinRange) }
 {
     match words {
         [verb, file] => file_command(alloc, verb.as_str(), file.as_str()),
         [verb, file, answer] => {
             check_command(alloc, verb.as_str(), file.as_str(), answer.as_str())
         }
-        [verb, file, option, number] => budgeted_command(
+        [verb, first, second, third] => four_words(
             alloc,
             verb.as_str(),
-            file.as_str(),
-            option.as_str(),
-            number.as_str(),
+            first.as_str(),
+            second.as_str(),
+            third.as_str(),
         ),
+        [verb, first, second, third, option] => Ok(solved_command(
+            verb.as_str(),
+            first.as_str(),
+            second.as_str(),
+            third.as_str(),
+            option.as_str(),
+        )),
         _ => Ok(None),
     }
 }
@@ -48,7 +56,7 @@ fn name(alloc: Global, word: &str) -> Result<Name, AllocError>
 /// `solve FILE` or `print FILE`.
 fn file_command(alloc: Global, verb: &str, file: &str) -> Result<Option<Command>, AllocError>
     ensures form { IfOk result (λ found. found ≡ command_of (verb.now ∷ file.now ∷ [])) }
-    ensures budget { IfOk result (λ found. IfSome found HasBudget) }
+    ensures ranges { IfOk result (λ found. IfSome found IsWithinRange) }
 {
     if !is_file_name(file) {
         return Ok(None);
@@ -75,7 +83,7 @@ fn check_command(
     answer: &str,
 ) -> Result<Option<Command>, AllocError>
     ensures form { IfOk result (λ found. found ≡ command_of (verb.now ∷ file.now ∷ answer.now ∷ [])) }
-    ensures budget { IfOk result (λ found. IfSome found HasBudget) }
+    ensures ranges { IfOk result (λ found. IfSome found IsWithinRange) }
 {
     if verb != "check" || !is_file_name(file) || !is_file_name(answer) {
         return Ok(None);
@@ -105,8 +113,8 @@ fn budgeted_command(
     option: &str,
     number: &str,
 ) -> Result<Option<Command>, AllocError>
-    ensures form { IfOk result (λ found. found ≡ command_of (verb.now ∷ file.now ∷ option.now ∷ number.now ∷ [])) }
-    ensures budget { IfOk result (λ found. IfSome found HasBudget) }
+    ensures form { IfOk result (λ found. found ≡ budgeted verb.now file.now option.now number.now) }
+    ensures ranges { IfOk result (λ found. IfSome found IsWithinRange) }
 {
     if verb != "solve" || !is_file_name(file) || option != "--conflicts" {
         return Ok(None);
@@ -118,4 +126,94 @@ fn budgeted_command(
             Ok(Some(Command::Solve { file, budget }))
         }
     }
+}
+
+/// The kind that a word names.
+fn kind(word: &str) -> Option<GenKind>
+    ensures { result ≡ kind_named word.now }
+{
+    if word == "grid" {
+        return Some(GenKind::Grid);
+    }
+    if word == "wall" {
+        return Some(GenKind::Wall);
+    }
+    None
+}
+
+/// The size that a word is: a natural from 2 to 100.
+fn size(word: &str) -> Option<u32>
+    ensures value { result ≡ size_named word.now }
+    ensures some { IfSome result (λ n. (2 ≤ n) × (n ≤ 100)) }
+{
+    match natural(word.as_bytes(), 100) {
+        Ok(size) => { if size < 2 { None } else { Some(size as u32) } }
+        Err(_) => None,
+    }
+}
+
+/// The seed that a word is: a natural.
+fn seed(word: &str) -> Option<u64>
+    ensures { result ≡ seed_named word.now }
+{
+    match natural(word.as_bytes(), u64::MAX) {
+        Ok(seed) => Some(seed),
+        Err(_) => None,
+    }
+}
+
+/// `gen KIND SIZE SEED`, of what the words behind `gen` are, and whether the input is solved.
+fn gen_command(
+    kind: Option<GenKind>,
+    size: Option<u32>,
+    seed: Option<u64>,
+    solve: bool,
+) -> Option<Command>
+    requires { IfSome size (λ n. (2 ≤ n) × (n ≤ 100)) }
+    ensures form { result ≡ generating kind size seed solve }
+    ensures ranges { IfSome result IsWithinRange }
+{
+    match (kind, size, seed) {
+        (Some(kind), Some(size), Some(seed)) => Some(Command::Gen {
+            kind,
+            size,
+            seed,
+            solve,
+        }),
+        _ => None,
+    }
+}
+
+/// `gen KIND SIZE SEED --solve`.
+fn solved_command(
+    verb: &str,
+    first: &str,
+    second: &str,
+    third: &str,
+    option: &str,
+) -> Option<Command>
+    ensures form { result ≡ command_of (verb.now ∷ first.now ∷ second.now ∷ third.now ∷ option.now ∷ []) }
+    ensures ranges { IfSome result IsWithinRange }
+{
+    if verb != "gen" || option != "--solve" {
+        return None;
+    }
+    gen_command(kind(first), size(second), seed(third), true)
+}
+
+/// `gen KIND SIZE SEED` or `solve FILE --conflicts N`.
+fn four_words(
+    alloc: Global,
+    verb: &str,
+    first: &str,
+    second: &str,
+    third: &str,
+) -> Result<Option<Command>, AllocError>
+    ensures form { IfOk result (λ found. found ≡ command_of (verb.now ∷ first.now ∷ second.now ∷ third.now ∷ [])) }
+    ensures ranges { IfOk result (λ found. IfSome found IsWithinRange) }
+{
+    if verb == "gen" {
+        return Ok(gen_command(kind(first), size(second), seed(third), false));
+    }
+    budgeted_command(alloc, verb, first, second, third)
 }

@@ -5,6 +5,7 @@ ghost use Rattle.mono_io.specs.declared.refusal.ReadRefusal.TheVariants as readi
 ghost use Rattle.mono_gnf.specs.declared.fault.GnfFault.TheVariants as fault;
 ghost use Rattle.mono_gnf.specs.declared.refusal.GnfRefusal.TheVariants as form;
 ghost use Rattle.mono_answer.specs.declared.answer.Answer.TheVariants as answer;
+ghost use Rattle.mono_gen.specs.declared.kind.GenKind.TheVariants as kind;
 ghost use Rattle.mono_check.specs.declared.reason.Reason.TheVariants as reason;
 ghost use Rattle.mono_check.specs.declared.verdict.Verdict.TheVariants as verdict;
 ghost use Rattle.mono_cmd.specs.declared.command.Command.TheVariants as command;
@@ -41,6 +42,15 @@ pub fn worked_commands()
     ensures file_with_dash { command_of (codes "check" ∷ codes "-f" ∷ codes "a" ∷ []) ≡ None }
     ensures empty_name { command_of (codes "print" ∷ [] ∷ []) ≡ None }
 
+    ensures gen_plain { command_of (codes "gen" ∷ codes "grid" ∷ codes "10" ∷ codes "7" ∷ []) ≡ Some (command.Gen kind.Grid 10 7 false) }
+    ensures gen_solve { command_of (codes "gen" ∷ codes "wall" ∷ codes "100" ∷ codes "0" ∷ codes "--solve" ∷ []) ≡ Some (command.Gen kind.Wall 100 0 true) }
+    ensures gen_too_small { command_of (codes "gen" ∷ codes "grid" ∷ codes "1" ∷ codes "7" ∷ []) ≡ None }
+    ensures gen_too_large { command_of (codes "gen" ∷ codes "grid" ∷ codes "101" ∷ codes "7" ∷ []) ≡ None }
+    ensures gen_other_kind { command_of (codes "gen" ∷ codes "maze" ∷ codes "10" ∷ codes "7" ∷ []) ≡ None }
+    ensures gen_no_seed { command_of (codes "gen" ∷ codes "grid" ∷ codes "10" ∷ []) ≡ None }
+    ensures gen_other_option { command_of (codes "gen" ∷ codes "grid" ∷ codes "10" ∷ codes "7" ∷ codes "--conflicts" ∷ []) ≡ None }
+
+    ensures files_of_gen { files_of (Some (command.Gen kind.Grid 10 7 true)) ≡ [] }
     ensures files_of_none { files_of None ≡ [] }
     ensures files_of_solve { files_of (Some (command.Solve (codes "f") 1)) ≡ codes "f" ∷ [] }
     ensures files_of_print { files_of (Some (command.Print (codes "f"))) ≡ codes "f" ∷ [] }
@@ -90,7 +100,7 @@ pub fn worked_endings()
 
 /// What a run comes to has its text.
 pub fn worked_texts()
-    ensures words { text_of ending.Words ≡ codes "usage: solve FILE [--conflicts N] | check FILE ANSWER | print FILE\n" }
+    ensures words { text_of ending.Words ≡ codes "usage: solve FILE [--conflicts N] | check FILE ANSWER | print FILE | gen KIND SIZE SEED [--solve]\n" }
     ensures read_fault { text_of ending.ReadFault ≡ codes "read fault\n" }
     ensures memory { text_of ending.Memory ≡ [] }
     ensures too_long { text_of ending.TooLong ≡ codes "too long\n" }
@@ -102,6 +112,8 @@ pub fn worked_texts()
     ensures rejected { text_of (ending.Judged (verdict.Rejected 2 reason.BadLine)) ≡ codes "rejected 2 BadLine\n" }
     ensures clause_false { text_of (ending.Judged (verdict.Rejected 2 (reason.ClauseFalse 5))) ≡ codes "rejected 2 ClauseFalse 5\n" }
     ensures printed { text_of (ending.Printed (codes "p gnf 0 0\n")) ≡ codes "p gnf 0 0\n" }
+    ensures summary { text_of (ending.Summed (record { vars = 9; clauses = 3; edges = 8; predicates = 1; answer = answer.Refutation []; verdict = verdict.Refutation })) ≡ codes "variables 9\nclauses 3\nedges 8\npredicates 1\nresult unsatisfiable\nverdict accepted refutation\n" }
+    ensures summary_of_progress { text_of (ending.Summed (record { vars = 9; clauses = 3; edges = 8; predicates = 1; answer = answer.Progress []; verdict = verdict.Progress 0 })) ≡ codes "variables 9\nclauses 3\nedges 8\npredicates 1\nresult unknown\nverdict accepted progress 0\ns UNKNOWN\n" }
 {}
 
 /// The text is written whole, a prefix of it where a write failed, and nothing where memory was wanting.
@@ -127,6 +139,9 @@ pub fn worked_runs()
     ensures not_solved { ¬ AreAlike (ending.Solved (answer.Progress [])) ending.TooLong }
 
     ensures carried_out { IsCarriedOut (command.Solve (codes "f") 1) status.Unknown }
+    ensures generated { IsCarriedOut (command.Gen kind.Wall 2 7 true) status.Unsatisfiable }
+    ensures not_refused { ¬ IsCarriedOut (command.Gen kind.Wall 2 7 true) status.Refused }
+    ensures not_summed { ¬ IsCarriedOut (command.Gen kind.Wall 2 7 false) status.Unsatisfiable }
     ensures not_printed { ¬ IsCarriedOut (command.Solve (codes "f") 1) status.Printed }
     ensures not_solving { ¬ IsCarriedOut (command.Check (codes "f") (codes "a")) status.Satisfiable }
 {}

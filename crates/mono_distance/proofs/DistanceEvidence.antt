@@ -1,9 +1,9 @@
 -- Walks and labels show whether a predicate on walks within a limit holds.
-use Rattle.std.proofs.Common.{◌≡◌, ℕ, suc, ◌<◌, ◌≤◌, Bool, true, not, ◌&&◌, List, [], ◌∷◌, map, length, leb, ltb, lt-ltb, refl, sym, ap, subst, ◌∙◌, arith, pos, All, le-leb}
+use Rattle.std.proofs.Common.{◌≡◌, ℕ, ◌<◌, ◌≤◌, Bool, ◌&&◌, List, [], ◌∷◌, map, length, leb, ltb, lt-ltb, refl, sym, ap, subst, ◌∙◌, arith, pos, All, le-leb}
 use Rattle.std.specs.Prelude.{IsTrue, int_lt}
 use Rattle.std.specs.Ordering.{int_eq}
 use Rattle.std.specs.List.{list_all}
-use Rattle.std.proofs.lemmas.Bool.{and_parts, and_from}
+use Rattle.std.proofs.lemmas.Bool.{and_from}
 use Rattle.std.proofs.lemmas.List.Elements.{All-tail}
 use Rattle.mono_base.specs.declared.limits.TheConstants.{MAX_WITNESS_VALUE}
 use Rattle.mono_graph.specs.declared.label.Label.{Label}
@@ -11,17 +11,14 @@ use Rattle.mono_graph.specs.declared.limit.Limit.{Limit}
 use Rattle.mono_graph.specs.declared.limit.Limit.TheVariants as limit
 use Rattle.mono_graph.specs.Digraph.{Digraph, IsGraph, is_distinct}
 use Rattle.mono_graph.specs.Walks.{is_path, is_labelling, is_tense, label_at, bound_of}
-use Rattle.mono_graph.proofs.WalkLaws.{labelling_excludes}
 use Rattle.mono_paths.specs.Found.{HasBound}
 use Rattle.mono_problem.specs.declared.atom.Predicate.{Predicate}
-use Rattle.mono_problem.specs.Holds.{Holds}
 use Rattle.mono_problem.specs.WellFormed.{IsOver}
 use Rattle.mono_steps.specs.declared.lemma.Witness.TheVariants as by
 use Rattle.mono_steps.specs.Witnesses.{passes}
 use Rattle.mono_theory.specs.declared.evidence.Evidence.{Evidence}
 use Rattle.mono_theory.specs.Evidences.{IsEvidence}
 use Rattle.mono_theory.specs.Walked.{walk_evidence}
-use Rattle.mono_theory.specs.Resting.{AreAlike}
 use Rattle.mono_theory.proofs.RestingLaws.{alike_none, resting_evidence}
 use Rattle.mono_theory.proofs.WalkedLaws.{walk_is_evidence}
 use Rattle.mono_distance.specs.Distances.{is_distance, predicate_of, IsLabelEvidence}
@@ -32,21 +29,6 @@ pub has_bound : (g : Digraph) (u v : ℕ) (l : Limit) → IsTrue (is_distance (p
 has_bound g u v limit.Free d h = absurd cc
 has_bound g u v (limit.Steps most) d h = h.2
 has_bound g u v (limit.Weight most) d h = h.2
-
-pub ends_over : (g : Digraph) (u v : ℕ) (l : Limit) → IsOver g (predicate_of u v l) → (u < g.nodes) × (v < g.nodes)
-ends_over g u v limit.Free h = h
-ends_over g u v (limit.Steps most) h = (h.0, h.1)
-ends_over g u v (limit.Weight most) h = (h.0, h.1)
-
-pub walk_holds : (g : Digraph) (P : List Bool) (u v : ℕ) (l : Limit) (ks : List ℕ) → IsTrue (is_path g P u v l ks) → Holds g P (predicate_of u v l)
-walk_holds g P u v limit.Free ks h = (ks, h)
-walk_holds g P u v (limit.Steps most) ks h = (ks, h)
-walk_holds g P u v (limit.Weight most) ks h = (ks, h)
-
-pub labels_fail : (g : Digraph) (P : List Bool) (u v : ℕ) (l : Limit) (ls : List Label) → HasBound l → IsTrue (is_labelling g P u v l ls) → ¬ Holds g P (predicate_of u v l)
-labels_fail g P u v limit.Free ls b h = absurd b
-labels_fail g P u v (limit.Steps most) ls b h = λ w. labelling_excludes g P u v (limit.Steps most) ls w.0 (λ e. cc) h w.1
-labels_fail g P u v (limit.Weight most) ls b h = λ w. labelling_excludes g P u v (limit.Weight most) ls w.0 (λ e. cc) h w.1
 
 -- ---- evidence
 

@@ -7,7 +7,7 @@ ghost use Rattle.std.specs.Prelude.{◌≡◌, ◌<◌, ◌≤◌, All, IfOk, Is
 ghost use Rattle.mono_graph.specs.Digraph.{IsPartOf};
 ghost use Rattle.mono_paths.specs.Found.{HasBound};
 ghost use Rattle.mono_problem.specs.WellFormed.{IsOver};
-ghost use Rattle.mono_theory.specs.Evidences.{Decides, IsEvidence};
+ghost use Rattle.mono_theory.specs.Evidences.{IsEvidence};
 ghost use Rattle.mono_distance.specs.Distances.{is_distance, predicate_of, IsLabelEvidence};
 
 use crate::label_table::LabelTable;
@@ -101,24 +101,6 @@ impl Kind for Distance {
         let finder = WalkFinder::new(alloc, count)?;
         let table = LabelTable::new(alloc, count)?;
         Ok(Distance { finder, table })
-    }
-
-    fn holds(
-        &mut self,
-        alloc: Global,
-        graph: &Graph,
-        part: &Part,
-        predicate: Predicate,
-    ) -> Result<bool, AllocError> {
-        let _ = (alloc, graph.nodes());
-        let asked = what_is_asked(predicate);
-        match self
-            .finder
-            .find_light(graph, part, asked.from, asked.to, asked.limit)?
-        {
-            PathOrLabels::Path(_) => Ok(true),
-            PathOrLabels::Labels(_) => Ok(false),
-        }
     }
 
     fn evidence(

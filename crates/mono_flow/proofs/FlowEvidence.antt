@@ -1,23 +1,20 @@
 -- Flows and sets of nodes show whether a predicate on flows holds.
-use Rattle.std.proofs.Common.{◌≡◌, ℕ, zero, suc, ◌+◌, ◌<◌, ◌≤◌, Bool, true, false, not, ◌&&◌, ◌||◌, ◌==◌, cond, List, [], ◌∷◌, map, length, get_or, eqb, ltb, leb, refl, sym, ap, subst, ◌∙◌, ◌⊎◌, inl, inr, arith, ℤ, pos, All, le-leb, lt-ltb}
+use Rattle.std.proofs.Common.{◌≡◌, ℕ, zero, suc, ◌<◌, ◌≤◌, Bool, true, false, not, ◌&&◌, cond, List, [], ◌∷◌, map, length, eqb, ltb, leb, refl, sym, ap, subst, ◌∙◌, ◌⊎◌, inl, inr, arith, ℤ, pos, All, le-leb, lt-ltb}
 use Rattle.std.specs.Prelude.{IsTrue, filter, is_some, unwrap_or, int_le, int_lt}
 use Rattle.std.specs.List.{list_all}
-use Rattle.std.proofs.lemmas.Bool.{and_parts, and_from, both_ways, not-true, not_from_false, cases_Bool, false_from_ne_true, eqb-true, leb-true, ltb-true, eq-eqb}
+use Rattle.std.proofs.lemmas.Bool.{and_parts, and_from, both_ways, not-true, false_from_ne_true, eqb-true, leb-true, ltb-true, eq-eqb}
 use Rattle.std.proofs.lemmas.Bool.Decides.{eqb_tells}
-use Rattle.std.proofs.lemmas.List.Elements.{All-head, All-tail}
+use Rattle.std.proofs.lemmas.List.Elements.{All-tail}
 use Rattle.mono_base.specs.declared.limits.TheConstants.{MAX_WITNESS_VALUE}
 use Rattle.mono_graph.specs.declared.amount.Amount.{Amount}
-use Rattle.mono_graph.specs.Digraph.{Digraph, IsGraph, edge_at, place_of, present, present_by, places, leads_out, weight_of, has, is_distinct}
+use Rattle.mono_graph.specs.Digraph.{Digraph, IsGraph, edge_at, place_of, present, present_by, leads_out, weight_of, has, is_distinct}
 use Rattle.mono_graph.specs.Flows.{amount_at, is_flow, is_flow_of, is_flow_cut, is_within, is_conserved, value_of}
 use Rattle.mono_graph.proofs.Membership.{has_here, has_there, has_cons}
 use Rattle.mono_graph.proofs.NodeLists.{filter_same}
 use Rattle.mono_graph.proofs.Places.{all_below, all_of}
 use Rattle.mono_problem.specs.declared.atom.Predicate.TheVariants as kind
-use Rattle.mono_problem.specs.Holds.{Holds}
-use Rattle.mono_problem.specs.WellFormed.{IsOver}
 use Rattle.mono_steps.specs.declared.lemma.Witness.TheVariants as by
 use Rattle.mono_steps.specs.Witnesses.{placed_amounts, place_or_end}
-use Rattle.mono_steps.proofs.Witnessed.{positive_holds, negative_excludes}
 use Rattle.mono_theory.specs.Evidences.{only, IsEvidence}
 use Rattle.mono_theory.specs.Resting.{AreAlike, absent_out}
 use Rattle.mono_theory.proofs.EvidenceLaws.{in_only}
@@ -150,14 +147,6 @@ own_flow g P s t least amounts h =
     (and_from (is_distinct (map (λ (x : Amount). x.edge) amounts)) (is_flow g (only g ks) s t f) a.distinct (and_from (is_within g (only g ks) f) (is_conserved g s t f) within a.conserved)) a.enough
 
 -- ---- evidence
-
-pub flow_holds : (g : Digraph) (P : List Bool) (s t : ℕ) (least : ℤ) (amounts : List Amount) → IsTrue (is_flow_of g P s t least amounts) → Holds g P (kind.Flow s t least)
-flow_holds g P s t least amounts h =
-    let a : IsFlowOf g P s t least amounts = flow_parts amounts h in
-    (amount_at amounts, and_from (is_flow g P s t (amount_at amounts)) (int_le least (value_of g s (amount_at amounts))) (and_from (is_within g P (amount_at amounts)) (is_conserved g s t (amount_at amounts)) a.within a.conserved) a.enough)
-
-pub cut_fails : (g : Digraph) (P : List Bool) (s t : ℕ) (least : ℤ) (set : List ℕ) → IsGraph g → IsOver g (kind.Flow s t least) → length P ≡ length g.edges → IsTrue (is_flow_cut g P s t least set) → ¬ Holds g P (kind.Flow s t least)
-cut_fails g P s t least set ok over len h = negative_excludes g P (kind.Flow s t least) (by.FlowCut set) ok over len refl h
 
 pub flow_shows : (g : Digraph) (P : List Bool) (s t : ℕ) (least : ℤ) (amounts : List Amount) → IsGraph g → All (λ a. a.edge < length g.edges) amounts → All (λ a. a.amount ≤ MAX_WITNESS_VALUE) amounts → IsTrue (is_flow_of g P s t least amounts)
     → IsEvidence g P (kind.Flow s t least) (flow_evidence g amounts)

@@ -6,7 +6,7 @@
 ghost use Rattle.std.specs.Prelude.{◌≡◌, ◌<◌, All, IfOk, length};
 ghost use Rattle.mono_graph.specs.Digraph.{IsPartOf};
 ghost use Rattle.mono_problem.specs.WellFormed.{IsOver};
-ghost use Rattle.mono_theory.specs.Evidences.{Decides, IsEvidence};
+ghost use Rattle.mono_theory.specs.Evidences.{IsEvidence};
 ghost use Rattle.mono_flow.specs.Flowing.{numbered as numbered_by, carrying as carrying_of, flow_evidence as flow_evidence_of, cut_evidence as cut_evidence_of};
 
 use mono_base::Row;
@@ -98,30 +98,7 @@ fn cut_evidence(
     })
 }
 
-/// Whether a flow of at least so much leads from the source to the sink.
-fn decide(
-    alloc: Global,
-    finder: &mut FlowFinder,
-    graph: &Graph,
-    part: &Part,
-    source: u32,
-    sink: u32,
-    least: i64,
-) -> Result<bool, AllocError>
-    requires size { finder.old ≡ graph.now.nodes }
-    requires part { IsPartOf part.now graph.now }
-    requires over { IsOver graph.now (Predicate.Flow source sink least) }
-    ensures size { finder.new ≡ finder.old }
-    ensures holds { IfOk result (Decides graph.now part.now (Predicate.Flow source sink least)) }
-{
-    let _ = graph.nodes();
-    match finder.find_flow(alloc, graph, part, source, sink, least)? {
-        FlowOrCut::Flow(_) => Ok(true),
-        FlowOrCut::Cut(_) => Ok(false),
-    }
-}
-
-/// What shows that one does, or that none does.
+/// What shows that a flow of at least so much leads from the source to the sink, or that none does.
 fn show(
     alloc: Global,
     finder: &mut FlowFinder,
@@ -158,23 +135,6 @@ impl Kind for Flow {
         let finder = FlowFinder::new(alloc, count)?;
         let marks = NodeMarks::new(alloc, count)?;
         Ok(Flow { finder, marks })
-    }
-
-    fn holds(
-        &mut self,
-        alloc: Global,
-        graph: &Graph,
-        part: &Part,
-        predicate: Predicate,
-    ) -> Result<bool, AllocError> {
-        match predicate {
-            Predicate::Flow {
-                source,
-                sink,
-                least,
-            } => decide(alloc, &mut self.finder, graph, part, source, sink, least),
-            _ => unreachable!(),
-        }
     }
 
     fn evidence(

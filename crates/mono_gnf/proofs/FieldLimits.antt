@@ -9,16 +9,17 @@ use Rattle.mono_text.specs.declared.field.FieldRefusal.TheVariants as field
 use Rattle.mono_text.specs.declared.field.FieldRefusal.{FieldRefusal}
 use Rattle.mono_text.specs.Numbers.{natural, within}
 use Rattle.mono_text.specs.Fields.{onto, fields_from, fields_of}
-use Rattle.mono_problem.specs.declared.atom.Predicate.{Predicate}
 use Rattle.mono_problem.specs.declared.atom.Predicate.TheVariants as kind
 use Rattle.mono_problem.specs.WellFormed.{IsMost, IsLeast}
 use Rattle.mono_gnf.specs.declared.fault.GnfFault.{GnfFault}
 use Rattle.mono_gnf.specs.declared.fault.GnfFault.TheVariants as fault
+use Rattle.mono_gnf.specs.declared.statement.Measure.{Measure}
+use Rattle.mono_gnf.specs.declared.statement.Measure.TheVariants as measure
 use Rattle.mono_gnf.specs.declared.statement.Statement.{Statement}
 use Rattle.mono_gnf.specs.declared.statement.Statement.TheVariants as says
 use Rattle.mono_gnf.specs.declared.statement.Word.{Word}
 use Rattle.mono_gnf.specs.declared.statement.Word.TheVariants as word
-use Rattle.mono_gnf.specs.Statements.{MAX_WIDE, field as field_at, word_of, with_fields, names_other_form, has_int, edge_of, bounded_of, form_of, statement_of, at_most, at_least}
+use Rattle.mono_gnf.specs.Statements.{MAX_WIDE, field as field_at, word_of, with_fields, names_other_form, has_int, edge_of, bounded_by, form_of, statement_of, at_most, at_least}
 use Rattle.mono_gnf.specs.Within.{IsWithin, IsBounded}
 use Rattle.mono_base.specs.declared.limits.TheConstants.{MAX_VARS, MAX_NODES, MAX_WEIGHT, MAX_BOUND}
 
@@ -81,8 +82,10 @@ or_fault : (b : Bool) (e : GnfFault) (r : Result Statement GnfFault) (s : Statem
 or_fault true e r s h = absurd cc
 or_fault false e r s h = h
 
-bounded : (ts : List (List ℕ)) (say : List ℕ → Predicate) (s : Statement) → ((fs : List ℕ) → get_or fs 4 0 ≤ MAX_BOUND → IsBounded (say fs)) → bounded_of ts say ≡ Ok s → IsWithin s
-bounded ts say s bound h = said (MAX_WIDE ∷ MAX_WIDE ∷ MAX_WIDE ∷ MAX_VARS ∷ MAX_BOUND ∷ []) ts (λ fs. says.Atom (field_at fs 0) (field_at fs 3) (say fs)) s h (λ fs low. (low 3, bound fs (low 4)))
+bounded_within : (m : Measure) (strict : Bool) (u v k : ℕ) → k ≤ MAX_BOUND → IsBounded (bounded_by m strict u v k)
+bounded_within measure.Steps strict u v k low = most_within strict k low
+bounded_within measure.Distance strict u v k low = most_within strict k low
+bounded_within measure.Flow strict u v f low = least_within strict f low
 
 edge_within : (ts : List (List ℕ)) (s : Statement) → edge_of ts ≡ Ok s → IsWithin s
 edge_within ts s h = go (length ts == 5) h where
@@ -107,9 +110,7 @@ form_within word.Header ts s h = said (MAX_VARS ∷ MAX_WIDE ∷ []) (drop 1 ts)
 form_within word.Digraph ts s h = said (MAX_NODES ∷ MAX_WIDE ∷ MAX_WIDE ∷ []) (cond (length ts == 4) (drop 1 ts) ts) (λ fs. says.Graph (field_at fs 2) (field_at fs 0)) s (or_fault (length ts == 4 && not (has_int ts)) fault.WeightWord _ s h) (λ fs low. (low 2, low 0))
 form_within word.Edge ts s h = edge_within ts s h
 form_within word.Reach ts s h = said (MAX_WIDE ∷ MAX_WIDE ∷ MAX_WIDE ∷ MAX_VARS ∷ []) ts (λ fs. says.Atom (field_at fs 0) (field_at fs 3) (kind.Reach (field_at fs 1) (field_at fs 2))) s h (λ fs low. (low 3, tt))
-form_within (word.Steps strict) ts s h = bounded ts (λ fs. kind.Steps (field_at fs 1) (field_at fs 2) (at_most strict (field_at fs 4))) s (λ fs low. most_within strict (get_or fs 4 0) low) h
-form_within (word.Distance strict) ts s h = bounded ts (λ fs. kind.Distance (field_at fs 1) (field_at fs 2) (at_most strict (field_at fs 4))) s (λ fs low. most_within strict (get_or fs 4 0) low) h
-form_within (word.Flow strict) ts s h = bounded ts (λ fs. kind.Flow (field_at fs 1) (field_at fs 2) (at_least strict (field_at fs 4))) s (λ fs low. least_within strict (get_or fs 4 0) low) h
+form_within (word.Bounded m strict) ts s h = said (MAX_WIDE ∷ MAX_WIDE ∷ MAX_WIDE ∷ MAX_VARS ∷ MAX_BOUND ∷ []) ts (λ fs. says.Atom (field_at fs 0) (field_at fs 3) (bounded_by m strict (field_at fs 1) (field_at fs 2) (field_at fs 4))) s h (λ fs low. (low 3, bounded_within m strict (field_at fs 1) (field_at fs 2) (get_or fs 4 0) (low 4)))
 form_within (word.Tree strict) ts s h = said (MAX_WIDE ∷ MAX_VARS ∷ MAX_BOUND ∷ []) ts (λ fs. says.Atom (field_at fs 0) (field_at fs 1) (kind.Tree (at_most strict (field_at fs 2)))) s h (λ fs low. (low 1, most_within strict (get_or fs 2 0) (low 2)))
 
 pub statement_within : (line : List (List ℕ)) (s : Statement) → statement_of line ≡ Ok s → IsWithin s

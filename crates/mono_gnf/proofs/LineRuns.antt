@@ -21,7 +21,7 @@ Leads-on Q n s m (x ∷ xs) ys h k =
     (rest.0, (h.0, h.1, rest.1), rest.2)
 
 -- the lines as lists of tokens
-abbrev read_all : ℕ → Seen → List (List (List ℕ)) → Result Instance (ℕ × GnfFault)
+abbrev pub read_all : ℕ → Seen → List (List (List ℕ)) → Result Instance (ℕ × GnfFault)
 read_all n s [] = read_lines s []
 read_all n s (l ∷ ls) = at_line n (read_tokens n s l) (λ next. read_all (n + 1) next ls)
 
@@ -29,7 +29,7 @@ at_line-same : (n : ℕ) (r : Result Seen GnfFault) (f g : Seen → Result Insta
 at_line-same n (Ok s) f g h = h s
 at_line-same n (Err e) f g h = refl
 
-read_lines-all : (n : ℕ) (s : Seen) (lines : List (List ℕ)) → read_lines s (numbered_from n lines) ≡ read_all n s (map tokens_of lines)
+pub read_lines-all : (n : ℕ) (s : Seen) (lines : List (List ℕ)) → read_lines s (numbered_from n lines) ≡ read_all n s (map tokens_of lines)
 read_lines-all n s [] = refl
 read_lines-all n s (l ∷ ls) = at_line-same n (read_tokens n s (tokens_of l)) _ _ (λ next. read_lines-all (n + 1) next ls)
 

@@ -1,11 +1,11 @@
 -- Reading line after line finds the first fault of the lines, or makes their problem.
-use Rattle.std.proofs.Common.{◌≡◌, ℕ, ◌+◌, Bool, true, false, cond, ℤ, List, [], ◌∷◌, ◌++◌, length, map, fold, filter_map, Option, Some, None, Result, Ok, Err, refl, sym, ap, ◌∙◌, append_assoc, append-nil, arith, length-append}
+use Rattle.std.proofs.Common.{◌≡◌, ℕ, ◌+◌, Bool, true, false, cond, ℤ, List, [], ◌∷◌, ◌++◌, length, fold, filter_map, Option, Some, None, Result, Ok, Err, refl, sym, ap, ◌∙◌, append_assoc, append-nil, arith, length-append}
 use Rattle.std.specs.List.{enumerate_from, list_any, cons_option}
 use Rattle.std.specs.Option.{option_map, option_or}
 use Rattle.std.proofs.lemmas.List.Concat.{flat_map-append}
 use Rattle.std.proofs.lemmas.List.Elements.{filter_map-append}
 use Rattle.std.proofs.lemmas.List.Sums.{fold_push}
-use Rattle.mono_text.specs.Text.{lines_of, tokens_of, token_lines, numbered_from}
+use Rattle.mono_text.specs.Text.{lines_of, token_lines}
 use Rattle.mono_text.specs.Numbers.{signed}
 use Rattle.mono_problem.specs.Instance.{Instance}
 use Rattle.mono_gnf.specs.declared.fault.GnfFault.{GnfFault}
@@ -17,10 +17,11 @@ use Rattle.mono_gnf.specs.Lines.{is_number_token, line_numbers, numbers_of, is_l
 use Rattle.mono_gnf.specs.Declarations.{EdgeLine, AtomLine, header_in, graph_in, edge_in, atom_in, headers, graphs, edges, atoms}
 use Rattle.mono_gnf.specs.Faults.{number_fault, statement_fault, or_unread, word_fault, line_fault, fault_after, first_fault}
 use Rattle.mono_gnf.specs.Stands.{Stands, instance_of}
-use Rattle.mono_gnf.specs.Reading.{Seen, nothing_seen, put, is_comment, read_tokens, read_numbers, at_line, read_lines, reading, outcome, ◌>>=◌}
+use Rattle.mono_gnf.specs.Reading.{Seen, nothing_seen, put, is_comment, read_tokens, read_numbers, at_line, reading, outcome, ◌>>=◌}
 use Rattle.mono_gnf.proofs.Problems.{enumerate_from-push}
 use Rattle.mono_gnf.proofs.Agreement.{SameOutcome, SameOutcome-along, SameOutcome-weaker, one_check}
 use Rattle.mono_gnf.proofs.Statements.{seen, IsSound, nothing_sound, header-said, graph-said, edge-said, atom-said}
+use Rattle.mono_gnf.proofs.LineRuns.{read_all, read_lines-all}
 use Rattle.mono_gnf.proofs.Numbers.{numbers-read}
 
 -- ---- what is seen of statements and numbers
@@ -158,19 +159,6 @@ reads_line before [] sound = skipped before [] sound refl refl
 reads_line before (t ∷ ts) sound = reads_tokens before t ts sound
 
 -- ---- all lines
-
--- the lines as lists of tokens
-abbrev read_all : ℕ → Seen → List (List (List ℕ)) → Result Instance (ℕ × GnfFault)
-read_all n s [] = read_lines s []
-read_all n s (l ∷ ls) = at_line n (read_tokens n s l) (λ next. read_all (n + 1) next ls)
-
-at_line-same : (n : ℕ) (r : Result Seen GnfFault) (f g : Seen → Result Instance (ℕ × GnfFault)) → ((s : Seen) → f s ≡ g s) → at_line n r f ≡ at_line n r g
-at_line-same n (Ok s) f g h = h s
-at_line-same n (Err e) f g h = refl
-
-read_lines-all : (n : ℕ) (s : Seen) (lines : List (List ℕ)) → read_lines s (numbered_from n lines) ≡ read_all n s (map tokens_of lines)
-read_lines-all n s [] = refl
-read_lines-all n s (l ∷ ls) = at_line-same n (read_tokens n s (tokens_of l)) _ _ (λ next. read_lines-all (n + 1) next ls)
 
 and_later : (Q : Seen → Type 0) (n : ℕ) (o : Option GnfFault) (r : Result Seen GnfFault) (later : Option (ℕ × GnfFault)) (more : Seen → Result Instance (ℕ × GnfFault)) (p : Instance)
     → SameOutcome Q o r → ((s : Seen) → Q s → more s ≡ outcome later p) → at_line n r more ≡ outcome (option_or (option_map (λ f. (n, f)) o) later) p

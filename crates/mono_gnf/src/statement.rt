@@ -3,8 +3,8 @@
 //! The first token is the word. Each word has a form: a row of fields, each with its limit.
 
 ghost use Rattle.std.specs.Prelude.{◌≡◌, ◌<◌, ◌≤◌, ◌∷◌, bytes_eq, slice_index, ℕ, IfOk};
-ghost use Rattle.mono_gnf.specs.Statements.{word_of, header_of, graph_of, edge_of, edge_from, reach_of, steps_of, distance_of, flow_of, tree_of, form_of, statement_of, at_most, at_least};
-ghost use Rattle.mono_gnf.specs.Within.{IsWithin};
+ghost use Rattle.mono_gnf.specs.Statements.{word_of, header_of, graph_of, edge_of, edge_from, reach_of, bounded_by, bounded_of, tree_of, form_of, statement_of, at_most, at_least};
+ghost use Rattle.mono_gnf.specs.Within.{IsBounded, IsWithin};
 ghost use Rattle.mono_problem.specs.WellFormed.{IsMost, IsLeast};
 
 use crate::GnfFault;
@@ -32,6 +32,14 @@ const BOUNDED: [u64; 5] = [WIDE, WIDE, WIDE, VARS, MAX_BOUND];
 
 const TREE: [u64; 3] = [WIDE, VARS, MAX_BOUND];
 
+/// What the bound of a predicate between two nodes is on: the steps of a walk, its weight, or the value of a flow.
+#[derive(Clone, Copy)]
+pub(crate) enum Measure {
+    Steps,
+    Distance,
+    Flow,
+}
+
 /// The words of word lines. The flag of a bound says that the bound itself is excluded.
 #[derive(Clone, Copy)]
 pub(crate) enum Word {
@@ -39,9 +47,7 @@ pub(crate) enum Word {
     Digraph,
     Edge,
     Reach,
-    Steps(bool),
-    Distance(bool),
-    Flow(bool),
+    Bounded(Measure, bool),
     Tree(bool),
 }
 
@@ -87,17 +93,17 @@ fn word_named(token: &[u8]) -> Option<Word>
     } else if is(token, b"reach") {
         Some(Word::Reach)
     } else if is(token, b"distance_leq") {
-        Some(Word::Steps(false))
+        Some(Word::Bounded(Measure::Steps, false))
     } else if is(token, b"distance_lt") {
-        Some(Word::Steps(true))
+        Some(Word::Bounded(Measure::Steps, true))
     } else if is(token, b"weighted_distance_leq") {
-        Some(Word::Distance(false))
+        Some(Word::Bounded(Measure::Distance, false))
     } else if is(token, b"weighted_distance_lt") {
-        Some(Word::Distance(true))
+        Some(Word::Bounded(Measure::Distance, true))
     } else if is(token, b"maximum_flow_geq") {
-        Some(Word::Flow(false))
+        Some(Word::Bounded(Measure::Flow, false))
     } else if is(token, b"maximum_flow_gt") {
-        Some(Word::Flow(true))
+        Some(Word::Bounded(Measure::Flow, true))
     } else if is(token, b"mst_weight_leq") {
         Some(Word::Tree(false))
     } else if is(token, b"mst_weight_lt") {
@@ -244,51 +250,42 @@ fn least(strict: bool, bound: u64) -> i64
     }
 }
 
-fn steps(tokens: Tokens<'_>, strict: bool) -> Result<Statement, GnfFault>
-    ensures value { result ≡ steps_of strict tokens.entry }
-    ensures within { IfOk result IsWithin }
-{
-    let f = fields(tokens, &BOUNDED)?;
-    Ok(Statement::Atom {
-        graph: f[0] as u32,
-        var: f[3] as u32,
-        predicate: Predicate::Steps {
-            from: f[1] as u32,
-            to: f[2] as u32,
-            most: most(strict, f[4]),
-        },
-    })
+impl Measure {
+    /// The predicate between two nodes whose bound is on this.
+    fn predicate(self, strict: bool, from: u32, to: u32, bound: u64) -> Predicate
+        requires { bound ≤ MAX_BOUND }
+        ensures value { result ≡ bounded_by self strict from to bound }
+        ensures within { IsBounded result }
+    {
+        match self {
+            Measure::Steps => Predicate::Steps {
+                from,
+                to,
+                most: most(strict, bound),
+            },
+            Measure::Distance => Predicate::Distance {
+                from,
+                to,
+                most: most(strict, bound),
+            },
+            Measure::Flow => Predicate::Flow {
+                source: from,
+                sink: to,
+                least: least(strict, bound),
+            },
+        }
+    }
 }
 
-fn distance(tokens: Tokens<'_>, strict: bool) -> Result<Statement, GnfFault>
-    ensures value { result ≡ distance_of strict tokens.entry }
+fn bounded(tokens: Tokens<'_>, measure: Measure, strict: bool) -> Result<Statement, GnfFault>
+    ensures value { result ≡ bounded_of measure strict tokens.entry }
     ensures within { IfOk result IsWithin }
 {
     let f = fields(tokens, &BOUNDED)?;
     Ok(Statement::Atom {
         graph: f[0] as u32,
         var: f[3] as u32,
-        predicate: Predicate::Distance {
-            from: f[1] as u32,
-            to: f[2] as u32,
-            most: most(strict, f[4]),
-        },
-    })
-}
-
-fn flow(tokens: Tokens<'_>, strict: bool) -> Result<Statement, GnfFault>
-    ensures value { result ≡ flow_of strict tokens.entry }
-    ensures within { IfOk result IsWithin }
-{
-    let f = fields(tokens, &BOUNDED)?;
-    Ok(Statement::Atom {
-        graph: f[0] as u32,
-        var: f[3] as u32,
-        predicate: Predicate::Flow {
-            source: f[1] as u32,
-            sink: f[2] as u32,
-            least: least(strict, f[4]),
-        },
+        predicate: measure.predicate(strict, f[1] as u32, f[2] as u32, f[4]),
     })
 }
 
@@ -318,9 +315,7 @@ pub(crate) fn statement_in(word: &[u8], tokens: Tokens<'_>) -> Result<Statement,
         Some(Word::Digraph) => digraph(tokens),
         Some(Word::Edge) => edge(tokens),
         Some(Word::Reach) => reach(tokens),
-        Some(Word::Steps(strict)) => steps(tokens, strict),
-        Some(Word::Distance(strict)) => distance(tokens, strict),
-        Some(Word::Flow(strict)) => flow(tokens, strict),
+        Some(Word::Bounded(measure, strict)) => bounded(tokens, measure, strict),
         Some(Word::Tree(strict)) => tree(tokens, strict),
     }
 }

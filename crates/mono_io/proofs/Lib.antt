@@ -1,5 +1,5 @@
 mod Fronts
-mod Growing
+pub mod Growing
 pub mod KnownBytes
 mod Plans
 mod TextLemmas

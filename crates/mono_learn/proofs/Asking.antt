@@ -1,5 +1,5 @@
 -- Lemmas that join a journal, and reasons that are settled by them.
-use Rattle.std.proofs.Common.{◌≡◌, ◌≢◌, ℕ, zero, suc, ◌+◌, ◌-◌, ◌<◌, ◌≤◌, Bool, true, false, ◌&&◌, List, [], ◌∷◌, ◌++◌, length, map, take, Option, Some, None, refl, sym, ap, subst, ◌∙◌, ◌⊎◌, inl, inr, ℤ, arith, length-append, append_assoc}
+use Rattle.std.proofs.Common.{◌≡◌, ℕ, zero, suc, ◌+◌, ◌-◌, ◌<◌, ◌≤◌, ◌&&◌, List, [], ◌∷◌, ◌++◌, length, map, take, Option, Some, refl, sym, ap, subst, ◌∙◌, ◌⊎◌, inl, inr, ℤ, arith, length-append, append_assoc}
 use Rattle.std.specs.Prelude.{IsTrue, nat_le, slice_get}
 use Rattle.std.specs.List.{cons_option}
 use Rattle.std.proofs.lemmas.Bool.{and_parts, and_from, le-leb, leb-true, cases_lt}
@@ -13,8 +13,7 @@ use Rattle.mono_steps.specs.Chains.{chain_end}
 use Rattle.mono_steps.specs.ChainSteps.{clauses_named, names_clauses}
 use Rattle.mono_steps.specs.Steps.{clause_of, clauses_after, are_justified}
 use Rattle.mono_steps.proofs.StepLists.{append_nil, numbered_more, length_clauses}
-use Rattle.mono_trail.specs.declared.reason.Reason.{Reason}
-use Rattle.mono_trail.specs.declared.reason.Reason.TheVariants.{Decided, Clause, Late}
+use Rattle.mono_trail.specs.declared.reason.Reason.TheVariants.{Clause, Late}
 use Rattle.mono_trail.specs.Places.{reason_at, place_in}
 use Rattle.mono_trail.specs.Moves.{settled, settled_where, settled_at, HasLate}
 use Rattle.mono_trail.specs.TrailView.{TrailView, IsSound}

@@ -1,17 +1,15 @@
 -- Where a resolvent is, and how a chain grows.
-use Rattle.std.proofs.Common.{◌≡◌, ◌≢◌, ℕ, zero, suc, Bool, true, false, not, ◌&&◌, ◌||◌, ◌==◌, cond, List, [], ◌∷◌, ◌++◌, filter, filter_map, Option, Some, None, refl, sym, ap, subst, ◌∙◌, ◌⊎◌, inl, inr, ℤ, pos, negsuc, neg_ℤ, arith, eqb, eq-eqb, ◌<◌, ◌≤◌}
-use Rattle.std.specs.Prelude.{IsTrue, if◌then◌else◌, option_map, option_and_then}
+use Rattle.std.proofs.Common.{◌≡◌, ℕ, zero, suc, Bool, true, false, ◌&&◌, ◌==◌, cond, List, [], ◌∷◌, ◌++◌, filter, Option, Some, None, refl, sym, ap, subst, ◌∙◌, ◌⊎◌, inl, inr, ℤ, pos, negsuc, neg_ℤ, arith, eq-eqb, ◌≤◌}
+use Rattle.std.specs.Prelude.{IsTrue, option_map, option_and_then}
 use Rattle.std.specs.Ordering.{int_eq}
-use Rattle.std.specs.List.{list_all, list_any, cons_option}
+use Rattle.std.specs.List.{list_all, cons_option}
 use Rattle.std.proofs.lemmas.Bool.{and_parts, and_from, or_cases, or_left, or_right, cases_Bool}
 use Rattle.std.proofs.lemmas.List.Elements.{filter_map-append}
-use Rattle.mono_base.specs.Literal.{var_of, has_lit, within, without}
+use Rattle.mono_base.specs.Literal.{var_of, has_lit, without}
 use Rattle.mono_steps.specs.Chains.{clashing, only_var, joined_at, resolvent, end_from, chain_end}
 use Rattle.mono_problem.specs.Instance.{numbered}
 use Rattle.mono_steps.specs.ChainSteps.{clauses_named}
-use Rattle.mono_learn.proofs.LitSets.{true_false}
 use Rattle.mono_base.proofs.Truth.{same_lit, lit_itself}
-use Rattle.mono_base.proofs.Partials.{neg-neg}
 
 -- x is in the second clause, its negation in the first, and nothing else clashes
 pub record ClashesAt (c d : List ℤ) (x : ℤ) : Type 0 where

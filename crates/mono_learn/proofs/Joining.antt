@@ -1,17 +1,17 @@
 -- What one literal does to the marks.
-use Rattle.std.proofs.Common.{◌≡◌, ◌≢◌, ℕ, zero, suc, ◌+◌, ◌-◌, ◌^◌, ◌<◌, ◌≤◌, Bool, true, false, not, cond, take, filter, List, [], ◌∷◌, ◌++◌, length, get_or, set, refl, sym, ap, subst, ◌∙◌, ℤ, pos, neg_ℤ, arith, append_assoc}
-use Rattle.std.specs.Prelude.{IsTrue, Option, Some, None}
+use Rattle.std.proofs.Common.{◌≡◌, ℕ, ◌+◌, ◌^◌, ◌<◌, ◌≤◌, Bool, true, false, not, cond, take, List, [], ◌∷◌, ◌++◌, length, get_or, set, refl, sym, ap, subst, ◌∙◌, ℤ, arith, append_assoc}
+use Rattle.std.specs.Prelude.{IsTrue}
 use Rattle.std.specs.Ordering.{int_eq}
-use Rattle.std.proofs.lemmas.Bool.{or_left, or_right, or_cases}
+use Rattle.std.proofs.lemmas.Bool.{or_left}
 use Rattle.std.proofs.lemmas.List.{length-set, take_more, take_all}
 use Rattle.std.proofs.lemmas.List.Elements.{filter-append}
-use Rattle.mono_base.specs.Literal.{var_of, has_lit, without, lit_at}
+use Rattle.mono_base.specs.Literal.{var_of, has_lit, without}
 use Rattle.mono_base.specs.Partial.{is_partial}
 use Rattle.mono_learn.proofs.LitSets.{lits_differ, has-append_left, has-append_right}
 use Rattle.mono_base.proofs.Truth.{lit_itself}
 use Rattle.mono_learn.specs.declared.resolvent.Resolvent.{Resolvent}
 use Rattle.mono_trail.specs.Seen.{is_marked}
-use Rattle.mono_learn.specs.Resolvents.{marked_from, FalseBy, IsFalseAt, MarkedBy, IsResolvent}
+use Rattle.mono_learn.specs.Resolvents.{marked_from, FalseBy, IsFalseAt}
 use Rattle.mono_learn.specs.Joins.{Joins, StandsFor}
 use Rattle.mono_learn.proofs.Marking.{marks_low, marks_high, marks_again, mark_below, mark_more, marked_le}
 use Rattle.mono_learn.proofs.PlacesOfLits.{one_place}

@@ -1,12 +1,11 @@
 -- Reasons under the moves of a trail, and learned clauses below their level.
-use Rattle.std.proofs.Common.{◌≡◌, ◌≢◌, ℕ, zero, suc, ◌+◌, ◌-◌, ◌<◌, ◌≤◌, Bool, true, false, not, cond, List, [], ◌∷◌, ◌++◌, length, take, get_or, refl, sym, ap, subst, ◌∙◌, ◌⊎◌, inl, inr, ℤ, pos, neg_ℤ, arith, length-append}
+use Rattle.std.proofs.Common.{◌≡◌, ℕ, zero, suc, ◌+◌, ◌<◌, ◌≤◌, Bool, true, false, not, cond, List, [], ◌∷◌, ◌++◌, length, take, refl, sym, ap, subst, ◌∙◌, ◌⊎◌, inl, inr, ℤ, pos, neg_ℤ, arith, length-append}
 use Rattle.std.specs.Prelude.{IsTrue, nat_le}
 use Rattle.std.proofs.lemmas.Bool.{leb-false, and_from, cases_lt}
 use Rattle.std.proofs.lemmas.List.{get_or_append_left, get_or_push, get_or-take, length-take, take-append-le, take-take}
 use Rattle.std.proofs.Math.Seq.{take-append_seam}
 use Rattle.mono_base.specs.Literal.{var_of, has_lit, without, within, lit_at}
 use Rattle.mono_base.specs.Partial.{is_false_in, others_false}
-use Rattle.mono_base.proofs.Partials.{var-neg}
 use Rattle.mono_base.proofs.Truth.{from_each}
 use Rattle.mono_problem.specs.Instance.{Instance}
 use Rattle.mono_trail.specs.declared.reason.Mark.{Mark}
@@ -16,9 +15,9 @@ use Rattle.mono_trail.specs.Places.{reason_at, level_at, no_mark}
 use Rattle.mono_trail.specs.Moves.{joined, lowered}
 use Rattle.mono_trail.specs.TrailView.{TrailView, IsSound, Climbs, next_level, count_to, StandsAt}
 use Rattle.mono_learn.specs.Explain.{AtomForces}
-use Rattle.mono_learn.specs.Reasons.{WasUnit, WasForced, ReasonHolds, HasReasons}
+use Rattle.mono_learn.specs.Reasons.{ReasonHolds, HasReasons}
 use Rattle.mono_learn.specs.Learned.{IsLearnt}
-use Rattle.mono_learn.specs.Laws.{Implies, ForcesLate, MayJoin, StillShown, IsUnitIn}
+use Rattle.mono_learn.specs.Laws.{MayJoin, StillShown, IsUnitIn}
 use Rattle.mono_trail.proofs.Levels.{next_at_least}
 use Rattle.mono_learn.proofs.LitSets.{without_has}
 use Rattle.mono_learn.proofs.PlacesOfLits.{has_stands, stands_has, one_place, no_opposites}

@@ -1,7 +1,6 @@
 -- How a chain begins, and how it ends.
-use Rattle.std.proofs.Common.{◌≡◌, ◌≢◌, ℕ, zero, suc, ◌+◌, ◌-◌, ◌<◌, ◌≤◌, ◌==◌, Bool, true, false, List, [], ◌∷◌, ◌++◌, length, map, get_or, set, refl, sym, ap, subst, ◌∙◌, ◌⊎◌, inl, inr, ℤ, pos, neg_ℤ, arith, eqb-true, Result, Ok, Err}
-use Rattle.std.specs.Prelude.{IsTrue, Option, Some, None, nat_le, ◌&&◌, Contains, slice_get}
-use Rattle.std.specs.List.{list_all}
+use Rattle.std.proofs.Common.{◌≡◌, ℕ, zero, suc, ◌+◌, ◌-◌, ◌<◌, ◌≤◌, ◌==◌, Bool, true, false, List, [], ◌∷◌, ◌++◌, length, map, refl, sym, ap, subst, ◌∙◌, ◌⊎◌, inl, inr, ℤ, neg_ℤ, arith, eqb-true, Result, Ok, Err}
+use Rattle.std.specs.Prelude.{IsTrue, Some, nat_le, ◌&&◌, Contains, slice_get}
 use Rattle.std.specs.Result.{OnErr, IfOk}
 use Rattle.std.specs.Ordering.{int_eq}
 use Rattle.std.proofs.lemmas.Bool.{and_from, le-leb, or_left, cases_lt}
@@ -29,7 +28,7 @@ use Rattle.mono_learn.specs.Settled.{Settles, IsAskedFor, AreAskedFor}
 use Rattle.mono_learn.proofs.Asking.{clauses_more, was_unit, asked_by, get_left, get_right}
 use Rattle.mono_learn.proofs.Settling.{settles_more, reasons_more}
 use Rattle.mono_learn.proofs.Shrinking.{end_justified, learnt_false}
-use Rattle.mono_learn.specs.Resolvents.{marked_from, FalseBy, AllFalse, MarkedBy, IsMarked, IsResolvent}
+use Rattle.mono_learn.specs.Resolvents.{marked_from, AllFalse}
 use Rattle.mono_learn.specs.Joins.{Joins, StandsFor}
 use Rattle.mono_learn.specs.Walks.{IsFresh, HasCome}
 use Rattle.mono_learn.proofs.LitSets.{without_has, has-without}

@@ -1,15 +1,15 @@
 -- Levels by place.
-use Rattle.std.proofs.Common.{◌≡◌, ℕ, zero, suc, ◌+◌, ◌-◌, ◌<◌, ◌≤◌, Bool, true, false, cond, List, [], ◌∷◌, length, refl, sym, ap, subst, ◌∙◌, ◌⊎◌, inl, inr, arith, ℤ}
-use Rattle.std.specs.Prelude.{nat_le, Option, Some, unwrap_or, option_map, fold, max, neg_ℤ, IsTrue}
+use Rattle.std.proofs.Common.{◌≡◌, ℕ, zero, suc, ◌+◌, ◌-◌, ◌<◌, ◌≤◌, Bool, true, false, cond, List, [], ◌∷◌, length, refl, sym, ap, ◌∙◌, ◌⊎◌, inl, inr, arith, ℤ}
+use Rattle.std.specs.Prelude.{nat_le, Option, unwrap_or, option_map, fold, max, neg_ℤ, IsTrue}
 use Rattle.std.specs.Ordering.{int_eq}
 use Rattle.std.proofs.lemmas.Bool.{leb-true, leb-false, or_cases, or_left, or_right, cases_lt}
 use Rattle.mono_trail.specs.declared.reason.Mark.{Mark}
 use Rattle.mono_trail.specs.declared.reason.Reason.{Reason}
 use Rattle.mono_trail.specs.declared.reason.Reason.TheVariants.{Decided, Clause, Late}
-use Rattle.mono_trail.specs.Places.{reason_at, level_at, place_in}
+use Rattle.mono_trail.specs.Places.{reason_at, level_at}
 use Rattle.mono_trail.specs.TrailView.{count_to, TrailView, IsSound, Climbs, next_level, StandsAt}
 use Rattle.mono_trail.proofs.Levels.{next_at_least, climbs_to}
-use Rattle.mono_base.specs.Literal.{var_of, lit_at, has_lit}
+use Rattle.mono_base.specs.Literal.{has_lit}
 use Rattle.mono_base.proofs.Truth.{same_lit, lit_itself}
 use Rattle.mono_learn.specs.Levels.{level_by, highest_of}
 use Rattle.mono_learn.specs.Resolvents.{FalseBy}

@@ -10,3 +10,4 @@ pub mod Asking
 pub mod Shrinking
 pub mod Learning
 pub mod KeptReasons
+pub mod WorkedRows

@@ -1,9 +1,8 @@
 -- Lists of literals as sets.
-use Rattle.std.proofs.Common.{◌≡◌, ◌≢◌, ℕ, zero, suc, Bool, true, false, not, ◌&&◌, ◌||◌, cond, List, [], ◌∷◌, ◌++◌, filter, get_or, length, ◌<◌, refl, sym, ap, subst, ◌∙◌, ◌⊎◌, inl, inr, ℤ, pos, negsuc, neg_ℤ, arith}
+use Rattle.std.proofs.Common.{◌≡◌, ℕ, zero, suc, Bool, true, false, List, [], ◌∷◌, ◌++◌, get_or, length, ◌<◌, refl, sym, subst, ◌∙◌, ◌⊎◌, inl, inr, ℤ, arith}
 use Rattle.std.specs.Prelude.{IsTrue}
 use Rattle.std.specs.Ordering.{int_eq}
-use Rattle.std.specs.List.{list_all, list_any}
-use Rattle.std.proofs.lemmas.Bool.{and_parts, and_from, or_cases, or_left, or_right, cases_Bool}
+use Rattle.std.proofs.lemmas.Bool.{or_cases, or_left, or_right, cases_Bool}
 use Rattle.std.proofs.lemmas.Bool.Decides.{Decides-int_eq}
 use Rattle.std.proofs.lemmas.List.Folds.{list_any-append}
 use Rattle.mono_base.specs.Literal.{has_lit, without}
@@ -79,10 +78,3 @@ has_one e l = has-append_right e (l ∷ []) l (or_left (int_eq l l) (has_lit [] 
 
 pub one_cases : (e : List ℤ) (l m : ℤ) → IsTrue (has_lit (e ++ l ∷ []) m) → IsTrue (has_lit e m) ⊎ (m ≡ l)
 one_cases e l m h = elim (has-append_cases e (l ∷ []) m h) [ inl a ↦ inl a | inr b ↦ elim (or_cases (int_eq m l) (has_lit [] m) b) [ inl s ↦ inr (same_lit m l s) | inr z ↦ absurd cc ] ]
-
--- without a literal that stands at the end alone
-pub without_last : (e : List ℤ) (x : ℤ) → (IsTrue (has_lit e x) → ⊥) → without (e ++ x ∷ []) x ≡ e
-without_last [] x n = ap (λ (b : Bool). cond (not b) (x ∷ []) []) (lit_itself x)
-without_last (m ∷ e) x n =
-    let off : int_eq x m ≡ false = lits_differ x m (λ s. n (or_left (int_eq x m) (has_lit e x) ((Decides-int_eq x m).1 s))) in
-    ap (λ (b : Bool). cond (not b) (m ∷ without (e ++ x ∷ []) x) (without (e ++ x ∷ []) x)) off ∙ ap (λ (d : List ℤ). m ∷ d) (without_last e x (λ h. n (or_right (int_eq x m) (has_lit e x) h)))

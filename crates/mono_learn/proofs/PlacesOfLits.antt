@@ -1,6 +1,6 @@
 -- Literals and their places on a trail.
-use Rattle.std.proofs.Common.{◌≡◌, ◌≢◌, ℕ, zero, suc, ◌+◌, ◌<◌, ◌≤◌, Bool, true, false, cond, eqb, eq-eqb, List, [], ◌∷◌, length, get_or, take, refl, sym, ap, subst, ◌∙◌, ◌⊎◌, inl, inr, ℤ, pos, neg_ℤ, arith}
-use Rattle.std.specs.Prelude.{IsTrue, Option, Some, None, option_map, ◌==◌}
+use Rattle.std.proofs.Common.{◌≡◌, ℕ, zero, suc, ◌+◌, ◌<◌, ◌≤◌, Bool, false, cond, eqb, eq-eqb, List, [], ◌∷◌, length, take, refl, sym, ap, subst, ◌∙◌, ◌⊎◌, inl, inr, ℤ, pos, neg_ℤ, arith}
+use Rattle.std.specs.Prelude.{IsTrue, Option, Some, option_map}
 use Rattle.std.specs.Ordering.{int_eq}
 use Rattle.std.proofs.lemmas.Bool.{both_ways, or_cases, le-leb}
 use Rattle.std.proofs.lemmas.Bool.Decides.{eqb_tells}
@@ -9,7 +9,7 @@ use Rattle.std.proofs.lemmas.List.{get_or-take, length-take}
 use Rattle.mono_base.specs.Literal.{var_of, is_lit, has_lit, without, lit_at}
 use Rattle.mono_base.specs.Partial.{has_var, is_partial, is_false_in}
 use Rattle.mono_base.proofs.Truth.{same_lit, at_each}
-use Rattle.mono_base.proofs.Partials.{joined, neg-neg, var-neg, not_own_negation}
+use Rattle.mono_base.proofs.Partials.{joined, var-neg, not_own_negation}
 use Rattle.mono_problem.specs.Instance.{numbered}
 use Rattle.mono_trail.specs.declared.reason.Reason.{Reason}
 use Rattle.mono_trail.specs.Places.{place_in, reason_at}

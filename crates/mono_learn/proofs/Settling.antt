@@ -1,12 +1,11 @@
 -- Reasons while lemmas are made: more clauses, and late reasons that are settled one after the other.
-use Rattle.std.proofs.Common.{zero, suc, ◌≡◌, ◌≢◌, ℕ, ◌+◌, ◌<◌, ◌≤◌, List, [], ◌∷◌, ◌++◌, length, take, set, arith, refl, sym, ◌∙◌, ap, get_or, subst, ◌⊎◌, inl, inr, ℤ, pos, neg_ℤ, Some, None, get_or-set_same, get_or-set_other, length-set, length-append}
-use Rattle.std.specs.Prelude.{IsTrue}
+use Rattle.std.proofs.Common.{◌≡◌, ◌≢◌, ℕ, ◌+◌, ◌<◌, List, [], ◌∷◌, ◌++◌, length, take, set, arith, refl, sym, ◌∙◌, ap, get_or, subst, ◌⊎◌, inl, inr, ℤ, neg_ℤ, Some, get_or-set_same, get_or-set_other, length-set, length-append}
 use Rattle.std.proofs.lemmas.Bool.{cases_eq}
 use Rattle.std.proofs.lemmas.List.{get_or_push}
-use Rattle.mono_base.specs.Literal.{has_lit, within, without, lit_at}
-use Rattle.mono_base.specs.Partial.{is_false_in, others_false}
+use Rattle.mono_base.specs.Literal.{has_lit, without, lit_at}
+use Rattle.mono_base.specs.Partial.{is_false_in}
 use Rattle.mono_base.proofs.Truth.{at_each, from_each}
-use Rattle.mono_problem.specs.Instance.{Instance, numbered}
+use Rattle.mono_problem.specs.Instance.{Instance}
 use Rattle.mono_steps.specs.declared.lemma.Lemma.{Lemma}
 use Rattle.mono_steps.proofs.StepLists.{numbered_more, numbered_is}
 use Rattle.mono_trail.specs.declared.reason.Mark.{Mark}

@@ -1,18 +1,15 @@
 -- Literals that the rest implies are dropped, and the marks become the learned clause.
-use Rattle.std.proofs.Common.{◌≡◌, ◌≢◌, ℕ, zero, suc, ◌+◌, ◌-◌, ◌<◌, ◌≤◌, Bool, true, false, List, [], ◌∷◌, ◌++◌, length, take, get_or, set, refl, sym, ap, subst, ◌∙◌, ◌⊎◌, inl, inr, ℤ, pos, neg_ℤ, arith, get_or-set_other, get_or-set_same}
-use Rattle.std.specs.Prelude.{IsTrue, Option, Some, None, nat_le, ◌&&◌, Contains}
-use Rattle.std.specs.List.{list_all}
+use Rattle.std.proofs.Common.{◌≡◌, ◌≢◌, ℕ, zero, suc, ◌+◌, ◌-◌, ◌<◌, ◌≤◌, Bool, true, false, List, [], ◌∷◌, ◌++◌, length, take, get_or, set, refl, sym, ap, subst, ◌∙◌, ◌⊎◌, inl, inr, ℤ, neg_ℤ, arith}
+use Rattle.std.specs.Prelude.{IsTrue, Some, nat_le, ◌&&◌, Contains}
 use Rattle.std.specs.List.Sorted.{IsPermutation}
 use Rattle.std.proofs.lemmas.Bool.{and_from, le-leb, cases_Bool}
 use Rattle.std.proofs.lemmas.Option.{same_Some}
 use Rattle.std.proofs.lemmas.List.Sorted.{Contains-permutation, IsPermutation-sym}
 use Rattle.mono_base.specs.Literal.{var_of, has_lit, without, within, lit_at}
-use Rattle.mono_base.specs.Partial.{is_false_in}
 use Rattle.mono_problem.specs.Instance.{Instance, numbered}
 use Rattle.mono_steps.specs.declared.step.Chain.{Chain}
 use Rattle.mono_steps.specs.Chains.{chain_end}
 use Rattle.mono_steps.specs.ChainSteps.{clauses_named, names_clauses, names_vars, covers, is_justified_chain}
-use Rattle.mono_steps.specs.Current.{IsSetOf}
 use Rattle.mono_trail.specs.TrailView.{TrailView, IsSound, count_to, StandsAt}
 use Rattle.mono_trail.specs.Seen.{is_marked, IsUnseen}
 use Rattle.mono_learn.specs.declared.resolvent.Resolvent.{Resolvent}
@@ -21,21 +18,21 @@ use Rattle.mono_learn.specs.Levels.{level_by, highest_of}
 use Rattle.mono_steps.specs.New.{IsExactEnd}
 use Rattle.mono_learn.specs.Learned.{IsLearnt, IsMinimal}
 use Rattle.mono_learn.specs.Asked.{IsDerived}
-use Rattle.mono_learn.specs.Resolvents.{marked_from, FalseBy, AllFalse, MarkedBy, IsMarked}
-use Rattle.mono_learn.specs.Walks.{HasCome, IsAtLast, HasShrunk}
+use Rattle.mono_learn.specs.Resolvents.{FalseBy, AllFalse, MarkedBy, IsMarked}
+use Rattle.mono_learn.specs.Walks.{IsAtLast, HasShrunk}
 use Rattle.mono_trail.specs.declared.reason.Reason.TheVariants.{Clause}
 use Rattle.mono_trail.specs.Places.{level_at, reason_at}
-use Rattle.mono_learn.specs.Shrinks.{IsCovered, IsUncovered, IsUnmarkedBy, IsKeptFor, AreKept, IsWhole, AreLeft}
-use Rattle.mono_learn.proofs.LitSets.{without_has, has-without, has-append_left, has-append_right, has-append_cases, same_has, true_false, has_one, one_cases, without_last}
+use Rattle.mono_learn.specs.Shrinks.{IsCovered, IsUncovered, IsKeptFor, AreKept, IsWhole, AreLeft}
+use Rattle.mono_learn.proofs.LitSets.{has-append_left, has-append_cases, same_has, true_false, has_one, one_cases}
 use Rattle.mono_base.proofs.Partials.{neg-neg}
 use Rattle.mono_base.proofs.Truth.{same_lit, at_each, from_each}
 use Rattle.std.specs.Ordering.{int_eq}
 use Rattle.std.proofs.lemmas.Bool.Decides.{Decides-int_eq}
 use Rattle.mono_learn.proofs.Joining.{without_more, without_same}
 use Rattle.mono_learn.proofs.Marking.{mark_less, by_place, by_same, unmarked, stays_other}
-use Rattle.mono_learn.proofs.PlacesOfLits.{one_place, is_false, is_var_false, false_now}
+use Rattle.mono_learn.proofs.PlacesOfLits.{one_place, is_var_false}
 use Rattle.mono_learn.proofs.LevelsByPlace.{level_before, level_after, level_high, stands_at_level, highest_has, highest_reached}
-use Rattle.mono_learn.proofs.Walking.{marked_false, marked_less, goes_on, GoesOn}
+use Rattle.mono_learn.proofs.Walking.{marked_false, marked_less, goes_on}
 
 -- ---- what the walk leaves
 
@@ -58,9 +55,6 @@ shrunk_start cs t start place m kept used a perm = record {
     last k from on (inr n) = absurd (omega (arith, a.one, a.come.resolvent.counted, mark_less start place m.seen.items a.high a.marked, mark_less start k (set m.seen.items place false) from (stays_other m.seen.items place k n on)))
 
 -- ---- a literal whose reason's other literals are all in the clause
-
-pub covered_none : (t : List ℤ) (seen : List Bool) → IsCovered t seen []
-covered_none t seen = record { by = λ l h. absurd cc }
 
 pub covered_more : (t : List ℤ) (seen : List Bool) (c : List ℤ) (k : ℕ) (x l : ℤ) → k < length c → l ≡ get_or c k l → (l ≡ x → ⊥) → MarkedBy t seen (length t) l → IsCovered t seen (without (take k c) x) → IsCovered t seen (without (take (k + 1) c) x)
 covered_more t seen c k x l lt e n m h = subst (IsCovered t seen) (sym (without_more c k x l lt e n)) (record { by = λ y has. elim (one_cases (without (take k c) x) l y has) [ inl a ↦ h.by y a | inr s ↦ subst (MarkedBy t seen (length t)) (sym s) m ] })
@@ -246,16 +240,10 @@ all_gone cs t start place seen now kept used i h a le = record { unmarked = λ k
 pub below_trail : (cs : List (List ℤ)) (t : List ℤ) (start last : ℕ) (m : Resolvent) (used : List ℕ) → IsAtLast cs t start last m used → (k : ℕ) → Contains m.kept.items k → k < length t
 below_trail cs t start last m used a k h = omega (arith, a.come.resolvent.kept_only k h, a.high, a.within)
 
-pub kept_below : (cs : List (List ℤ)) (t : List ℤ) (start last n : ℕ) (seen : List Bool) (kept ks used : List ℕ) → HasShrunk cs t start last seen kept used → ks ≡ kept → (k : ℕ) → Contains ks k → k < start
-kept_below cs t start last n seen kept ks used h e k c = h.kept_only k (subst (λ (ms : List ℕ). Contains ms k) e c)
-
 pub others_are_false : (cs : List (List ℤ)) (t : List ℤ) (start last : ℕ) (seen : List Bool) (kept used : List ℕ) (i : ℕ) (lits : List ℤ) → HasShrunk cs t start last seen kept used → AreKept t start seen kept i lits → AllFalse t (length t) lits
 others_are_false cs t start last seen kept used i lits h a = record { are = λ l has. marked_false t seen (last + 1) start h.end l h.marks (a.only l has) }
 
 -- ---- nothing more can be dropped
-
-pub fewer_none : (seen : List Bool) (k : ℕ) → is_marked seen k ≡ true → is_marked seen k ≡ true
-fewer_none seen k on = on
 
 -- marks that are taken away leave a literal that isn't in the clause
 pub kept_for_fewer : (cs : List (List ℤ)) (t : TrailView) (old new : List Bool) (k : ℕ) → ((j : ℕ) → is_marked new j ≡ true → is_marked old j ≡ true) → IsKeptFor cs t old k → IsKeptFor cs t new k
@@ -268,9 +256,6 @@ kept_for_fewer cs t old new k fewer h = record {
 pub kept_for_other : (cs : List (List ℤ)) (t : TrailView) (seen : List Bool) (k : ℕ) → ((n : ℕ) → reason_at t.marks k ≡ Clause n → ⊥) → IsKeptFor cs t seen k
 kept_for_other cs t seen k none = record { why = λ n r on e is. absurd (none n e) }
 
-pub kept_for_unmarked : (cs : List (List ℤ)) (t : TrailView) (seen : List Bool) (k : ℕ) → is_marked seen k ≡ false → IsKeptFor cs t seen k
-kept_for_unmarked cs t seen k off = record { why = λ n r on e is. absurd (true_false (is_marked seen k) on off) }
-
 pub kept_for_uncovered : (cs : List (List ℤ)) (t : TrailView) (seen : List Bool) (k n : ℕ) (r : List ℤ) → reason_at t.marks k ≡ Clause n → numbered cs n ≡ Some r → IsUncovered t.lits seen (without r (lit_at t.lits k)) → IsKeptFor cs t seen k
 kept_for_uncovered cs t seen k n r e is u = record {
   why = λ m q on f js.
@@ -278,12 +263,6 @@ kept_for_uncovered cs t seen k n r e is u = record {
       let at : r ≡ q = same_Some r q (sym is ∙ ap (numbered cs) same ∙ js) in
       subst (λ (c : List ℤ). IsUncovered t.lits seen (without c (lit_at t.lits k))) at u;
 }
-
-pub set_unmarked : (seen : List Bool) (k : ℕ) → is_marked (set seen k false) k ≡ false
-set_unmarked seen k = false_or_true (is_marked (set seen k false) k) (λ on. (unmarked seen k k on).0 refl)
-
-pub fewer_set : (seen : List Bool) (k j : ℕ) → is_marked (set seen k false) j ≡ true → is_marked seen j ≡ true
-fewer_set seen k j on = (unmarked seen k j on).1
 
 pub minimal_is : (cs : List (List ℤ)) (t : TrailView) (start last : ℕ) (seen : List Bool) (kept used : List ℕ) (c : List ℤ) → IsSound t → 1 ≤ t.level → start ≡ count_to (t.level - 1) t.marks → (h : HasShrunk cs t.lits start last seen kept used) → (e : IsExactEnd cs (record { clause = c; used = used }))
     → ((j : ℕ) → j < length kept → IsKeptFor cs t seen (get_or kept j 0)) → IsMinimal cs t c

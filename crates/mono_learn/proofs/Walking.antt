@@ -1,9 +1,8 @@
 -- The steps of the walk back along a trail.
-use Rattle.std.proofs.Common.{◌≡◌, ◌≢◌, ℕ, zero, suc, ◌+◌, ◌-◌, ◌<◌, ◌≤◌, Bool, true, false, List, [], ◌∷◌, ◌++◌, length, get_or, set, refl, sym, ap, subst, ◌∙◌, ◌⊎◌, inl, inr, ℤ, pos, neg_ℤ, arith, get_or-set_other, get_or-set_same}
-use Rattle.std.specs.Prelude.{IsTrue, Option, Some, None, nat_le, ◌&&◌, Contains}
-use Rattle.std.specs.List.{list_all}
+use Rattle.std.proofs.Common.{◌≡◌, ◌≢◌, ℕ, ◌+◌, ◌-◌, ◌<◌, ◌≤◌, Bool, true, false, List, [], ◌∷◌, ◌++◌, length, set, refl, sym, ap, subst, ◌∙◌, ℤ, neg_ℤ, arith, get_or-set_same}
+use Rattle.std.specs.Prelude.{IsTrue, Some, nat_le, ◌&&◌}
 use Rattle.std.proofs.lemmas.Bool.{and_from, le-leb}
-use Rattle.std.proofs.lemmas.List.{length-set, get_or_default}
+use Rattle.std.proofs.lemmas.List.{length-set}
 use Rattle.std.proofs.lemmas.List.Folds.{list_all-append}
 use Rattle.std.proofs.lemmas.Option.{same_Some}
 use Rattle.mono_base.specs.Literal.{var_of, has_lit, without, lit_at}
@@ -15,13 +14,13 @@ use Rattle.mono_trail.specs.TrailView.{TrailView, IsSound}
 use Rattle.mono_trail.specs.Seen.{is_marked}
 use Rattle.mono_learn.specs.declared.resolvent.Resolvent.{Resolvent}
 use Rattle.mono_learn.specs.Reasons.{WasUnit}
-use Rattle.mono_learn.specs.Resolvents.{marked_from, FalseBy, AllFalse, MarkedBy, IsMarked, IsResolvent}
+use Rattle.mono_learn.specs.Resolvents.{FalseBy, AllFalse, MarkedBy, IsMarked, IsResolvent}
 use Rattle.mono_learn.specs.Joins.{Joins, StandsFor}
 use Rattle.mono_learn.specs.Walks.{HasCome}
 use Rattle.mono_learn.proofs.LitSets.{without_has, has-without, same_if}
 use Rattle.mono_base.proofs.Partials.{neg-neg}
 use Rattle.mono_learn.proofs.ChainEnds.{ClashesAt, resolvent_is, named-push}
-use Rattle.mono_learn.proofs.Marking.{mark_below, mark_less, marked_within, has_mark, by_place, by_same, unmarked, stays_other}
+use Rattle.mono_learn.proofs.Marking.{mark_less, marked_within, has_mark, unmarked, stays_other}
 use Rattle.mono_learn.proofs.PlacesOfLits.{one_place, no_opposites, is_var_at, reason_others, unit_number}
 
 -- what a marked literal is
@@ -135,10 +134,6 @@ comes_past cs t start p m used h off = record {
   resolvent = record { marks = lower_top t p m.seen.items h.end off h.resolvent.marks; counted = h.resolvent.counted; kept_only = h.resolvent.kept_only; kept_all = h.resolvent.kept_all };
 }
 
--- what was read of a trail
-pub lit_read : (t : List ℤ) (k : ℕ) (x : ℤ) → k < length t → x ≡ get_or t k x → x ≡ lit_at t k
-lit_read t k x lt e = e ∙ get_or_default t k x (pos 0) lt
-
 -- the other literals of a reason are false
 pub reason_false : (cs : List (List ℤ)) (t : List ℤ) (k n : ℕ) (r : List ℤ) (x : ℤ) → WasUnit cs t k n → numbered cs n ≡ Some r → x ≡ lit_at t k → AllFalse t (length t) (without r x)
 reason_false cs t k n r x w is e = record {
@@ -163,6 +158,3 @@ other_left cs t start p m used h on c =
 
 pub come_at : (cs : List (List ℤ)) (t : List ℤ) (start n : ℕ) (m : Resolvent) (used : List ℕ) → start < n → HasCome cs t start n m used → HasCome cs t start (n - 1 + 1) m used
 come_at cs t start n m used lt h = let e : n ≡ n - 1 + 1 = omega arith in subst (λ (k : ℕ). HasCome cs t start k m used) e h
-
-pub come_past : (cs : List (List ℤ)) (t : List ℤ) (start n : ℕ) (m : Resolvent) (used : List ℕ) → start < n → is_marked m.seen.items (n - 1) ≡ false → HasCome cs t start n m used → HasCome cs t start (n - 1) m used
-come_past cs t start n m used lt off h = comes_past cs t start (n - 1) m used (come_at cs t start n m used lt h) off

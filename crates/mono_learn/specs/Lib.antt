@@ -9,3 +9,4 @@ pub mod Resolvents
 pub mod Joins
 pub mod Walks
 pub mod Shrinks
+pub mod Worked

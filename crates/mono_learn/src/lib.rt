@@ -30,6 +30,8 @@ mod resolvent;
 mod shrink;
 /// The walk back along a trail.
 mod walk;
+/// Rows that were worked by hand.
+pub mod worked;
 
 pub use explain::Explainer;
 pub use learn::{Learnt, analyse};

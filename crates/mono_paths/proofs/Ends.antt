@@ -18,8 +18,10 @@ use Rattle.mono_graph.proofs.Membership.{has_here, has_there, has_get_or}
 use Rattle.mono_paths.specs.Found.{HasBound}
 use Rattle.mono_paths.specs.Trails.{cost_along}
 use Rattle.mono_paths.specs.NodeLabels.{NodeLabels, AreReached}
-use Rattle.mono_paths.specs.Spread.{label_of, IsTight}
+use Rattle.mono_paths.specs.Spread.{label_of, IsTight, AreTight}
 use Rattle.mono_paths.specs.Reaches.{AreFinal, HasFinal, IsCheap}
+use Rattle.mono_paths.specs.declared.search.Search.{Search}
+use Rattle.mono_paths.specs.Searches.{IsSearch, source_of}
 
 is_reached : (g : Digraph) (labels : List ℕ) (cap : ℕ) (us : List ℕ) → AreReached g.nodes cap labels us → (u : ℕ) → u < g.nodes → label_of labels u < cap → IsTrue (has us u)
 is_reached g labels cap us r u lt low = r.below u lt ∙ lt-ltb (label_of labels u) cap low
@@ -45,7 +47,7 @@ final_cut g P u v labels us graph u-in v-in r f =
     (all_of (λ k. not (present P k && leads_out us (edge_at g k))) 0 (length g.edges) (λ k low high.
     let ends = graph k no_edge (omega arith) in
     within (present P k) (has us (edge_at g k).from) (has us (edge_at g k).to) (λ here from.
-    let tight : IsTight g limit.Free labels k = f.tight k (omega arith) here in
+    let tight : IsTight g limit.Free labels k = f.tight.each k (omega arith) here in
     let below = reached_low g labels 1 us r (edge_at g k).from ends.0 from in
     is_reached g labels 1 us r (edge_at g k).to ends.1 (omega arith))))
 
@@ -113,7 +115,7 @@ final_labelling g P u v m limit labels us graph u-in v-in bound r f =
     let ends = graph k no_edge (omega arith) in
     quiet (present P k) (is_tense label limit (edge_at g k)) (λ here.
     loose_not (label (edge_at g k).from) (label (edge_at g k).to) (label_of labels (edge_at g k).from) (label_of labels (edge_at g k).to) (cost_of limit (edge_at g k))
-    (at (edge_at g k).from ends.0) (at (edge_at g k).to ends.1) (f.tight k (omega arith) here))))
+    (at (edge_at g k).from ends.0) (at (edge_at g k).to ends.1) (f.tight.each k (omega arith) here))))
   where
     same_int : (x y : ℤ) → x ≡ y → IsTrue (int_eq x y)
     same_int x y e = grind (arith, ints)
@@ -136,14 +138,14 @@ labels_known g labels us m small r = each us r.known (λ u lt h. reached_low g l
 
 -- ---- walks within the limit
 
-ones : (ks : List ℕ) → sum_by (λ (k : ℕ). 1) ks ≡ length ks
+pub ones : (ks : List ℕ) → sum_by (λ (k : ℕ). 1) ks ≡ length ks
 ones [] = refl
 ones (k ∷ ks) = rw (sum_by-cons (λ (k : ℕ). 1) k ks) (omega (arith, ones ks))
 
 int_le_from : (a m : ℕ) (x : ℤ) → x ≡ pos m → a < m + 1 → IsTrue (int_le (pos a) x)
 int_le_from a m x e lt = grind (arith, ints)
 
-light : (limit : Limit) (g : Digraph) (m : ℕ) (ks : List ℕ) → bound_of limit ≡ pos m → cost_along limit g ks < m + 1 → IsTrue (is_light limit g ks)
+pub light : (limit : Limit) (g : Digraph) (m : ℕ) (ks : List ℕ) → bound_of limit ≡ pos m → cost_along limit g ks < m + 1 → IsTrue (is_light limit g ks)
 light limit.Free g m ks e lt = refl
 light (limit.Steps most) g m ks e lt = int_le_from (length ks) m most e (omega (arith, ones ks))
 light (limit.Weight most) g m ks e lt = int_le_from (weight_of g ks) m most e lt
@@ -182,6 +184,20 @@ empty_labelling g P u v l bounded low = at l (bound_none l bounded low)
         still x c f = grind (arith, ints)
 
 -- ---- of the labels of a search
+
+-- a search that is over has final labels
+pub final : (g : Digraph) (P : List Bool) (limit : Limit) (u v cap : ℕ) (s : Search) → IsSearch g P limit s → source_of s ≡ u → s.labels.cap ≡ cap → cap ≤ label_of s.labels.each v
+    → AreTight g P limit s.labels.each → HasFinal g P limit u v cap s.labels
+final g P limit u v cap s search source at_cap above tight = record {
+  at_cap = at_cap;
+  final = record {
+    len = search.labelled.len;
+    start = ap (λ (w : ℕ). label_of s.labels.each w) (sym source) ∙ search.labelled.start;
+    goal = let most = search.labelled.most v in omega arith;
+    most = λ w. let most = search.labelled.most w in omega arith;
+    tight = tight;
+  };
+}
 
 reached_at : (g : Digraph) (P : List Bool) (u v cap : ℕ) (limit : Limit) (labels : NodeLabels) (us : List ℕ) → length labels.each ≡ g.nodes → AreReached (length labels.each) labels.cap labels.each us → HasFinal g P limit u v cap labels → AreReached g.nodes cap labels.each us
 reached_at g P u v cap limit labels us len r f =

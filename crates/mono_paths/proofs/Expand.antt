@@ -1,5 +1,5 @@
 -- The edges of one visit's node are looked at one after another.
-use Rattle.std.proofs.Common.{◌≡◌, ℕ, ◌+◌, ◌<◌, ◌≤◌, Bool, not, ◌&&◌, ◌⊎◌, List, [], ◌∷◌, ◌++◌, length, get_or, set, drop, ◌-◌, sum, refl, sym, ap, subst, ◌∙◌, inl, inr, arith, length-append}
+use Rattle.std.proofs.Common.{◌≡◌, ℕ, ◌+◌, ◌<◌, ◌≤◌, Bool, true, not, ◌&&◌, ◌⊎◌, List, [], ◌∷◌, ◌++◌, length, get_or, set, drop, sum, refl, sym, ap, subst, ◌∙◌, inl, inr, arith, length-append}
 use Rattle.std.specs.Prelude.{IsTrue, ◌==◌, nat_le}
 use Rattle.std.proofs.lemmas.Bool.{or_left, or_right, and_from, ne_eqb, le-leb, not_from_false, cases_eq, cases_lt}
 use Rattle.std.proofs.lemmas.List.{length-set, get_or-set_same, get_or-set_other, get_or_append_left, get_or_push, get_or_past, get_or_read, drop_more}
@@ -7,10 +7,9 @@ use Rattle.std.proofs.lemmas.List.Sums.{sum_by-set}
 use Rattle.mono_graph.specs.Digraph.{Digraph, present, edge_at, has, leaving}
 use Rattle.mono_graph.specs.Walks.{cost_of}
 use Rattle.mono_graph.proofs.Membership.{has_cons, at_places, places_at, has_get_or}
-use Rattle.mono_graph.specs.declared.edge.Edge.{Edge}
 use Rattle.mono_paths.specs.declared.visit.Visit.{Visit}
-use Rattle.mono_paths.specs.Trails.{visit_at, no_visit, IsTrail, IsStep}
-use Rattle.mono_paths.specs.Spread.{label_of, IsTight, IsWaiting, IsSpread, AreLabels, Lowers, waits_after, IsFoundAt}
+use Rattle.mono_paths.specs.Trails.{visit_at, no_visit, IsTrail, IsStep, IsVisited}
+use Rattle.mono_paths.specs.Spread.{label_of, IsTight, IsWaiting, IsSpread, AreLabels, Lowers, waits_after}
 use Rattle.mono_paths.proofs.Trails.{trail_push}
 use Rattle.mono_graph.specs.declared.limit.Limit.{Limit}
 
@@ -19,14 +18,12 @@ abbrev pub IsCovered : Digraph → Limit → (ℕ → Bool) → List ℕ → Lis
 IsCovered g limit waits labels vs u ks k =
     (IsTight g limit labels k ⊎ IsWaiting waits labels vs (edge_at g k).from) ⊎ (((edge_at g k).from ≡ u) × IsTrue (has ks k))
 
-pub record Expanding (g : Digraph) (P : List Bool) (limit : Limit) (to : ℕ) (labels0 : List ℕ) (vs0 : List Visit) (at : ℕ) (labels : List ℕ) (vs : List Visit) (ks : List ℕ) : Type 0 where
+pub record Expanding (g : Digraph) (P : List Bool) (limit : Limit) (cap : ℕ) (labels0 : List ℕ) (vs0 : List Visit) (at : ℕ) (labels : List ℕ) (vs : List Visit) (ks : List ℕ) : Type 0 where
   pub trail : IsTrail g P limit vs
-  pub ok : AreLabels g labels vs
+  pub ok : AreLabels g cap labels vs
   pub grows : length vs0 ≤ length vs
   pub same : (i : ℕ) → i < length vs0 → visit_at vs i ≡ visit_at vs0 i
-  pub apart : label_of labels to ≡ label_of labels0 to
   pub work : sum labels + length vs ≤ sum labels0 + length vs0
-  pub lower : (u : ℕ) → label_of labels u ≤ label_of labels0 u
   pub current : label_of labels (visit_at vs0 at).node ≡ (visit_at vs0 at).cost
   pub covered : (waits : ℕ → Bool) → IsSpread g P limit labels0 vs0 waits → (k : ℕ) → k < length g.edges → IsTrue (present P k)
       → IsCovered g limit (waits_after waits at (length vs0)) labels vs (visit_at vs0 at).node ks k
@@ -47,16 +44,14 @@ stale g P limit labels vs at old waits s = record {
   ];
 }
 
-pub start : (g : Digraph) (P : List Bool) (limit : Limit) (to : ℕ) (labels : List ℕ) (vs : List Visit) (at : ℕ) → IsTrail g P limit vs → AreLabels g labels vs
-    → (visit_at vs at).cost ≡ label_of labels (visit_at vs at).node → Expanding g P limit to labels vs at labels vs (leaving g (visit_at vs at).node)
-start g P limit to labels vs at trail ok now = record {
+pub start : (g : Digraph) (P : List Bool) (limit : Limit) (cap : ℕ) (labels : List ℕ) (vs : List Visit) (at : ℕ) → IsTrail g P limit vs → AreLabels g cap labels vs
+    → (visit_at vs at).cost ≡ label_of labels (visit_at vs at).node → Expanding g P limit cap labels vs at labels vs (leaving g (visit_at vs at).node)
+start g P limit cap labels vs at trail ok now = record {
   trail = trail;
   ok = ok;
   grows = omega arith;
   same = λ i lt. refl;
-  apart = refl;
   work = omega arith;
-  lower = λ u. omega arith;
   current = sym now;
   covered = λ waits s k lt here. elim (s.each k lt here) [
     | inl t ↦ inl (inl t)
@@ -68,28 +63,26 @@ start g P limit to labels vs at trail ok now = record {
   ];
 }
 
-pub finished : (g : Digraph) (P : List Bool) (limit : Limit) (to : ℕ) (labels0 : List ℕ) (vs0 : List Visit) (at : ℕ) (labels : List ℕ) (vs : List Visit)
-    → Expanding g P limit to labels0 vs0 at labels vs [] → (waits : ℕ → Bool) → IsSpread g P limit labels0 vs0 waits → IsSpread g P limit labels vs (waits_after waits at (length vs0))
-finished g P limit to labels0 vs0 at labels vs x waits s = record {
+pub finished : (g : Digraph) (P : List Bool) (limit : Limit) (cap : ℕ) (labels0 : List ℕ) (vs0 : List Visit) (at : ℕ) (labels : List ℕ) (vs : List Visit)
+    → Expanding g P limit cap labels0 vs0 at labels vs [] → (waits : ℕ → Bool) → IsSpread g P limit labels0 vs0 waits → IsSpread g P limit labels vs (waits_after waits at (length vs0))
+finished g P limit cap labels0 vs0 at labels vs x waits s = record {
   each = λ k lt here. elim (x.covered waits s k lt here) [
     | inl c ↦ c
     | inr r ↦ absurd (let no = r.1 in cc)
   ];
 }
 
-pub passed : (g : Digraph) (P : List Bool) (limit : Limit) (to : ℕ) (labels0 : List ℕ) (vs0 : List Visit) (at : ℕ) (labels : List ℕ) (vs : List Visit) (k : ℕ) (ks : List ℕ)
+pub passed : (g : Digraph) (P : List Bool) (limit : Limit) (cap : ℕ) (labels0 : List ℕ) (vs0 : List Visit) (at : ℕ) (labels : List ℕ) (vs : List Visit) (k : ℕ) (ks : List ℕ)
     → at < length vs0 → (edge_at g k).from ≡ (visit_at vs0 at).node
-    → Expanding g P limit to labels0 vs0 at labels vs (k ∷ ks)
+    → Expanding g P limit cap labels0 vs0 at labels vs (k ∷ ks)
     → (IsTrue (present P k) → label_of labels (edge_at g k).to ≤ (visit_at vs at).cost + cost_of limit (edge_at g k))
-    → Expanding g P limit to labels0 vs0 at labels vs ks
-passed g P limit to labels0 vs0 at labels vs k ks inside from x tight = record {
+    → Expanding g P limit cap labels0 vs0 at labels vs ks
+passed g P limit cap labels0 vs0 at labels vs k ks inside from x tight = record {
   trail = x.trail;
   ok = x.ok;
   grows = x.grows;
   same = x.same;
-  apart = x.apart;
   work = x.work;
-  lower = x.lower;
   current = x.current;
   covered = λ waits s j lt here. elim (x.covered waits s j lt here) [
     | inl c ↦ inl c
@@ -153,11 +146,21 @@ waiting_new waits labels vs v u same below due = (
   ap (λ (x : Visit). x.cost) (visit_new vs v) ∙ (sym (label_set_same labels v.node v.cost (in_range labels v.node v.cost below)) ∙ ap (λ (w : ℕ). label_of (set labels v.node v.cost) w) (sym same)),
 )
 
-pub lowered : (g : Digraph) (P : List Bool) (limit : Limit) (to : ℕ) (labels0 : List ℕ) (vs0 : List Visit) (at : ℕ) (labels : List ℕ) (vs : List Visit) (k : ℕ) (ks : List ℕ)
-    → at < length vs0 → k < length g.edges → (edge_at g k).from ≡ (visit_at vs0 at).node → (edge_at g k).to < g.nodes → ((edge_at g k).to ≡ to → ⊥)
-    → Expanding g P limit to labels0 vs0 at labels vs (k ∷ ks) → IsTrue (present P k) → (visit_at vs at).cost + cost_of limit (edge_at g k) < label_of labels (edge_at g k).to
-    → Expanding g P limit to labels0 vs0 at (set labels (edge_at g k).to ((visit_at vs at).cost + cost_of limit (edge_at g k))) (vs ++ visit_by g limit vs at k ∷ []) ks
-lowered g P limit to labels0 vs0 at labels vs k ks inside lt from in-range apart x here below =
+visited_kept : (vs : List Visit) (v : Visit) (u n : ℕ) → IsVisited vs u n → IsVisited (vs ++ v ∷ []) u n
+visited_kept vs v u n w =
+    let old : visit_at (vs ++ v ∷ []) w.0 ≡ visit_at vs w.0 = visit_kept vs v w.0 w.1 in
+    (w.0, omega (arith, length-append vs (v ∷ []), w.1), ap (λ (x : Visit). x.node) old ∙ w.2, ap (λ (x : Visit). x.cost) old ∙ w.3)
+
+visited_new : (labels : List ℕ) (vs : List Visit) (v : Visit) (u : ℕ) → u ≡ v.node → v.cost < label_of labels v.node → IsVisited (vs ++ v ∷ []) u (label_of (set labels v.node v.cost) u)
+visited_new labels vs v u same below =
+    let w = waiting_new (λ (i : ℕ). true) labels vs v u same below refl in
+    (w.0, w.1, w.3, w.4)
+
+pub lowered : (g : Digraph) (P : List Bool) (limit : Limit) (cap : ℕ) (labels0 : List ℕ) (vs0 : List Visit) (at : ℕ) (labels : List ℕ) (vs : List Visit) (k : ℕ) (ks : List ℕ)
+    → at < length vs0 → k < length g.edges → (edge_at g k).from ≡ (visit_at vs0 at).node
+    → Expanding g P limit cap labels0 vs0 at labels vs (k ∷ ks) → IsTrue (present P k) → (visit_at vs at).cost + cost_of limit (edge_at g k) < label_of labels (edge_at g k).to
+    → Expanding g P limit cap labels0 vs0 at (set labels (edge_at g k).to ((visit_at vs at).cost + cost_of limit (edge_at g k))) (vs ++ visit_by g limit vs at k ∷ []) ks
+lowered g P limit cap labels0 vs0 at labels vs k ks inside lt from x here below =
     let v : Visit = visit_by g limit vs at k in
     let still : visit_at vs at ≡ visit_at vs0 at = x.same at inside in
     let inside' : at < length vs = let grows = x.grows in omega arith in
@@ -170,16 +173,20 @@ lowered g P limit to labels0 vs0 at labels vs k ks inside lt from in-range apart
     let first : visit_at (vs ++ v ∷ []) 0 ≡ visit_at vs 0 = visit_kept vs v 0 some in
     let room : v.node < length labels = in_range labels v.node v.cost below in
     record {
-      trail = trail_push g P limit vs v x.trail (step_by g P limit vs at k inside' lt here (from ∙ ap (λ (w : Visit). w.node) (sym still))) in-range;
+      trail = trail_push g P limit vs v x.trail (step_by g P limit vs at k inside' lt here (from ∙ ap (λ (w : Visit). w.node) (sym still))) (let len = x.ok.len in omega (arith, room));
       ok = record {
         len = length-set labels v.node v.cost ∙ x.ok.len;
         start = ap (λ (w : Visit). label_of (set labels v.node v.cost) w.node) first ∙ (label_set_other labels v.node (visit_at vs 0).node v.cost not_first ∙ x.ok.start);
+        most = λ u. let old = x.ok.most u in omega (arith, label_set_le labels v.node u v.cost below, old);
+        made = λ u u-in low. elim (cases_eq u v.node) [
+          | inl e ↦ visited_new labels vs v u e below
+          | inr other ↦ visited_kept vs v u (label_of (set labels v.node v.cost) u)
+              (subst (λ (n : ℕ). IsVisited vs u n) (sym (label_set_other labels v.node u v.cost other)) (x.ok.made u u-in (subst (λ (n : ℕ). n < cap) (label_set_other labels v.node u v.cost other) low)))
+        ];
       };
       grows = let grows = x.grows in omega (arith, length-append vs (v ∷ []));
       same = λ i low. visit_kept vs v i (let grows = x.grows in omega arith) ∙ x.same i low;
-      apart = label_set_other labels v.node to v.cost (λ e. apart (sym e)) ∙ x.apart;
       work = let work = x.work in omega (arith, length-append vs (v ∷ []), sum_by-set (λ (n : ℕ). n) labels v.node v.cost 0 room);
-      lower = λ u. let old = x.lower u in omega (arith, label_set_le labels v.node u v.cost below, old);
       current = label_set_other labels v.node (visit_at vs0 at).node v.cost (λ e. not_from (from ∙ e)) ∙ x.current;
       covered = λ waits s j ltj herej.
           let still_tight : ((edge_at g j).from ≡ v.node → ⊥) → IsTight g limit labels j → IsTight g limit (set labels v.node v.cost) j =
@@ -205,11 +212,11 @@ lowered g P limit to labels0 vs0 at labels vs k ks inside lt from in-range apart
 pub visit_read : (vs : List Visit) (at : ℕ) (v : Visit) → at < length vs → v ≡ get_or vs at v → v ≡ visit_at vs at
 visit_read vs at v lt is = get_or_read vs at v lt is no_visit
 
-pub begun : (g : Digraph) (P : List Bool) (limit : Limit) (to : ℕ) (labels : List ℕ) (vs : List Visit) (at : ℕ) (v : Visit) (ks : List ℕ) → IsTrail g P limit vs → AreLabels g labels vs
-    → v ≡ visit_at vs at → v.cost ≡ label_of labels v.node → ks ≡ leaving g v.node → Expanding g P limit to labels vs at labels vs ks
-begun g P limit to labels vs at v ks trail ok is now places =
-    subst (λ (js : List ℕ). Expanding g P limit to labels vs at labels vs js) (sym (places ∙ ap (λ (w : Visit). leaving g w.node) is))
-    (start g P limit to labels vs at trail ok (subst (λ (w : Visit). w.cost ≡ label_of labels w.node) is now))
+pub begun : (g : Digraph) (P : List Bool) (limit : Limit) (cap : ℕ) (labels : List ℕ) (vs : List Visit) (at : ℕ) (v : Visit) (ks : List ℕ) → IsTrail g P limit vs → AreLabels g cap labels vs
+    → v ≡ visit_at vs at → v.cost ≡ label_of labels v.node → ks ≡ leaving g v.node → Expanding g P limit cap labels vs at labels vs ks
+begun g P limit cap labels vs at v ks trail ok is now places =
+    subst (λ (js : List ℕ). Expanding g P limit cap labels vs at labels vs js) (sym (places ∙ ap (λ (w : Visit). leaving g w.node) is))
+    (start g P limit cap labels vs at trail ok (subst (λ (w : Visit). w.cost ≡ label_of labels w.node) is now))
 
 pub at_node : (g : Digraph) (vs : List Visit) (at : ℕ) (v : Visit) (ks : List ℕ) (i k : ℕ) → v ≡ visit_at vs at → ks ≡ leaving g v.node → i < length ks → k ≡ get_or ks i 0
     → (k < length g.edges) × ((edge_at g k).from ≡ (visit_at vs at).node)
@@ -218,56 +225,28 @@ at_node g vs at v ks i k is places lt read =
     let r = places_at (λ e. e.from) g v.node k (subst (λ (js : List ℕ). IsTrue (has js k)) places inside) in
     (r.0, r.1 ∙ ap (λ (w : Visit). w.node) is)
 
-pub next_passed : (g : Digraph) (P : List Bool) (limit : Limit) (to : ℕ) (labels0 : List ℕ) (vs0 : List Visit) (at : ℕ) (labels new : List ℕ) (vs ws : List Visit) (v : Visit) (ks : List ℕ) (i k : ℕ)
+pub next_passed : (g : Digraph) (P : List Bool) (limit : Limit) (cap : ℕ) (labels0 : List ℕ) (vs0 : List Visit) (at : ℕ) (labels new : List ℕ) (vs ws : List Visit) (v : Visit) (ks : List ℕ) (i k : ℕ)
     → at < length vs0 → v ≡ visit_at vs0 at → ks ≡ leaving g v.node → i < length ks → k ≡ get_or ks i 0
-    → Expanding g P limit to labels0 vs0 at labels vs (drop i ks)
+    → Expanding g P limit cap labels0 vs0 at labels vs (drop i ks)
     → (new ≡ labels) × (ws ≡ vs) × (IsTrue (present P k) → label_of labels (edge_at g k).to ≤ (visit_at vs at).cost + cost_of limit (edge_at g k))
-    → Expanding g P limit to labels0 vs0 at new ws (drop (i + 1) ks)
-next_passed g P limit to labels0 vs0 at labels new vs ws v ks i k inside is places lt read x r =
+    → Expanding g P limit cap labels0 vs0 at new ws (drop (i + 1) ks)
+next_passed g P limit cap labels0 vs0 at labels new vs ws v ks i k inside is places lt read x r =
     let b = at_node g vs0 at v ks i k is places lt read in
     let front : drop i ks ≡ k ∷ drop (i + 1) ks = drop_more ks i 0 lt ∙ ap (λ (j : ℕ). j ∷ drop (i + 1) ks) (sym read) in
-    let step : Expanding g P limit to labels0 vs0 at labels vs (drop (i + 1) ks) =
-    passed g P limit to labels0 vs0 at labels vs k (drop (i + 1) ks) inside b.1 (subst (λ (js : List ℕ). Expanding g P limit to labels0 vs0 at labels vs js) front x) r.2 in
-    subst (λ (ls : List ℕ). Expanding g P limit to labels0 vs0 at ls ws (drop (i + 1) ks)) (sym r.0)
-    (subst (λ (us : List Visit). Expanding g P limit to labels0 vs0 at labels us (drop (i + 1) ks)) (sym r.1) step)
+    let step : Expanding g P limit cap labels0 vs0 at labels vs (drop (i + 1) ks) =
+    passed g P limit cap labels0 vs0 at labels vs k (drop (i + 1) ks) inside b.1 (subst (λ (js : List ℕ). Expanding g P limit cap labels0 vs0 at labels vs js) front x) r.2 in
+    subst (λ (ls : List ℕ). Expanding g P limit cap labels0 vs0 at ls ws (drop (i + 1) ks)) (sym r.0)
+    (subst (λ (us : List Visit). Expanding g P limit cap labels0 vs0 at labels us (drop (i + 1) ks)) (sym r.1) step)
 
-pub next_lowered : (g : Digraph) (P : List Bool) (limit : Limit) (to : ℕ) (labels0 : List ℕ) (vs0 : List Visit) (at : ℕ) (labels new : List ℕ) (vs ws : List Visit) (v : Visit) (ks : List ℕ) (i k : ℕ) (e : Edge)
+pub next_lowered : (g : Digraph) (P : List Bool) (limit : Limit) (cap : ℕ) (labels0 : List ℕ) (vs0 : List Visit) (at : ℕ) (labels new : List ℕ) (vs ws : List Visit) (v : Visit) (ks : List ℕ) (i k : ℕ)
     → at < length vs0 → v ≡ visit_at vs0 at → ks ≡ leaving g v.node → i < length ks → k ≡ get_or ks i 0
-    → e ≡ edge_at g k → e.to < g.nodes → (e.to ≡ to → ⊥)
-    → Expanding g P limit to labels0 vs0 at labels vs (drop i ks)
+    → Expanding g P limit cap labels0 vs0 at labels vs (drop i ks)
     → IsTrue (present P k) × Lowers labels new vs ws (visit_by g limit vs at k)
-    → Expanding g P limit to labels0 vs0 at new ws (drop (i + 1) ks)
-next_lowered g P limit to labels0 vs0 at labels new vs ws v ks i k e inside is places lt read edge in-range apart x r =
+    → Expanding g P limit cap labels0 vs0 at new ws (drop (i + 1) ks)
+next_lowered g P limit cap labels0 vs0 at labels new vs ws v ks i k inside is places lt read x r =
     let b = at_node g vs0 at v ks i k is places lt read in
     let front : drop i ks ≡ k ∷ drop (i + 1) ks = drop_more ks i 0 lt ∙ ap (λ (j : ℕ). j ∷ drop (i + 1) ks) (sym read) in
-    let step = lowered g P limit to labels0 vs0 at labels vs k (drop (i + 1) ks) inside b.0 b.1
-    (subst (λ (f : Edge). f.to < g.nodes) edge in-range) (subst (λ (f : Edge). f.to ≡ to → ⊥) edge apart)
-    (subst (λ (js : List ℕ). Expanding g P limit to labels0 vs0 at labels vs js) front x) r.0 r.1.below in
-    subst (λ (ls : List ℕ). Expanding g P limit to labels0 vs0 at ls ws (drop (i + 1) ks)) (sym r.1.labels)
-    (subst (λ (us : List Visit). Expanding g P limit to labels0 vs0 at (set labels (edge_at g k).to ((visit_at vs at).cost + cost_of limit (edge_at g k))) us (drop (i + 1) ks)) (sym r.1.visits) step)
-
--- the node that is sought has been found
-pub record Finds (g : Digraph) (P : List Bool) (limit : Limit) (to : ℕ) (labels0 : List ℕ) (ws : List Visit) : Type 0 where
-  pub trail : IsTrail g P limit ws
-  pub found : IsFoundAt to (label_of labels0 to) ws
-
-pub next_found : (g : Digraph) (P : List Bool) (limit : Limit) (to : ℕ) (labels0 : List ℕ) (vs0 : List Visit) (at : ℕ) (labels new : List ℕ) (vs ws : List Visit) (v : Visit) (ks : List ℕ) (i k : ℕ) (e : Edge)
-    → at < length vs0 → v ≡ visit_at vs0 at → ks ≡ leaving g v.node → i < length ks → k ≡ get_or ks i 0
-    → e ≡ edge_at g k → e.to < g.nodes → e.to ≡ to
-    → Expanding g P limit to labels0 vs0 at labels vs (drop i ks)
-    → IsTrue (present P k) × Lowers labels new vs ws (visit_by g limit vs at k)
-    → Finds g P limit to labels0 ws
-next_found g P limit to labels0 vs0 at labels new vs ws v ks i k e inside is places lt read edge in-range same x r =
-    let b = at_node g vs0 at v ks i k is places lt read in
-    let w : Visit = visit_by g limit vs at k in
-    let inside' : at < length vs = let grows = x.grows in omega arith in
-    let last : length (vs ++ w ∷ []) - 1 ≡ length vs = omega (arith, length-append vs (w ∷ [])) in
-    let newest : visit_at (vs ++ w ∷ []) (length (vs ++ w ∷ []) - 1) ≡ w = ap (λ (j : ℕ). visit_at (vs ++ w ∷ []) j) last ∙ visit_new vs w in
-    let to-is : (edge_at g k).to ≡ to = subst (λ (f : Edge). f.to ≡ to) edge same in
-    let under : w.cost < label_of labels0 to = let below = r.1.below in let at-to : label_of labels (edge_at g k).to ≡ label_of labels to = ap (λ (u : ℕ). label_of labels u) to-is in let apart = x.apart in omega arith in
-    subst (λ (us : List Visit). Finds g P limit to labels0 us) (sym r.1.visits) (record {
-      trail = trail_push g P limit vs w x.trail
-          (step_by g P limit vs at k inside' b.0 r.0 (b.1 ∙ ap (λ (u : Visit). u.node) (sym (x.same at inside))))
-          (subst (λ (f : Edge). f.to < g.nodes) edge in-range);
-      found = (ap (λ (u : Visit). u.node) newest ∙ to-is, subst (λ (u : Visit). u.cost < label_of labels0 to) (sym newest) under);
-    })
+    let step = lowered g P limit cap labels0 vs0 at labels vs k (drop (i + 1) ks) inside b.0 b.1
+    (subst (λ (js : List ℕ). Expanding g P limit cap labels0 vs0 at labels vs js) front x) r.0 r.1.below in
+    subst (λ (ls : List ℕ). Expanding g P limit cap labels0 vs0 at ls ws (drop (i + 1) ks)) (sym r.1.labels)
+    (subst (λ (us : List Visit). Expanding g P limit cap labels0 vs0 at (set labels (edge_at g k).to ((visit_at vs at).cost + cost_of limit (edge_at g k))) us (drop (i + 1) ks)) (sym r.1.visits) step)

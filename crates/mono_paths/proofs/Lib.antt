@@ -2,6 +2,8 @@ pub mod Trails
 pub mod Expand
 pub mod Searches
 pub mod Ends
+mod Reached
+mod Rows
 pub mod Queued
 pub mod Cuts
 pub mod NodeLabels

@@ -1,24 +1,22 @@
 -- How a search begins, goes on and ends.
-use Rattle.std.proofs.Common.{◌≡◌, ◌≢◌, ℕ, zero, suc, ◌+◌, ◌<◌, ◌≤◌, Bool, not, ◌&&◌, List, [], ◌∷◌, length, set, replicate, refl, sym, ap, subst, ◌∙◌, inl, inr, arith}
-use Rattle.std.specs.Prelude.{IsTrue, ◌==◌, nat_le}
-use Rattle.std.proofs.lemmas.Bool.{or_cases, and_parts, eq-eqb, le-leb, leb-true, not-true, both_ways, cases_eq, cases_lt}
+use Rattle.std.proofs.Common.{◌≡◌, ◌≢◌, ℕ, zero, suc, ◌<◌, ◌≤◌, Bool, false, List, [], ◌∷◌, length, set, replicate, refl, sym, ap, subst, ◌∙◌, inl, inr, arith}
+use Rattle.std.specs.Prelude.{IsTrue, None}
+use Rattle.std.proofs.lemmas.Bool.{cases_eq, cases_lt, both_ways}
 use Rattle.std.proofs.lemmas.List.{length-set, get_or-set_same, get_or-set_other, get_or-replicate, length-replicate, get_or_past}
-use Rattle.mono_graph.specs.Digraph.{Digraph, present, edge_at}
-use Rattle.mono_paths.specs.declared.visit.Visit.{Visit}
-use Rattle.mono_paths.specs.Trails.{visit_at, first_visit, IsTrail}
-use Rattle.mono_paths.specs.Spread.{label_of, IsTight, IsSpread, AreLabels, waits_after}
+use Rattle.mono_graph.specs.Digraph.{Digraph, edge_at, HasEnds, no_edge}
 use Rattle.mono_graph.specs.declared.limit.Limit.{Limit}
-
--- what a search keeps from one visit to the next
-pub record Searching (g : Digraph) (P : List Bool) (limit : Limit) (u v cap : ℕ) (labels : List ℕ) (vs : List Visit) : Type 0 where
-  pub trail : IsTrail g P limit vs
-  pub ok : AreLabels g labels vs
-  pub first : (visit_at vs 0).node ≡ u
-  pub goal : label_of labels v ≡ cap
-  pub most : (w : ℕ) → label_of labels w ≤ cap
+use Rattle.mono_paths.specs.declared.visit.Visit.{Visit}
+use Rattle.mono_paths.specs.declared.waiting.Waiting.{Waiting}
+use Rattle.mono_paths.specs.declared.search.Search.{Search}
+use Rattle.mono_paths.specs.Trails.{visit_at, first_visit, IsTrail}
+use Rattle.mono_paths.specs.NodeLabels.{NodeLabels}
+use Rattle.mono_paths.specs.Spread.{label_of, IsTight, AreTight, IsSpread, AreLabels, waits_after}
+use Rattle.mono_paths.specs.Queues.{is_waiting, IsWithin, IsTaken, Takes, Adds}
+use Rattle.mono_paths.specs.Searches.{IsSearch}
+use Rattle.mono_paths.proofs.Queued.{waits_once_added}
 
 -- visits that waited wait on where the new test passes whatever the old one does
-pub waits_on : (g : Digraph) (P : List Bool) (limit : Limit) (labels : List ℕ) (vs : List Visit) (p q : ℕ → Bool) → ((i : ℕ) → i < length vs → IsTrue (p i) → IsTrue (q i))
+waits_on : (g : Digraph) (P : List Bool) (limit : Limit) (labels : List ℕ) (vs : List Visit) (p q : ℕ → Bool) → ((i : ℕ) → i < length vs → IsTrue (p i) → IsTrue (q i))
     → IsSpread g P limit labels vs p → IsSpread g P limit labels vs q
 waits_on g P limit labels vs p q h s = record {
   each = λ k lt here. elim (s.each k lt here) [
@@ -28,81 +26,111 @@ waits_on g P limit labels vs p q h s = record {
 }
 
 -- where no visit waits every edge is tight
-pub none_waits : (g : Digraph) (P : List Bool) (limit : Limit) (labels : List ℕ) (vs : List Visit) (p : ℕ → Bool) → ((i : ℕ) → i < length vs → IsTrue (p i) → ⊥)
-    → IsSpread g P limit labels vs p → (k : ℕ) → k < length g.edges → IsTrue (present P k) → IsTight g limit labels k
-none_waits g P limit labels vs p h s k lt here = elim (s.each k lt here) [
-  | inl t ↦ t
-  | inr w ↦ absurd (h w.0 w.1 w.2)
-]
+pub none_waits : (g : Digraph) (P : List Bool) (limit : Limit) (s : Search) → ((i : ℕ) → i < length s.visits.items → is_waiting s.waiting i ≡ false) → IsSearch g P limit s → AreTight g P limit s.labels.each
+none_waits g P limit s none search = record {
+  each = λ k lt here. elim (search.spread.each k lt here) [
+    | inl t ↦ t
+    | inr w ↦ absurd (both_ways (is_waiting s.waiting w.0) (none w.0 w.1) w.2)
+  ];
+}
 
-pub next_in_order : (head n i : ℕ) → head < n → IsTrue (waits_after (λ j. nat_le head j) head n i) → IsTrue (nat_le (head + 1) i)
-next_in_order head n i lt h = elim (or_cases (nat_le head i && not (i == head)) (nat_le n i) h) [
-  | inl old ↦
-      let parts = and_parts (nat_le head i) (not (i == head)) old in
-      let le : head ≤ i = leb-true head i parts.0 in
-      elim (cases_eq i head) [
-        | inl e ↦ absurd (both_ways (i == head) (not-true (i == head) parts.1) (eq-eqb i head e))
-        | inr ne ↦ le-leb (head + 1) i (omega arith)
-      ]
-  | inr new ↦ let le : n ≤ i = leb-true n i new in le-leb (head + 1) i (omega arith)
-]
+pub search_over : (g : Digraph) (P : List Bool) (limit : Limit) (old new : Search) → new.labels ≡ old.labels → new.visits.items ≡ old.visits.items
+    → IsTaken old.waiting new.waiting (length old.visits.items) None → IsSearch g P limit old → IsSearch g P limit new
+search_over g P limit old new labels visits none search =
+    let tight = none_waits g P limit old none.1 search in
+    record {
+      trail = subst (λ (vs : List Visit). IsTrail g P limit vs) (sym visits) search.trail;
+      labelled =
+          subst (λ (vs : List Visit). AreLabels g new.labels.cap new.labels.each vs) (sym visits)
+          (subst (λ (l : NodeLabels). AreLabels g l.cap l.each old.visits.items) (sym labels) search.labelled);
+      spread = record { each = λ k lt here. inl (subst (λ (l : NodeLabels). IsTight g limit l.each k) (sym labels) (tight.each k lt here)) };
+      within = subst (λ (vs : List Visit). IsWithin new.waiting (length vs)) (sym visits) none.0;
+    }
 
-first_labels : (n u cap w : ℕ) → (w ≢ u) → w < n → label_of (set (replicate n cap) u 0) w ≡ cap
-first_labels n u cap w other lt = get_or-set_other (replicate n cap) u w 0 0 other ∙ get_or-replicate n w cap 0 lt
+-- ---- the start
 
-first_most : (n u cap w : ℕ) → u < n → label_of (set (replicate n cap) u 0) w ≤ cap
+abbrev first_labels : ℕ → ℕ → ℕ → List ℕ
+first_labels n u cap = set (replicate n cap) u 0
+
+label_there : (n u cap : ℕ) → u < n → label_of (first_labels n u cap) u ≡ 0
+label_there n u cap lt = get_or-set_same (replicate n cap) u 0 0 (omega (arith, length-replicate n cap))
+
+label_elsewhere : (n u cap w : ℕ) → (w ≢ u) → w < n → label_of (first_labels n u cap) w ≡ cap
+label_elsewhere n u cap w other lt = get_or-set_other (replicate n cap) u w 0 0 other ∙ get_or-replicate n w cap 0 lt
+
+first_most : (n u cap w : ℕ) → u < n → label_of (first_labels n u cap) w ≤ cap
 first_most n u cap w lt = elim (cases_eq w u) [
-  | inl e ↦ subst (λ (x : ℕ). label_of (set (replicate n cap) u 0) x ≤ cap) (sym e) (omega (arith, get_or-set_same (replicate n cap) u 0 0 (omega (arith, length-replicate n cap))))
+  | inl e ↦ subst (λ (x : ℕ). label_of (first_labels n u cap) x ≤ cap) (sym e) (omega (arith, label_there n u cap lt))
   | inr other ↦ elim (cases_lt w n) [
-    | inl low ↦ omega (arith, first_labels n u cap w other low)
-    | inr past ↦ omega (arith, get_or_past (set (replicate n cap) u 0) w 0 (omega (arith, length-set (replicate n cap) u 0, length-replicate n cap)))
+    | inl low ↦ omega (arith, label_elsewhere n u cap w other low)
+    | inr past ↦ omega (arith, get_or_past (first_labels n u cap) w 0 (omega (arith, length-set (replicate n cap) u 0, length-replicate n cap)))
   ]
 ]
 
-pub searching : (g : Digraph) (P : List Bool) (limit : Limit) (u v cap : ℕ) → u < g.nodes → v < g.nodes → (u ≢ v)
-    → Searching g P limit u v cap (set (replicate g.nodes cap) u 0) (first_visit u ∷ [])
-searching g P limit u v cap u-in v-in apart =
-    let zeroed : label_of (set (replicate g.nodes cap) u 0) u ≡ 0 = get_or-set_same (replicate g.nodes cap) u 0 0 (omega (arith, length-replicate g.nodes cap)) in
-    record {
-      trail = record {
-        some = omega arith;
-        start = refl;
-        nodes = λ i lt. only i lt;
-        steps = λ i pos lt. absurd (omega arith);
-      };
-      ok = record { len = length-set (replicate g.nodes cap) u 0 ∙ length-replicate g.nodes cap; start = zeroed };
-      first = refl;
-      goal = first_labels g.nodes u cap v (λ e. apart (sym e)) v-in;
-      most = λ w. first_most g.nodes u cap w u-in;
-    }
+first_trail : (g : Digraph) (P : List Bool) (limit : Limit) (u : ℕ) → u < g.nodes → IsTrail g P limit (first_visit u ∷ [])
+first_trail g P limit u u-in = record {
+  some = omega arith;
+  start = refl;
+  nodes = λ i lt. only i lt;
+  steps = λ i pos lt. absurd (omega arith);
+}
   where
     only : (i : ℕ) → i < 1 → (visit_at (first_visit u ∷ []) i).node < g.nodes
     only zero lt = u-in
     only (suc i) lt = absurd (omega arith)
 
-pub searching_spread : (g : Digraph) (P : List Bool) (limit : Limit) (u cap : ℕ) (p : ℕ → Bool) → u < g.nodes → ((k : ℕ) → k < length g.edges → (edge_at g k).from < g.nodes) → IsTrue (p 0)
-    → IsSpread g P limit (set (replicate g.nodes cap) u 0) (first_visit u ∷ []) p
-searching_spread g P limit u cap p u-in inside waits = record {
-  each = λ k lt here. elim (cases_eq (edge_at g k).from u) [
-    | inl e ↦ inr (
-      0,
-      omega arith,
-      waits,
-      sym e,
-      sym (ap (λ (w : ℕ). label_of (set (replicate g.nodes cap) u 0) w) e ∙ get_or-set_same (replicate g.nodes cap) u 0 0 (omega (arith, length-replicate g.nodes cap))),
-    )
-    | inr other ↦ inl (omega (arith, first_most g.nodes u cap (edge_at g k).to u-in, first_labels g.nodes u cap (edge_at g k).from other (inside k lt)))
+first_are_labels : (g : Digraph) (u cap : ℕ) → u < g.nodes → AreLabels g cap (first_labels g.nodes u cap) (first_visit u ∷ [])
+first_are_labels g u cap u-in = record {
+  len = length-set (replicate g.nodes cap) u 0 ∙ length-replicate g.nodes cap;
+  start = label_there g.nodes u cap u-in;
+  most = λ w. first_most g.nodes u cap w u-in;
+  made = λ w w-in low. elim (cases_eq w u) [
+    | inl e ↦ (0, omega arith, sym e, sym (ap (λ (x : ℕ). label_of (first_labels g.nodes u cap) x) e ∙ label_there g.nodes u cap u-in))
+    | inr other ↦ absurd (omega (arith, label_elsewhere g.nodes u cap w other w-in))
   ];
 }
 
--- a search goes on after the edges of one more node
-pub search_more : (g : Digraph) (P : List Bool) (limit : Limit) (u v cap : ℕ) (labels new : List ℕ) (vs ws : List Visit) → Searching g P limit u v cap labels vs
-    → IsTrail g P limit ws → AreLabels g new ws → visit_at ws 0 ≡ visit_at vs 0 → label_of new v ≡ label_of labels v → ((w : ℕ) → label_of new w ≤ label_of labels w)
-    → Searching g P limit u v cap new ws
-search_more g P limit u v cap labels new vs ws s trail ok first goal lower = record {
-  trail = trail;
-  ok = ok;
-  first = ap (λ (w : Visit). w.node) first ∙ s.first;
-  goal = goal ∙ s.goal;
-  most = λ w. let a = lower w in let b = s.most w in omega arith;
+first_spread : (g : Digraph) (P : List Bool) (limit : Limit) (u cap : ℕ) (p : ℕ → Bool) → HasEnds g → u < g.nodes → IsTrue (p 0) → IsSpread g P limit (first_labels g.nodes u cap) (first_visit u ∷ []) p
+first_spread g P limit u cap p ends u-in waits = record {
+  each = λ k lt here. elim (cases_eq (edge_at g k).from u) [
+    | inl e ↦ inr (0, omega arith, waits, sym e, sym (ap (λ (w : ℕ). label_of (first_labels g.nodes u cap) w) e ∙ label_there g.nodes u cap u-in))
+    | inr other ↦ inl (omega (arith, first_most g.nodes u cap (edge_at g k).to u-in, label_elsewhere g.nodes u cap (edge_at g k).from other (ends k no_edge lt).0))
+  ];
 }
+
+pub search_begun : (g : Digraph) (P : List Bool) (limit : Limit) (u cap : ℕ) (s : Search) (w : Waiting) → HasEnds g → u < g.nodes
+    → s.labels.cap ≡ cap → s.labels.each ≡ set (replicate g.nodes cap) u 0 → s.visits.items ≡ first_visit u ∷ [] → Adds w s.waiting 0 (length s.visits.items) → IsSearch g P limit s
+search_begun g P limit u cap s w ends u-in at_cap labels visits added = record {
+  trail = subst (λ (vs : List Visit). IsTrail g P limit vs) (sym visits) (first_trail g P limit u u-in);
+  labelled =
+      subst (λ (c : ℕ). AreLabels g c s.labels.each s.visits.items) (sym at_cap)
+      (subst (λ (ls : List ℕ). AreLabels g cap ls s.visits.items) (sym labels)
+      (subst (λ (vs : List Visit). AreLabels g cap (first_labels g.nodes u cap) vs) (sym visits) (first_are_labels g u cap u-in)));
+  spread =
+      subst (λ (ls : List ℕ). IsSpread g P limit ls s.visits.items (is_waiting s.waiting)) (sym labels)
+      (subst (λ (vs : List Visit). IsSpread g P limit (first_labels g.nodes u cap) vs (is_waiting s.waiting)) (sym visits)
+      (first_spread g P limit u cap (is_waiting s.waiting) ends u-in (added.new_wait 0 (omega arith) (let one : length s.visits.items ≡ 1 = ap length visits in omega arith))));
+  within = added.within;
+}
+
+-- ---- one visit more
+
+pub search_more : (g : Digraph) (P : List Bool) (limit : Limit) (old new : Search) (mid : Waiting) (at : ℕ) → Takes old.waiting mid (length old.visits.items) at
+    → new.labels.cap ≡ old.labels.cap → IsTrail g P limit new.visits.items → AreLabels g old.labels.cap new.labels.each new.visits.items
+    → ((waits : ℕ → Bool) → IsSpread g P limit old.labels.each old.visits.items waits → IsSpread g P limit new.labels.each new.visits.items (waits_after waits at (length old.visits.items)))
+    → Adds mid new.waiting (length old.visits.items) (length new.visits.items) → IsSearch g P limit old → IsSearch g P limit new
+search_more g P limit old new mid at taken cap trail labelled spread added search = record {
+  trail = trail;
+  labelled = subst (λ (c : ℕ). AreLabels g c new.labels.each new.visits.items) (sym cap) labelled;
+  spread =
+      waits_on g P limit new.labels.each new.visits.items (waits_after (is_waiting old.waiting) at (length old.visits.items)) (is_waiting new.waiting)
+      (λ i lt h. waits_once_added old.waiting mid new.waiting at (length old.visits.items) (length new.visits.items) i taken added lt h)
+      (spread (is_waiting old.waiting) search.spread);
+  within = added.within;
+}
+
+-- ---- the visit of a node
+
+-- a visit up to this one is of the node, at this cost
+abbrev pub IsVisitedBy : List Visit → ℕ → ℕ → ℕ → Type 0
+IsVisitedBy vs u n at = (i : ℕ) × (i ≤ at) × ((visit_at vs i).node ≡ u) × ((visit_at vs i).cost ≡ n)

@@ -6,4 +6,6 @@ pub mod Trails
 pub mod Spread
 pub mod NodeLabels
 pub mod Reaches
+pub mod Searches
 pub mod Queues
+pub mod Asked

@@ -3,17 +3,17 @@
 //! A finder has labels for the nodes of a graph, a list of visits and a heap. A search takes back what the one before left,
 //! in proportion to what that one reached. So a search costs the edges that it reaches, and not the graph.
 
-ghost use Rattle.std.specs.Prelude.{◌≡◌, ◌<◌, IfOk};
+ghost use Rattle.std.specs.Prelude.{◌≡◌, ◌<◌, All, IfOk};
+ghost use Rattle.mono_paths.specs.Asked.{IsTarget, AreAnswers};
 ghost use Rattle.mono_graph.specs.Digraph.{IsPartOf};
 ghost use Rattle.mono_paths.specs.Found.{IsPathOrCut, IsPathOrLabels, HasKnownNames, HasKnownLabels, HasBound};
 
+use crate::asked::which_are_reached;
 use crate::find::{PathOrCut, PathOrLabels, path_or_cut, path_or_labels};
-use crate::labels::Labels;
-use crate::queue::Pending;
-use crate::visit::Visit;
+use crate::search::Search;
+use crate::{Measure, Target};
 use mono_graph::{Graph, Limit, Part};
 use std::alloc::{AllocError, Global};
-use std::collections::BinaryHeap;
 use std::marker::Model;
 
 /// Finds walks in graphs with some number of nodes. Contracts see that number.
@@ -22,9 +22,7 @@ use std::marker::Model;
 /// after one that found no memory.
 #[derive(Drop)]
 pub struct WalkFinder {
-    labels: Labels,
-    visits: Vec<Visit>,
-    queue: BinaryHeap<Pending>,
+    search: Search,
 }
 
 impl Model for WalkFinder {
@@ -32,7 +30,7 @@ impl Model for WalkFinder {
 
     ghost Value = { ℕ };
 
-    ghost view = { λ f. length f.labels.each };
+    ghost view = { λ f. length f.search.labels.each };
 }
 
 impl WalkFinder {
@@ -41,9 +39,7 @@ impl WalkFinder {
         ensures { IfOk result (λ finder. finder ≡ nodes) }
     {
         Ok(WalkFinder {
-            labels: Labels::new(alloc, nodes)?,
-            visits: Vec::new(alloc),
-            queue: BinaryHeap::new(alloc),
+            search: Search::new(alloc, nodes)?,
         })
     }
 
@@ -63,17 +59,8 @@ impl WalkFinder {
         ensures known { IfOk result (HasKnownNames graph.now) }
         ensures finder { self.new ≡ self.old }
     {
-        let alloc = *self.visits.allocator();
-        path_or_cut(
-            alloc,
-            graph,
-            part,
-            from,
-            to,
-            &mut self.labels,
-            &mut self.visits,
-            &mut self.queue,
-        )
+        let alloc = *self.search.visits.allocator();
+        path_or_cut(alloc, &mut self.search, graph, part, from, to)
     }
 
     /// What [`find_light`] gives.
@@ -94,18 +81,31 @@ impl WalkFinder {
         ensures known { IfOk result (HasKnownLabels graph.now) }
         ensures finder { self.new ≡ self.old }
     {
-        let alloc = *self.visits.allocator();
-        path_or_labels(
-            alloc,
-            graph,
-            part,
-            from,
-            to,
-            limit,
-            &mut self.labels,
-            &mut self.visits,
-            &mut self.queue,
-        )
+        let alloc = *self.search.visits.allocator();
+        path_or_labels(alloc, &mut self.search, graph, part, from, to, limit)
+    }
+
+    /// Which of the targets a walk from `from` leads to, each within its own bound: one answer for each, in their order.
+    ///
+    /// One search answers for all of them. It goes only as far as the targets need, and no further than the greatest
+    /// bound.
+    pub fn which_are_reached(
+        &mut self,
+        graph: &Graph,
+        part: &Part,
+        from: u32,
+        measure: Measure,
+        targets: &[Target],
+    ) -> Result<Vec<bool>, AllocError>
+        requires finder { self.old ≡ graph.now.nodes }
+        requires part { IsPartOf part.now graph.now }
+        requires from { from < graph.now.nodes }
+        requires targets { All (IsTarget graph.now) targets.now }
+        ensures answers { IfOk result (λ answers. AreAnswers graph.now part.now measure from targets.now answers.items) }
+        ensures finder { self.new ≡ self.old }
+    {
+        let alloc = *self.search.visits.allocator();
+        which_are_reached(alloc, &mut self.search, graph, part, from, measure, targets)
     }
 }
 

@@ -1,24 +1,31 @@
 //! Searches that lower labels until a node is reached or no edge lowers any.
 //!
 //! The label of a node is what the cheapest walk found so far costs. At first that of the start is 0 and each other is
-//! the cap: one more than the bound, so that a node at the cap isn't reached within it. What both searches keep is that
-//! along each present edge the label rises by at most what the edge costs, or a visit that has the label of the edge's
-//! start still waits. So the order in which visits are taken matters for the time alone: as they were made where each
-//! edge counts the same (breadth first), and by cost where edges have weights (Dijkstra's method, with std's heap).
+//! the cap: one more than the greatest bound that is asked about, so that a node at the cap isn't reached within it. What
+//! a search keeps is that along each present edge the label rises by at most what the edge costs, or a visit that has
+//! the label of the edge's start still waits. So a search may stop after any visit and go on later.
 
-ghost use Rattle.std.specs.Prelude.{◌≡◌, ◌≢◌, ◌<◌, ◌∷◌, [], IfOk, length, replicate, slice_set};
-ghost use Rattle.std.specs.BinaryHeap.{heap_items};
+ghost use Rattle.std.specs.Prelude.{◌≡◌, ◌<◌, ◌≤◌, ◌∷◌, ◌==◌, ◌&&◌, [], ℕ, Bool, List, false, IfOk, IsTrue, length, replicate, slice_set, vec_len};
 ghost use Rattle.mono_graph.specs.Digraph.{IsPartOf};
-ghost use Rattle.mono_paths.specs.Trails.{first_visit};
-ghost use Rattle.mono_paths.specs.Reaches.{Reaches};
+ghost use Rattle.mono_paths.specs.Trails.{first_visit, visit_at, IsVisited};
+ghost use Rattle.mono_paths.specs.Spread.{label_of, AreTight};
+ghost use Rattle.mono_paths.specs.Reaches.{IsCheap};
+ghost use Rattle.mono_paths.specs.Searches.{IsSearch, source_of};
 
 use crate::labels::Labels;
-use crate::queue::{Pending, enqueue};
 use crate::spread::expand;
 use crate::visit::{Visit, walk_to};
+use crate::waiting::Waiting;
 use mono_graph::{Graph, Limit, Part};
 use std::alloc::{AllocError, Global};
-use std::collections::BinaryHeap;
+
+/// Labels, the visits that lowered them, and which of these wait.
+#[derive(Drop)]
+pub struct Search {
+    pub labels: Labels,
+    pub visits: Vec<Visit>,
+    pub waiting: Waiting,
+}
 
 /// Sets the labels to the cap and that of the start to 0, and makes the one visit there.
 fn begin(
@@ -46,107 +53,109 @@ fn begin(
     Ok(())
 }
 
-/// Takes visits in the order in which they were made. A walk that costs less than the cap, or none: then the labels are
-/// final.
-fn search_in_order(
-    alloc: Global,
-    graph: &Graph,
-    part: &Part,
-    limit: Limit,
-    from: u32,
-    to: u32,
-    cap: u64,
-    labels: &mut Labels,
-    visits: &mut Vec<Visit>,
-) -> Result<Option<Vec<u32>>, AllocError>
-    requires part { IsPartOf part.now graph.now }
-    requires from { from < graph.now.nodes }
-    requires to { to < graph.now.nodes }
-    requires apart { from ≢ to }
-    requires cap { 0 < cap }
-    requires labels { length labels.old.each ≡ graph.now.nodes }
-    ensures len { length labels.new.each ≡ length labels.old.each }
-    ensures reaches { IfOk result (λ walk. Reaches graph.now part.now limit from to cap walk labels.new) }
+/// Whether the visit is of this node, at this cost.
+fn is_visit_of(visit: Visit, node: u32, cost: u64) -> bool
+    ensures { result ≡ (visit.node == node && visit.cost == cost) }
 {
-    // The edges of a graph lead between its nodes.
-    let _ = graph.nodes();
-    begin(labels, visits, from, cap)?;
-    let mut head = 0;
-    while head < visits.len() {
-        if expand(graph, part, limit, to, labels, visits, head)? {
-            let walk = walk_to(alloc, graph, part, limit, visits, visits.len() - 1)?;
-            return Ok(Some(walk));
-        }
-        head += 1;
-    }
-    Ok(None)
+    visit.node == node && visit.cost == cost
 }
 
-/// Takes the visits with the least cost first. A walk that costs less than the cap, or none: then the labels are final.
-fn search_by_cost(
-    alloc: Global,
-    graph: &Graph,
-    part: &Part,
-    limit: Limit,
-    from: u32,
-    to: u32,
-    cap: u64,
-    labels: &mut Labels,
-    visits: &mut Vec<Visit>,
-    queue: &mut BinaryHeap<Pending>,
-) -> Result<Option<Vec<u32>>, AllocError>
-    requires part { IsPartOf part.now graph.now }
-    requires from { from < graph.now.nodes }
-    requires to { to < graph.now.nodes }
-    requires apart { from ≢ to }
-    requires cap { 0 < cap }
-    requires labels { length labels.old.each ≡ graph.now.nodes }
-    ensures len { length labels.new.each ≡ length labels.old.each }
-    ensures reaches { IfOk result (λ walk. Reaches graph.now part.now limit from to cap walk labels.new) }
+/// The last visit of a node at this cost, of which there is one.
+fn last_visit(visits: &[Visit], node: u32, cost: u64) -> usize
+    requires { IsVisited visits.now node cost }
+    ensures known { result < length visits.now }
+    ensures node { (visit_at visits.now result).node ≡ node }
+    ensures cost { (visit_at visits.now result).cost ≡ cost }
 {
-    // The edges of a graph lead between its nodes.
-    let _ = graph.nodes();
-    begin(labels, visits, from, cap)?;
-    queue.clear();
-    enqueue(queue, visits, 0, cap)?;
-    while let Some(next) = queue.pop() {
-        let first = visits.len();
-        if expand(graph, part, limit, to, labels, visits, next.visit)? {
-            let walk = walk_to(alloc, graph, part, limit, visits, visits.len() - 1)?;
-            return Ok(Some(walk));
-        }
-        enqueue(queue, visits, first, cap)?;
+    let mut at = visits.len() - 1;
+    while !is_visit_of(visits[at], node, cost) {
+        at -= 1;
     }
-    Ok(None)
+    at
 }
 
-/// Takes the visits with the least cost first where edges have weights, and otherwise in the order in which they were
-/// made. A walk that costs less than the cap, or none: then the labels are final.
-pub fn search_from(
-    alloc: Global,
-    graph: &Graph,
-    part: &Part,
-    limit: Limit,
-    from: u32,
-    to: u32,
-    cap: u64,
-    labels: &mut Labels,
-    visits: &mut Vec<Visit>,
-    queue: &mut BinaryHeap<Pending>,
-) -> Result<Option<Vec<u32>>, AllocError>
-    requires part { IsPartOf part.now graph.now }
-    requires from { from < graph.now.nodes }
-    requires to { to < graph.now.nodes }
-    requires apart { from ≢ to }
-    requires cap { 0 < cap }
-    requires labels { length labels.old.each ≡ graph.now.nodes }
-    ensures len { length labels.new.each ≡ length labels.old.each }
-    ensures reaches { IfOk result (λ walk. Reaches graph.now part.now limit from to cap walk labels.new) }
-{
-    match limit {
-        Limit::Weight(_) => search_by_cost(
-            alloc, graph, part, limit, from, to, cap, labels, visits, queue,
-        ),
-        _ => search_in_order(alloc, graph, part, limit, from, to, cap, labels, visits),
+impl Search {
+    /// A search in graphs with this many nodes, to be begun.
+    pub fn new(alloc: Global, nodes: u32) -> Result<Self, AllocError>
+        ensures { IfOk result (λ search. length search.labels.each ≡ nodes) }
+    {
+        Ok(Search {
+            labels: Labels::new(alloc, nodes)?,
+            visits: Vec::new(alloc),
+            waiting: Waiting::new(alloc),
+        })
+    }
+
+    /// Begins anew, from a node. What the search before left is taken back, in proportion to what that one reached.
+    pub fn begin(
+        &mut self,
+        graph: &Graph,
+        limit: Limit,
+        from: u32,
+        cap: u64,
+    ) -> Result<(), AllocError>
+        requires from { from < graph.now.nodes }
+        requires cap { 0 < cap }
+        requires labels { length self.old.labels.each ≡ graph.now.nodes }
+        ensures len { length self.new.labels.each ≡ length self.old.labels.each }
+        ensures cap { self.new.labels.cap ≡ cap }
+        ensures source { IfOk result (λ _. source_of self.new ≡ from) }
+        ensures begun { IfOk result (λ _. (P : List Bool) → IsSearch graph.now P limit self.new) }
+    {
+        // The edges of a graph lead between its nodes.
+        let _ = graph.nodes();
+        begin(&mut self.labels, &mut self.visits, from, cap)?;
+        self.waiting.clear(matches!(limit, Limit::Weight(_)));
+        self.waiting.add(&self.visits, 0)?;
+        Ok(())
+    }
+
+    /// Goes on until a walk to the node costs at most so much, or no visit waits. Whether there is such a walk.
+    pub fn goes_to(
+        &mut self,
+        graph: &Graph,
+        part: &Part,
+        limit: Limit,
+        to: u32,
+        most: u64,
+    ) -> Result<bool, AllocError>
+        requires part { IsPartOf part.now graph.now }
+        requires to { to < graph.now.nodes }
+        requires search { IsSearch graph.now part.now limit self.old }
+        ensures len { length self.new.labels.each ≡ length self.old.labels.each }
+        ensures cap { self.new.labels.cap ≡ self.old.labels.cap }
+        ensures source { IfOk result (λ _. source_of self.new ≡ source_of self.old) }
+        ensures search { IfOk result (λ _. IsSearch graph.now part.now limit self.new) }
+        ensures found { IfOk result (λ found. IsTrue found → label_of self.new.labels.each to ≤ most) }
+        ensures above { IfOk result (λ found. found ≡ false → most < label_of self.new.labels.each to) }
+        ensures tight { IfOk result (λ found. found ≡ false → AreTight graph.now part.now limit self.new.labels.each) }
+    {
+        while self.labels.get(to) > most {
+            let first = self.visits.len();
+            let Some(at) = self.waiting.take(first) else {
+                return Ok(false);
+            };
+            expand(graph, part, limit, &mut self.labels, &mut self.visits, at)?;
+            self.waiting.add(&self.visits, first)?;
+        }
+        Ok(true)
+    }
+
+    /// The walk that gave a node its label, which is below the cap.
+    pub fn walk(
+        &self,
+        alloc: Global,
+        graph: &Graph,
+        part: &Part,
+        limit: Limit,
+        to: u32,
+    ) -> Result<Vec<u32>, AllocError>
+        requires to { to < graph.now.nodes }
+        requires search { IsSearch graph.now part.now limit self.now }
+        requires below { label_of self.now.labels.each to < self.now.labels.cap }
+        ensures { IfOk result (λ walk. IsCheap graph.now part.now limit (source_of self.now) to self.now.labels.cap walk.items) }
+    {
+        let last = last_visit(&self.visits, to, self.labels.get(to));
+        walk_to(alloc, graph, part, limit, &self.visits, last)
     }
 }

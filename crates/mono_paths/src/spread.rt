@@ -4,7 +4,7 @@ ghost use Rattle.std.specs.Prelude.{◌≡◌, ◌<◌, ◌≤◌, ◌+◌, ℕ,
 ghost use Rattle.mono_graph.specs.Digraph.{IsPartOf, edge_at, present};
 ghost use Rattle.mono_graph.specs.Walks.{cost_of as cost_by};
 ghost use Rattle.mono_paths.specs.Trails.{IsTrail, visit_at};
-ghost use Rattle.mono_paths.specs.Spread.{IsFoundAt, IsSpread, AreLabels, Lowers, label_of, waits_after};
+ghost use Rattle.mono_paths.specs.Spread.{IsSpread, AreLabels, Lowers, label_of, waits_after};
 
 use crate::labels::Labels;
 use crate::visit::Visit;
@@ -61,42 +61,35 @@ fn relax(
     Ok(true)
 }
 
-/// Looks at the edges of a visit's node, unless the node has a lower label by now. Whether it came to the node that is
-/// sought.
+/// Looks at the edges of a visit's node, unless the node has a lower label by now.
 pub fn expand(
     graph: &Graph,
     part: &Part,
     limit: Limit,
-    to: u32,
     labels: &mut Labels,
     visits: &mut Vec<Visit>,
     at: usize,
-) -> Result<bool, AllocError>
+) -> Result<(), AllocError>
     requires part { IsPartOf part.now graph.now }
     requires trail { IsTrail graph.now part.now limit visits.old.items }
     requires at { at < vec_len visits.old }
-    requires labels { AreLabels graph.now labels.old.each visits.old.items }
+    requires labels { AreLabels graph.now labels.old.cap labels.old.each visits.old.items }
     ensures cap { labels.new.cap ≡ labels.old.cap }
     ensures len { length labels.new.each ≡ length labels.old.each }
     ensures trail { IfOk result (λ _. IsTrail graph.now part.now limit visits.new.items) }
-    ensures labels { IfOk result (λ found. found ≡ false → AreLabels graph.now labels.new.each visits.new.items) }
+    ensures labels { IfOk result (λ _. AreLabels graph.now labels.old.cap labels.new.each visits.new.items) }
     ensures grows { IfOk result (λ _. vec_len visits.old ≤ vec_len visits.new) }
     ensures first { IfOk result (λ _. visit_at visits.new.items 0 ≡ visit_at visits.old.items 0) }
-    ensures found { IfOk result (λ found. IsTrue found → IsFoundAt to (label_of labels.old.each to) visits.new.items) }
-    ensures apart { IfOk result (λ found. found ≡ false → label_of labels.new.each to ≡ label_of labels.old.each to) }
-    ensures spread { IfOk result (λ found. found ≡ false → (waits : ℕ → Bool) → IsSpread graph.now part.now limit labels.old.each visits.old.items waits → IsSpread graph.now part.now limit labels.new.each visits.new.items (waits_after waits at (length visits.old.items))) }
-    ensures work { IfOk result (λ found. found ≡ false → sum labels.new.each + vec_len visits.new ≤ sum labels.old.each + vec_len visits.old) }
-    ensures lower { IfOk result (λ found. found ≡ false → (u : ℕ) → label_of labels.new.each u ≤ label_of labels.old.each u) }
+    ensures spread { IfOk result (λ _. (waits : ℕ → Bool) → IsSpread graph.now part.now limit labels.old.each visits.old.items waits → IsSpread graph.now part.now limit labels.new.each visits.new.items (waits_after waits at (length visits.old.items))) }
+    ensures work { IfOk result (λ _. sum labels.new.each + vec_len visits.new ≤ sum labels.old.each + vec_len visits.old) }
 {
     let visit = visits[at];
     if visit.cost != labels.get(visit.node) {
-        return Ok(false);
+        return Ok(());
     }
     let places = graph.leaving(visit.node);
     for place in places {
-        if relax(graph, part, limit, labels, visits, at, *place)? && graph.edge(*place).to == to {
-            return Ok(true);
-        }
+        relax(graph, part, limit, labels, visits, at, *place)?;
     }
-    Ok(false)
+    Ok(())
 }

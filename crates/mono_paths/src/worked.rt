@@ -7,9 +7,11 @@ ghost use Rattle.std.specs.declared.alloc.Global.{Global};
 ghost use Rattle.mono_graph.specs.Worked.{label, parallel, pipe, both, first_alone};
 ghost use Rattle.mono_graph.specs.declared.label.Label.{Label};
 ghost use Rattle.mono_paths.specs.Found.{IsPathOrCut, IsPathOrLabels, HasKnownNames, HasKnownLabels, HasBound, is_path_found, is_light_found};
+ghost use Rattle.mono_paths.specs.Asked.{limit_by, IsTarget, AreAnswers};
 ghost use Rattle.mono_paths.specs.declared.find.PathOrCut.TheVariants as any;
 ghost use Rattle.mono_paths.specs.declared.find.PathOrLabels.TheVariants as light;
 
+use crate::Measure;
 use mono_base::limits::{MAX_BOUND, MAX_WITNESS_VALUE};
 use mono_graph::Limit;
 
@@ -65,4 +67,29 @@ pub fn limits_with_bounds()
     ensures less_weight { HasBound (Limit.Weight (negsuc 1)) → ⊥ }
     ensures most_weight { HasBound (Limit.Weight (pos (MAX_BOUND))) }
     ensures more_weight { HasBound (Limit.Weight (pos (MAX_BOUND + 1))) → ⊥ }
+{}
+
+/// What is measured is what the limit counts.
+pub fn measures_are_limits()
+    ensures nothing { limit_by Measure.Nothing (pos 5) ≡ Limit.Free }
+    ensures edges { limit_by Measure.Edges (pos 5) ≡ Limit.Steps (pos 5) }
+    ensures weight { limit_by Measure.Weight (pos 5) ≡ Limit.Weight (pos 5) }
+{}
+
+/// A target is a node of the graph with a bound from -1 to the greatest.
+pub fn targets_are_nodes()
+    ensures last_node { IsTarget (pipe 1 1) (record { node = 2; most = negsuc 0 }) }
+    ensures no_node { IsTarget (pipe 1 1) (record { node = 3; most = pos 0 }) → ⊥ }
+    ensures less { IsTarget (pipe 1 1) (record { node = 2; most = negsuc 1 }) → ⊥ }
+    ensures most { IsTarget (pipe 1 1) (record { node = 2; most = pos (MAX_BOUND) }) }
+    ensures more { IsTarget (pipe 1 1) (record { node = 2; most = pos (MAX_BOUND + 1) }) → ⊥ }
+{}
+
+/// An answer is true exactly where a walk leads to its target within the bound, and there is one for each target.
+pub fn answers_are_exact()
+    ensures reached { AreAnswers (pipe 1 1) both Measure.Edges 0 (record { node = 1; most = pos 1 } ∷ []) (true ∷ []) }
+    ensures denied { AreAnswers (pipe 1 1) both Measure.Edges 0 (record { node = 1; most = pos 1 } ∷ []) (false ∷ []) → ⊥ }
+    ensures out_of_bound { AreAnswers (pipe 1 1) both Measure.Edges 0 (record { node = 1; most = negsuc 0 } ∷ []) (false ∷ []) }
+    ensures too_good { AreAnswers (pipe 1 1) both Measure.Edges 0 (record { node = 1; most = negsuc 0 } ∷ []) (true ∷ []) → ⊥ }
+    ensures too_few { AreAnswers (pipe 1 1) both Measure.Edges 0 (record { node = 1; most = pos 1 } ∷ []) [] → ⊥ }
 {}

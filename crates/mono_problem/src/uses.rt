@@ -1,7 +1,8 @@
 //! What each variable switches or stands for.
 //!
-//! The uses of all variables stand in one list, sorted by variable, so those of one variable are a slice of it that two
-//! binary searches find.
+//! The uses of all variables stand in one list, sorted by variable, so those of one variable are a slice of it. A binary
+//! search finds where it begins, and it ends where another variable comes: whoever asks for the uses of a variable goes
+//! over them anyway, and most variables have one.
 
 ghost use Rattle.std.specs.Prelude.{◌≡◌, ◌≤◌, ◌==◌, ℕ, IfOk, length, map, filter};
 ghost use Rattle.std.specs.List.Sorted.{IsNonDecreasingBy};
@@ -74,7 +75,10 @@ fn range_of(vars: &[u32], var: u32) -> (usize, usize)
     ensures within { result.1 ≤ length vars.now }
 {
     let start = vars.partition_point(|held| *held < var);
-    let end = vars.partition_point(|held| *held <= var);
+    let mut end = start;
+    while end < vars.len() && vars[end] == var {
+        end += 1;
+    }
     (start, end)
 }
 

@@ -68,23 +68,6 @@ impl Kind for Reach {
         Ok(Reach { finder, marks })
     }
 
-    fn holds(
-        &mut self,
-        alloc: Global,
-        graph: &Graph,
-        part: &Part,
-        predicate: Predicate,
-    ) -> Result<bool, AllocError> {
-        let _ = (alloc, graph.nodes());
-        let Predicate::Reach { from, to } = predicate else {
-            unreachable!()
-        };
-        match self.finder.find_path(graph, part, from, to)? {
-            PathOrCut::Path(_) => Ok(true),
-            PathOrCut::Cut(_) => Ok(false),
-        }
-    }
-
     fn evidence(
         &mut self,
         alloc: Global,

@@ -1,5 +1,5 @@
 -- Parts that have the same edges pass the same witnesses: the two that are kept, and the one that a clause leaves.
-use Rattle.std.proofs.Common.{◌≡◌, ℕ, ◌<◌, Bool, true, false, not, ◌&&◌, cond, List, [], ◌∷◌, length, Option, Some, None, refl, sym, ap, subst, ◌∙◌, ℤ, pos, neg_ℤ, arith}
+use Rattle.std.proofs.Common.{◌≡◌, ℕ, ◌<◌, Bool, true, false, not, ◌&&◌, cond, List, [], ◌∷◌, length, Some, None, refl, sym, ap, subst, ◌∙◌, ℤ, pos, neg_ℤ, arith}
 use Rattle.std.specs.Prelude.{IsTrue, if◌then◌else◌}
 use Rattle.mono_base.specs.Literal.{has_lit}
 use Rattle.mono_graph.specs.declared.edge.Edge.{Edge}
@@ -9,7 +9,6 @@ use Rattle.mono_graph.proofs.Parts.{in_part_by, length-part_by, part_by-has}
 use Rattle.mono_graph.proofs.Places.{present_below}
 use Rattle.mono_problem.specs.declared.atom.Atom.{Atom}
 use Rattle.mono_problem.specs.declared.atom.Predicate.{Predicate}
-use Rattle.mono_steps.specs.declared.fault.StepFault.{StepFault}
 use Rattle.mono_steps.specs.declared.fault.StepFault.TheVariants as fault
 use Rattle.mono_steps.specs.declared.lemma.Witness.{Witness}
 use Rattle.mono_steps.specs.Faults.{first_failed}

@@ -1,16 +1,15 @@
 -- Justified lemmas are true wherever the predicates agree with their graphs.
-use Rattle.std.proofs.Common.{◌≡◌, ℕ, zero, suc, ◌<◌, ◌≤◌, Bool, true, false, not, ◌&&◌, ◌==◌, List, [], ◌∷◌, ◌++◌, length, map, get_or, slice_get, Option, Some, None, refl, sym, subst, ◌∙◌, inl, inr, arith, ℤ, pos, neg_ℤ, nat_abs, ◌↔◌}
+use Rattle.std.proofs.Common.{◌≡◌, ℕ, zero, suc, ◌<◌, ◌≤◌, Bool, true, false, not, ◌&&◌, List, [], ◌∷◌, length, get_or, slice_get, Option, Some, None, refl, sym, subst, ◌∙◌, inl, inr, arith, ℤ, pos, neg_ℤ, nat_abs, ◌↔◌}
 use Rattle.std.specs.Prelude.{IsTrue, if◌then◌else◌, nat_le}
-use Rattle.std.proofs.lemmas.List.Folds.{list_all-append}
-use Rattle.std.proofs.lemmas.Bool.{and_parts, and_from, or_cases, leb-true, both_ways, not_from_false, true_from_ne_false, false_from_ne_true, eqb-true}
-use Rattle.mono_base.specs.Literal.{lit_true, clause_true, all_true, has_lit, var_of}
+use Rattle.std.proofs.lemmas.Bool.{and_parts, or_cases, leb-true, both_ways, not_from_false, true_from_ne_false, false_from_ne_true}
+use Rattle.mono_base.specs.Literal.{lit_true, clause_true, has_lit, var_of}
 use Rattle.mono_base.proofs.Truth.{true_by, same_lit, pos_true, neg_true}
 use Rattle.mono_graph.specs.Digraph.{Digraph, IsGraph, IsSubpart, enabled}
 use Rattle.mono_graph.proofs.Parts.{part_by-larger, length-part_by}
 use Rattle.mono_problem.specs.declared.atom.Atom.{Atom}
 use Rattle.mono_problem.specs.Instance.{Instance, graph_at, no_graph, numbered}
 use Rattle.mono_problem.specs.WellFormed.{IsInstance, IsOver}
-use Rattle.mono_problem.specs.Holds.{HoldsAtom, Agrees, Satisfies, HasNoModel}
+use Rattle.mono_problem.specs.Holds.{HoldsAtom, Agrees}
 use Rattle.mono_problem.proofs.Monotone.{Holds-larger}
 use Rattle.mono_steps.specs.declared.lemma.Lemma.{Lemma}
 use Rattle.mono_steps.specs.ChainSteps.{names_vars}

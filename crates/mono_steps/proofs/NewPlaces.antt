@@ -7,9 +7,9 @@ use Rattle.mono_problem.specs.Instance.{Instance}
 use Rattle.mono_steps.specs.declared.step.Chain.{Chain}
 use Rattle.mono_steps.specs.declared.step.Step.{Step}
 use Rattle.mono_steps.specs.declared.step.Step.TheVariants as step
-use Rattle.mono_steps.specs.Journals.{chain_clauses, known_clauses, has_no_empty}
-use Rattle.mono_steps.specs.New.{IsNewChain, HasNewChainsAfter, HasNewChains, AreNew}
-use Rattle.mono_steps.specs.Steps.{clause_of, clauses_after, is_full_chain}
+use Rattle.mono_steps.specs.Journals.{chain_clauses, has_no_empty}
+use Rattle.mono_steps.specs.New.{IsNewChain, HasNewChainsAfter, AreNew}
+use Rattle.mono_steps.specs.Steps.{clause_of, is_full_chain}
 use Rattle.mono_steps.proofs.LeftOpen.{not_empty}
 
 -- each chain is new after what stands before its place

@@ -1,5 +1,5 @@
 -- What unit propagation gives from assumptions that are true in a partial assignment, where every clause is quiet there.
-use Rattle.std.proofs.Common.{◌≡◌, Bool, false, not, ◌&&◌, ◌||◌, List, [], ◌∷◌, filter, map, sym, ap, subst, ◌∙◌, inl, inr, ℤ, refl}
+use Rattle.std.proofs.Common.{◌≡◌, false, not, ◌&&◌, ◌||◌, List, [], ◌∷◌, filter, map, sym, ap, subst, ◌∙◌, inl, inr, ℤ, refl}
 use Rattle.std.specs.Prelude.{IsTrue, neg_ℤ, pos}
 use Rattle.std.specs.Ordering.{int_eq}
 use Rattle.std.specs.List.{list_any}

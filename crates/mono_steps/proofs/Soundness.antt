@@ -1,9 +1,8 @@
 -- The clause of a justified chain is true wherever every clause before it is.
-use Rattle.std.proofs.Common.{◌≡◌, ℕ, suc, zero, Bool, true, ◌&&◌, ◌==◌, List, [], ◌∷◌, ◌++◌, length, map, Option, Some, None, refl, subst, ◌∙◌, ℤ, arith}
+use Rattle.std.proofs.Common.{◌≡◌, ℕ, suc, zero, Bool, ◌&&◌, List, [], ◌∷◌, Option, Some, None, refl, subst, ℤ}
 use Rattle.std.specs.Prelude.{IsTrue, slice_get}
 use Rattle.std.specs.List.{cons_option}
-use Rattle.std.proofs.lemmas.Bool.{and_parts, and_from, eqb-true}
-use Rattle.std.proofs.lemmas.List.Folds.{list_all-append}
+use Rattle.std.proofs.lemmas.Bool.{and_parts, and_from}
 use Rattle.mono_base.specs.Literal.{clause_true, all_true}
 use Rattle.mono_base.proofs.Truth.{wider}
 use Rattle.mono_problem.specs.Instance.{Instance, numbered}

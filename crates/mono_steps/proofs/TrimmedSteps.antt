@@ -1,9 +1,9 @@
 -- The needed steps of a refutation, renumbered, are a refutation.
-use Rattle.std.proofs.Common.{◌≡◌, ◌≢◌, ℕ, zero, suc, ◌+◌, ◌-◌, ◌<◌, ◌≤◌, Bool, true, false, ◌||◌, ◌&&◌, ◌==◌, cond, List, [], ◌∷◌, ◌++◌, length, map, get_or, filter_map, Option, Some, None, refl, sym, ap, subst, ◌∙◌, ◌⊎◌, inl, inr, ℤ, arith, length-append}
+use Rattle.std.proofs.Common.{◌≡◌, ℕ, suc, ◌+◌, ◌-◌, ◌<◌, ◌≤◌, Bool, true, false, ◌&&◌, ◌==◌, cond, List, [], ◌∷◌, ◌++◌, length, map, get_or, Option, Some, refl, sym, ap, subst, ◌∙◌, ◌⊎◌, inl, inr, ℤ, arith, length-append}
 use Rattle.std.specs.Prelude.{IsTrue, slice_get, nat_le, option_map}
-use Rattle.std.specs.List.{list_all, cons_option}
-use Rattle.std.proofs.lemmas.Bool.{and_parts, and_from, or_left, or_right, or_cases, eqb-true, eq-eqb, le-leb, leb-true, leb-false}
-use Rattle.std.proofs.lemmas.Option.{same_Some, slice_get-map}
+use Rattle.std.specs.List.{cons_option}
+use Rattle.std.proofs.lemmas.Bool.{and_parts, and_from, or_left, or_right, eq-eqb, le-leb, leb-true, leb-false}
+use Rattle.std.proofs.lemmas.Option.{slice_get-map}
 use Rattle.std.proofs.lemmas.List.{length-map}
 use Rattle.mono_problem.specs.Instance.{Instance, numbered}
 use Rattle.mono_steps.specs.declared.step.Chain.{Chain}
@@ -15,8 +15,7 @@ use Rattle.mono_steps.specs.Steps.{clause_of, is_justified_step, are_justified_a
 use Rattle.mono_steps.specs.Trimmed.{pick, rank, renumbered, renumber_step, trimmed_steps, has_number, names_step, IsNamedLater, IsTrimmed}
 use Rattle.mono_steps.specs.Needed.{is_set, IsNeeded}
 use Rattle.mono_steps.proofs.StepLists.{numbered_more, numbered_is}
-use Rattle.mono_steps.proofs.Ranks.{rank_step, rank_skip, rank_less, rank_mono, rank_zero, length_pick, pick_get, picked, has_mapped, renumbered_low, renumbered_high}
-use Rattle.mono_steps.proofs.NeededSteps.{same_or_other}
+use Rattle.mono_steps.proofs.Ranks.{rank_step, rank_skip, rank_less, rank_zero, length_pick, pick_get, picked, has_mapped, renumbered_low, renumbered_high}
 
 -- ---- a chain whose numbers are exchanged for others of the same clauses
 

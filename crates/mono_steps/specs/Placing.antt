@@ -2,7 +2,10 @@
 use Rattle.std.specs.Prelude.{◌≡◌, ℕ, ◌<◌, List, [], length, All, IsTrue}
 use Rattle.mono_graph.specs.declared.amount.Amount.{Amount}
 use Rattle.mono_graph.specs.Digraph.{Digraph}
+use Rattle.mono_graph.specs.declared.limit.Limit.{Limit}
+use Rattle.mono_graph.specs.declared.limit.Limit.TheVariants as limit
 use Rattle.mono_problem.specs.declared.atom.Predicate.{Predicate}
+use Rattle.mono_problem.specs.declared.atom.Predicate.TheVariants as kind
 use Rattle.mono_problem.specs.WellFormed.{IsOver}
 use Rattle.mono_steps.specs.declared.lemma.Witness.{Witness}
 use Rattle.mono_steps.specs.declared.lemma.Witness.TheVariants as by
@@ -32,3 +35,9 @@ pub record IsTestable (g : Digraph) (q : Predicate) (w : Witness) (p : PlacedEdg
   pub over : IsOver g q
   pub known : IsTrue (names_known g w)
   pub placed : ArePlaced g w p
+
+-- that a walk within the limit leads from u to v
+abbrev pub walk_predicate : ℕ → ℕ → Limit → Predicate
+walk_predicate u v limit.Free = kind.Reach u v
+walk_predicate u v (limit.Steps most) = kind.Steps u v most
+walk_predicate u v (limit.Weight most) = kind.Distance u v most

@@ -5,8 +5,12 @@ pub mod BoundLaws
 pub mod FrameLaws
 pub mod EvidenceLaws
 pub mod TheoryLaws
-pub mod PassedLaws
+pub mod ChangedLaws
 pub mod NumberLaws
 pub mod WalkedLaws
 pub mod RestingLaws
 pub mod JustifiedLaws
+pub mod StandingLaws
+pub mod WatchingLaws
+pub mod SideLaws
+pub mod KeptLaws

@@ -27,6 +27,24 @@ pub record IsRange (es : List Entry) (v start end : ℕ) : Type 0 where
   pub above : AllWithin (λ e. v < e.key) es end (length es)
   pub end_fits : end ≤ length es
 
+-- each place of the key stands in the range
+pub record InRange (es : List Entry) (start end k : ℕ) : Type 0 where
+  pub entry : ℕ
+  pub low : start ≤ entry
+  pub high : entry < end
+  pub is : (entry_at es entry).place ≡ k
+
+pub place_in_range : (keys : List ℕ) (es : List Entry) (v start end k : ℕ) → IsIndex keys es → IsRange es v start end → k < length keys → get_or keys k 0 ≡ v → InRange es start end k
+place_in_range keys es v start end k ix r lt e =
+    let (i, fits, p) = ix.each k lt in
+    let var : (entry_at es i).key ≡ v = (ix.known i no_entry fits).1 ∙ ap (λ j. get_or keys j 0) p ∙ e in
+    record {
+      entry = i;
+      low = elim (cases_lt i start) [ inl l ↦ (let h = r.below i no_entry (omega arith) l in absurd (omega (arith, h, var))) | inr ge ↦ ge ];
+      high = elim (cases_lt i end) [ inl l ↦ l | inr ge ↦ (let h = r.above i no_entry ge fits in absurd (omega (arith, h, var))) ];
+      is = p;
+    }
+
 pub switched_by : (keys : List ℕ) (es : List Entry) (v start end : ℕ) (on : Bool) (P Q : List Bool) → IsIndex keys es → IsRange es v start end
     → length P ≡ length keys → length Q ≡ length keys
     → ((i : ℕ) → start ≤ i → i < end → get_or Q (entry_at es i).place false ≡ on)

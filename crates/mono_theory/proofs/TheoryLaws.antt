@@ -1,10 +1,10 @@
 -- What atoms force and quiet is, and what the explanation of a forced literal is as a lemma.
-use Rattle.std.proofs.Common.{◌≡◌, ℕ, suc, ◌+◌, ◌<◌, Bool, true, false, not, List, [], ◌∷◌, cond, eqb, eq-eqb, refl, sym, ap, subst, ◌∙◌, ◌⊎◌, inl, inr, arith, ℤ, pos, neg_ℤ, All, length, take, get_or}
+use Rattle.std.proofs.Common.{◌≡◌, ℕ, suc, Bool, true, false, not, List, [], ◌∷◌, cond, eqb, eq-eqb, refl, sym, ap, subst, ◌∙◌, ◌⊎◌, inl, inr, arith, ℤ, pos, neg_ℤ, All, length, take}
 use Rattle.std.specs.Prelude.{IsTrue, Option, Some, None, MatchOption, Contains}
 use Rattle.std.specs.List.{list_any}
 use Rattle.std.specs.Ordering.{int_eq}
-use Rattle.std.proofs.lemmas.Bool.{both_ways, eqb-true, and_parts, and_from, not-true, not_from_false, cases_Bool, cases_lt}
-use Rattle.std.proofs.lemmas.List.{take_all, get_or_default}
+use Rattle.std.proofs.lemmas.Bool.{both_ways, eqb-true, and_parts, and_from, not-true, not_from_false, cases_Bool}
+use Rattle.std.proofs.lemmas.List.{take_all}
 use Rattle.std.proofs.lemmas.List.Folds.{list_any_at}
 use Rattle.mono_base.specs.Literal.{has_lit, without}
 use Rattle.mono_base.specs.Partial.{is_true_in, is_false_in, is_open_in, is_partial, others_false}
@@ -13,16 +13,12 @@ use Rattle.mono_base.proofs.Truth.{same_lit, at_each}
 use Rattle.mono_graph.specs.Digraph.{Digraph}
 use Rattle.mono_problem.specs.declared.atom.Atom.{Atom}
 use Rattle.mono_problem.specs.Quiet.{Forces, IsQuietAtom, TheoryQuiet, under, over}
-use Rattle.mono_problem.specs.Read.{no_atom}
+use Rattle.mono_problem.specs.Holds.{Holds}
 use Rattle.mono_steps.proofs.Sets.{has-without}
 use Rattle.mono_steps.specs.declared.lemma.Lemma.{Lemma}
 use Rattle.mono_steps.specs.Switching.{literal_of}
 use Rattle.mono_steps.specs.Witnesses.{is_shown}
-use Rattle.mono_theory.specs.Theories.{Facts, atom_of, IsLemmaOf, IsForced, ForceIs, IsLemmaFor}
-use Rattle.mono_theory.specs.declared.theory.Force.{Force}
-use Rattle.mono_theory.specs.declared.theory.Force.TheVariants as force
-use Rattle.mono_theory.specs.Evidences.{Decides}
-use Rattle.mono_theory.specs.Forced.{IsOverdue, IsBarred, NoneOverdue, NoneBarred, PassIs}
+use Rattle.mono_theory.specs.Theories.{atom_of, IsLemmaOf, IsForced, IsLemmaFor}
 
 -- ---- the atom of a number
 
@@ -46,20 +42,13 @@ own_var atoms n x e = let (k, lt, at) = (found_at atoms n x e).0 in list_any_at 
 forced_from : (g : Digraph) (atoms : List Atom) (t : List ℤ) (x : Atom) (l : ℤ) → atom_of atoms x.number ≡ Some x → Forces g x t l → is_true_in t l ≡ false → IsForced g atoms t x.number l
 forced_from g atoms t x l e h missing = record { forces = subst (λ (o : Option Atom). MatchOption o ⊥ (λ y. Forces g y t l)) (sym e) h; not_yet = missing }
 
--- an atom that is overdue forces its variable, and one that is barred the negation
-pub overdue_is_forced : (g : Digraph) (atoms : List Atom) (t : List ℤ) (x : Atom) → atom_of atoms x.number ≡ Some x → IsOverdue g t x true → IsForced g atoms t x.number (literal_of true x.var)
+-- an atom whose predicate holds with the surely present edges forces its variable, and one whose predicate fails with the
+-- possibly present ones the negation
+pub overdue_is_forced : (g : Digraph) (atoms : List Atom) (t : List ℤ) (x : Atom) → atom_of atoms x.number ≡ Some x → Holds g (under g t) x.predicate × (is_true_in t (pos x.var) ≡ false) → IsForced g atoms t x.number (literal_of true x.var)
 overdue_is_forced g atoms t x e h = forced_from g atoms t x (pos x.var) e (inl (refl, h.0)) h.1
 
-pub barred_is_forced : (g : Digraph) (atoms : List Atom) (t : List ℤ) (x : Atom) → atom_of atoms x.number ≡ Some x → IsBarred g t x true → IsForced g atoms t x.number (literal_of false x.var)
+pub barred_is_forced : (g : Digraph) (atoms : List Atom) (t : List ℤ) (x : Atom) → atom_of atoms x.number ≡ Some x → (¬ Holds g (over g t) x.predicate) × (is_false_in t (pos x.var) ≡ false) → IsForced g atoms t x.number (literal_of false x.var)
 barred_is_forced g atoms t x e h = forced_from g atoms t x (neg_ℤ (pos x.var)) e (inr (refl, h.0)) h.1
-
-pub overdue_by : (g : Digraph) (t : List ℤ) (x : Atom) (b : Bool) → is_true_in t (pos x.var) ≡ false → Decides g (under g t) x.predicate b → IsOverdue g t x b
-overdue_by g t x true e h = (h, e)
-overdue_by g t x false e h = λ holds. absurd (h holds)
-
-pub barred_by : (g : Digraph) (t : List ℤ) (x : Atom) (b : Bool) → is_false_in t (pos x.var) ≡ false → Decides g (over g t) x.predicate b → IsBarred g t x (not b)
-barred_by g t x true e h = λ free. h
-barred_by g t x false e h = (h, e)
 
 loud : (g : Digraph) (t : List ℤ) (x : Atom) (l : ℤ) → Forces g x t l → is_true_in t l ≡ false → IsQuietAtom g t x → ⊥
 loud g t x l (inl (e, holds)) missing q = both_ways (is_true_in t l) missing (subst (λ (m : ℤ). IsTrue (is_true_in t m)) (sym e) (q.0 holds))
@@ -71,36 +60,6 @@ forced_is_loud g atoms t n l u q = by (atom_of atoms n) refl u.forces
     by : (o : Option Atom) → atom_of atoms n ≡ o → MatchOption o ⊥ (λ x. Forces g x t l) → ⊥
     by None e f = f
     by (Some x) e f = loud g t x l f u.not_yet (of_found (IsQuietAtom g t) atoms n x q e)
-
--- ---- passes over the atoms
-
-pub none_overdue_more : (f : Facts) (n : ℕ) → n < length f.atoms → NoneOverdue f n → IsOverdue f.graph f.seen (get_or f.atoms n no_atom) false → NoneOverdue f (n + 1)
-none_overdue_more f n lt h this = record {
-  held = omega (arith, lt);
-  none = λ k below. elim (cases_lt k n) [
-    | inl l ↦ h.none k l
-    | inr ge ↦ (let same : n ≡ k = omega (arith, ge, below) in subst (λ (j : ℕ). IsOverdue f.graph f.seen (get_or f.atoms j no_atom) false) same this)
-  ];
-}
-
-pub none_barred_more : (f : Facts) (n : ℕ) → n < length f.atoms → NoneBarred f n → IsBarred f.graph f.seen (get_or f.atoms n no_atom) false → NoneBarred f (n + 1)
-none_barred_more f n lt h this = record {
-  held = omega (arith, lt);
-  none = λ k below. elim (cases_lt k n) [
-    | inl l ↦ h.none k l
-    | inr ge ↦ (let same : n ≡ k = omega (arith, ge, below) in subst (λ (j : ℕ). IsBarred f.graph f.seen (get_or f.atoms j no_atom) false) same this)
-  ];
-}
-
--- where no atom owes anything on either side, the theory is quiet
-pub quiet_where_passed : (f : Facts) (n m : ℕ) → NoneOverdue f n → n ≡ length f.atoms → NoneBarred f m → m ≡ length f.atoms → TheoryQuiet f.graph f.atoms f.seen
-quiet_where_passed f n m h en i em k d lt =
-    subst (IsQuietAtom f.graph f.seen) (get_or_default f.atoms k no_atom d lt) (h.none k (omega (arith, lt, en)), i.none k (omega (arith, lt, em)))
-
--- what the second pass answers is the answer, where the first came to the end
-pub pass_is_force : (f : Facts) (n m : ℕ) → NoneOverdue f n → n ≡ length f.atoms → NoneBarred f m → (r : Force) → PassIs f m r → ForceIs f.graph f.atoms f.seen r
-pass_is_force f n m h en i force.Quiet em = quiet_where_passed f n m h en i em
-pass_is_force f n m h en i (force.Literal a l) forced = forced
 
 -- ---- the lemma of a forced literal
 

@@ -2,8 +2,10 @@ pub mod Theories
 pub mod Index
 pub mod Bound
 pub mod Evidences
-pub mod Forced
 pub mod Frames
 pub mod Walked
 pub mod Resting
 pub mod Owners
+pub mod Standings
+pub mod Watching
+pub mod Supports

@@ -77,6 +77,13 @@ impl Bounds {
         self.vars.has(var)
     }
 
+    /// The variables by place.
+    pub(crate) fn vars(&self) -> &Index
+        ensures { result.now ≡ self.now.vars }
+    {
+        &self.vars
+    }
+
     /// The surely present edges.
     pub fn under(&self) -> &Part
         ensures part { result.now ≡ self.now.under }

@@ -22,7 +22,7 @@ pub struct Evidence {
 }
 
 /// Whether the witness shows that its predicate holds.
-fn is_positive(witness: &Witness) -> bool
+pub(crate) fn is_positive(witness: &Witness) -> bool
     ensures { result ≡ is_positive_witness witness.now }
 {
     matches!(

@@ -3,14 +3,16 @@
 //! The literals are over different variables that concern the theory, the two bounds are theirs, of the edges and of the
 //! atoms' own variables, and the list has room for one literal of each variable. So a literal comes without memory.
 
-ghost use Rattle.std.specs.Prelude.{◌≡◌, ◌==◌, ◌<◌, ◌≤◌, ◌++◌, ◌∷◌, ◌^◌, [], ℕ, pos, map, not, take, length, find, All, Some, IfOk, IsSome, IsTrue, slice_index_or, vec_len, vec_capacity};
+ghost use Rattle.std.specs.Prelude.{◌≡◌, ◌==◌, ◌<◌, ◌≤◌, ◌++◌, ◌∷◌, ◌^◌, [], ℕ, pos, map, not, false, take, length, find, All, Some, IfOk, IsSome, IsTrue, slice_index_or, vec_len, vec_capacity};
 ghost use Rattle.mono_base.specs.Literal.{var_of};
 ghost use Rattle.mono_base.specs.Partial.{is_true_in, is_false_in, is_open_in, is_partial};
 ghost use Rattle.mono_graph.specs.Digraph.{IsGraph, has};
 ghost use Rattle.mono_problem.specs.Quiet.{under as under_of, over as over_of};
 ghost use Rattle.mono_problem.specs.Read.{no_atom};
 ghost use Rattle.mono_theory.specs.Bound.{edge_vars, IsBoundOf};
+ghost use Rattle.mono_steps.specs.Switching.{literal_of};
 ghost use Rattle.mono_theory.specs.Frames.{atom_vars, atom_numbers};
+ghost use Rattle.mono_theory.specs.Supports.{IsSettled, part_of};
 
 use crate::index::Index;
 use crate::past::evidence_by;
@@ -119,13 +121,6 @@ impl Frame {
         })
     }
 
-    /// Whether an edge has the variable.
-    pub(crate) fn switches(&self, var: u32) -> bool
-        ensures { result ≡ has (edge_vars self.now.graph) var }
-    {
-        self.edges.has(var)
-    }
-
     /// Whether the variable is one of the edges' or of the atoms'.
     pub(crate) fn concerns(&self, var: u32) -> bool
         ensures { result ≡ concerns_of self.now.graph self.now.atoms var }
@@ -139,6 +134,21 @@ impl Frame {
         ensures partial { IsTrue (is_partial self.now.seen) }
     {
         self.lits.len()
+    }
+
+    /// The literal at a place of the list.
+    pub(crate) fn literal_at(&self, place: usize) -> Lit
+        requires { place < length self.now.seen }
+        ensures { result ≡ slice_index_or self.now.seen place result }
+    {
+        self.lits[place]
+    }
+
+    /// The variables of the edges by place.
+    pub(crate) fn edge_vars(&self) -> &Index
+        ensures { result.now ≡ edge_vars self.now.graph }
+    {
+        self.edges.vars()
     }
 
     /// Whether the atom of this number is one of these.
@@ -169,7 +179,8 @@ impl Frame {
 
     /// How many atoms there are.
     pub(crate) fn atom_count(&self) -> usize
-        ensures { result ≡ length self.now.atoms }
+        ensures count { result ≡ length self.now.atoms }
+        ensures few { length self.now.atoms < 2 ^ 32 }
     {
         self.atoms.len()
     }
@@ -219,6 +230,28 @@ impl Frame {
         ensures { result.now ≡ over_of self.now.graph self.now.seen }
     {
         self.edges.over()
+    }
+
+    /// The possibly present edges, or the surely present ones.
+    pub(crate) fn part(&self, possible: bool) -> &Part
+        ensures part { result.now ≡ part_of self.now.graph self.now.seen possible }
+        ensures size { length result.now ≡ length self.now.graph.edges }
+    {
+        let _ = self.graph();
+        if possible { self.over() } else { self.under() }
+    }
+
+    /// Whether the variable of the atom at a place has the value that the side would force.
+    pub(crate) fn is_settled(&self, place: usize, possible: bool) -> bool
+        requires { place < length self.now.atoms }
+        ensures settled { IsTrue result → IsSettled self.now.seen possible (slice_index_or self.now.atoms place no_atom) }
+        ensures open { result ≡ false → is_true_in self.now.seen (literal_of (not possible) (slice_index_or self.now.atoms place no_atom).var) ≡ false }
+    {
+        if possible {
+            self.is_false(place)
+        } else {
+            self.is_true(place)
+        }
     }
 
     /// Whether the variable of the atom at a place is true.

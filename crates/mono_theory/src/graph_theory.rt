@@ -1,9 +1,8 @@
 //! Theories of one kind of predicate.
 //!
-//! What was seen stands in a frame; the kind alone knows how a predicate is decided and what shows it. Each side is
-//! computed anew, for an atom whose variable doesn't have the value that the side would force. Of the atoms, so many first
-//! ones are known to owe nothing on a side, until a literal changes the edges of that side or a literal goes. So where no
-//! edge has changed since, nothing is computed.
+//! What was seen stands in a frame; the kind alone knows what shows a predicate. For each side it is kept of each atom on
+//! which edges the last answer rests. So a literal makes work only for the atoms that rest on its edges, and an undone one
+//! only for those that lost their support.
 
 ghost use Rattle.std.specs.Prelude.{◌≡◌, ◌<◌, ◌≤◌, [], take, map, length, All, Some, IfOk, IsSome, IsTrue, MatchOption, slice_index_or};
 ghost use Rattle.mono_problem.specs.Instance.{graph_at};
@@ -11,114 +10,18 @@ ghost use Rattle.mono_problem.specs.Read.{no_atom, atom_numbered};
 ghost use Rattle.mono_problem.specs.WellFormed.{IsOver};
 ghost use Rattle.mono_theory.specs.Frames.{IsVar, AreNumbersOf};
 ghost use Rattle.mono_theory.specs.Theories.{atom_of, ForcesBy, IsLemmaOf};
-ghost use Rattle.mono_theory.specs.Forced.{IsOverdue, IsBarred, AreCovered, NoneOverdue, NoneBarred, PassIs};
+ghost use Rattle.mono_theory.specs.Supports.{AreCovered};
 
-use crate::evidence::{lemma_of, literal};
+use crate::evidence::lemma_of;
 use crate::frame::Frame;
+use crate::kept_side::KeptSide;
+use crate::looking::force_by;
 use crate::{Finding, Force, Kind, Theory};
 use mono_base::Lit;
 use mono_problem::{Atom, Problem};
 use mono_steps::Lemma;
 use std::alloc::{AllocError, Global};
 use std::marker::Model;
-
-/// Whether the predicate holds with the surely present edges, and its variable isn't true.
-fn is_overdue<K: Kind>(
-    alloc: Global,
-    kind: &mut K,
-    frame: &Frame,
-    place: usize,
-    atom: Atom,
-) -> Result<bool, AllocError>
-    requires size { K.nodes kind.old ≡ frame.now.graph.nodes }
-    requires place { place < length frame.now.atoms }
-    requires atom { slice_index_or frame.now.atoms place no_atom ≡ atom }
-    requires covered { AreCovered K.covers frame.now.atoms }
-    ensures size { K.nodes kind.new ≡ K.nodes kind.old }
-    ensures overdue { IfOk result (IsOverdue frame.now.graph frame.now.seen atom) }
-{
-    if frame.is_true(place) {
-        return Ok(false);
-    }
-    let holds = kind.holds(alloc, frame.graph(), frame.under(), atom.predicate)?;
-    Ok(holds)
-}
-
-/// Whether the predicate fails with the possibly present edges, and its variable isn't false.
-fn is_barred<K: Kind>(
-    alloc: Global,
-    kind: &mut K,
-    frame: &Frame,
-    place: usize,
-    atom: Atom,
-) -> Result<bool, AllocError>
-    requires size { K.nodes kind.old ≡ frame.now.graph.nodes }
-    requires place { place < length frame.now.atoms }
-    requires atom { slice_index_or frame.now.atoms place no_atom ≡ atom }
-    requires covered { AreCovered K.covers frame.now.atoms }
-    ensures size { K.nodes kind.new ≡ K.nodes kind.old }
-    ensures barred { IfOk result (IsBarred frame.now.graph frame.now.seen atom) }
-{
-    if frame.is_false(place) {
-        return Ok(false);
-    }
-    let holds = kind.holds(alloc, frame.graph(), frame.over(), atom.predicate)?;
-    Ok(!holds)
-}
-
-/// Goes on over the atoms to the first that is overdue.
-fn pass_overdue<K: Kind>(
-    alloc: Global,
-    kind: &mut K,
-    frame: &Frame,
-    place: &mut usize,
-) -> Result<Force, AllocError>
-    requires size { K.nodes kind.old ≡ frame.now.graph.nodes }
-    requires covered { AreCovered K.covers frame.now.atoms }
-    requires passed { NoneOverdue frame.now place.old }
-    ensures size { K.nodes kind.new ≡ K.nodes kind.old }
-    ensures passed { NoneOverdue frame.now place.new }
-    ensures answer { IfOk result (PassIs frame.now place.new) }
-{
-    'atoms: while *place < frame.atom_count() {
-        let atom = frame.atom_at(*place);
-        if is_overdue::<K>(alloc, kind, frame, *place, atom)? {
-            return Ok(Force::Literal {
-                atom: atom.number,
-                lit: literal(atom.var, true),
-            });
-        }
-        *place += 1;
-    }
-    Ok(Force::Quiet)
-}
-
-/// Goes on over the atoms to the first that is barred.
-fn pass_barred<K: Kind>(
-    alloc: Global,
-    kind: &mut K,
-    frame: &Frame,
-    place: &mut usize,
-) -> Result<Force, AllocError>
-    requires size { K.nodes kind.old ≡ frame.now.graph.nodes }
-    requires covered { AreCovered K.covers frame.now.atoms }
-    requires passed { NoneBarred frame.now place.old }
-    ensures size { K.nodes kind.new ≡ K.nodes kind.old }
-    ensures passed { NoneBarred frame.now place.new }
-    ensures answer { IfOk result (PassIs frame.now place.new) }
-{
-    'atoms: while *place < frame.atom_count() {
-        let atom = frame.atom_at(*place);
-        if is_barred::<K>(alloc, kind, frame, *place, atom)? {
-            return Ok(Force::Literal {
-                atom: atom.number,
-                lit: literal(atom.var, false),
-            });
-        }
-        *place += 1;
-    }
-    Ok(Force::Quiet)
-}
 
 /// The lemma by which the atom forces the literal under the first literals.
 fn explanation<K: Kind>(
@@ -148,21 +51,20 @@ pub struct GraphTheory<K: Kind> {
     alloc: Global,
     frame: Frame,
     kind: K,
-    /// So many first atoms aren't overdue.
-    not_overdue: usize,
-    /// So many first atoms aren't barred.
-    not_barred: usize,
+    /// What is kept of the atoms with the surely present edges, and with the possibly present ones.
+    surely: KeptSide,
+    possibly: KeptSide,
 }
 
 impl<K: Kind> Model for GraphTheory<K> {
     ghost use Rattle.mono_theory.specs.Theories.{Facts};
-    ghost use Rattle.mono_theory.specs.Forced.{IsPassed};
+    ghost use Rattle.mono_theory.specs.Supports.{IsKept};
 
     ghost Value = { Facts };
 
     ghost view = { λ s. s.frame };
 
-    ghost invariant = { λ s. IsPassed K.covers (K.nodes s.kind) s.frame s.not_overdue s.not_barred };
+    ghost invariant = { λ s. IsKept K.covers (K.nodes s.kind) s.frame s.surely s.possibly };
 }
 
 /// The atoms of these numbers.
@@ -195,13 +97,17 @@ impl<K: Kind> GraphTheory<K> {
         let held = atoms_of(alloc, problem, atoms)?;
         let own = problem.graph(graph).copy()?;
         let kind = K::with_nodes(alloc, own.nodes())?;
+        let edges = own.edge_count();
         let frame = Frame::new(alloc, own, held)?;
+        let count = frame.atom_count() as u32;
+        let surely = KeptSide::new(alloc, count, edges)?;
+        let possibly = KeptSide::new(alloc, count, edges)?;
         Ok(GraphTheory {
             alloc,
             frame,
             kind,
-            not_overdue: 0,
-            not_barred: 0,
+            surely,
+            possibly,
         })
     }
 }
@@ -226,39 +132,23 @@ impl<K: Kind> Theory for GraphTheory<K> {
     }
 
     fn assign(&mut self, lit: Lit) {
-        if self.frame.switches(lit.var()) {
-            if lit.is_positive() {
-                self.not_overdue = 0;
-            } else {
-                self.not_barred = 0;
-            }
-        }
         self.frame.assign(lit);
     }
 
     fn undo_to(&mut self, kept: usize) {
-        if kept < self.frame.seen() {
-            self.not_overdue = 0;
-            self.not_barred = 0;
-        }
+        self.surely.undo_to(kept);
+        self.possibly.undo_to(kept);
         self.frame.undo_to(kept);
     }
 
     fn force(&mut self) -> Result<Force, AllocError> {
-        let found = pass_overdue::<K>(
-            self.alloc,
-            &mut self.kind,
-            &self.frame,
-            &mut self.not_overdue,
-        )?;
-        match found {
-            Force::Quiet => pass_barred::<K>(
-                self.alloc,
-                &mut self.kind,
-                &self.frame,
-                &mut self.not_barred,
-            ),
-            Force::Literal { .. } => Ok(found),
+        let kind = &mut self.kind;
+        match force_by::<K>(self.alloc, kind, &self.frame, &mut self.surely, false)? {
+            Force::Quiet => {
+                let kind = &mut self.kind;
+                force_by::<K>(self.alloc, kind, &self.frame, &mut self.possibly, true)
+            }
+            Force::Literal { atom, lit } => Ok(Force::Literal { atom, lit }),
         }
     }
 

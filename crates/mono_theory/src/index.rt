@@ -37,7 +37,7 @@ impl Model for Index {
 }
 
 /// The first entry whose key isn't below.
-fn first_from(entries: &[Entry], key: u32) -> usize
+pub(crate) fn first_from(entries: &[Entry], key: u32) -> usize
     requires { IsNonDecreasingBy (λ e. e.key) entries.now }
     ensures bound { result ≤ length entries.now }
     ensures below { AllWithin (λ e. e.key < key) entries.now 0 result }
@@ -47,7 +47,7 @@ fn first_from(entries: &[Entry], key: u32) -> usize
 }
 
 /// The first entry whose key is above.
-fn first_above(entries: &[Entry], key: u32) -> usize
+pub(crate) fn first_above(entries: &[Entry], key: u32) -> usize
     requires { IsNonDecreasingBy (λ e. e.key) entries.now }
     ensures bound { result ≤ length entries.now }
     ensures up_to { AllWithin (λ e. e.key ≤ key) entries.now 0 result }
@@ -163,6 +163,20 @@ impl Index {
         ensures { result ≡ has self.now key }
     {
         self.place(key).is_some()
+    }
+
+    /// The keys, by place.
+    pub(crate) fn keys(&self) -> &[u32]
+        ensures { result.now ≡ self.now }
+    {
+        self.keys.as_slice()
+    }
+
+    /// The places in the order of their keys.
+    pub(crate) fn entries(&self) -> &[Entry]
+        ensures { IsIndex self.now result.now }
+    {
+        self.entries.as_slice()
     }
 
     /// Puts all places of a key into a part with as many places, or takes them out.

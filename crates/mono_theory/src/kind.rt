@@ -1,14 +1,14 @@
 //! What a kind of predicate supplies. All else is the same for every kind.
 
 ghost use Rattle.std.specs.Prelude.{◌≡◌, IfOk, IsTrue};
-ghost use Rattle.mono_theory.specs.Evidences.{Decides, IsEvidence};
+ghost use Rattle.mono_theory.specs.Evidences.{IsEvidence};
 
 use crate::Evidence;
 use mono_graph::{Graph, Part};
 use mono_problem::Predicate;
 use std::alloc::{AllocError, Global};
 
-/// A kind of predicate: how it is decided in a part of a graph, and what shows the answer.
+/// A kind of predicate: what shows that one holds in a part of a graph, or that it fails there.
 ///
 /// A value of the kind is room for searches in graphs with one number of nodes, which is kept from one search to the next.
 pub trait Kind: Drop {
@@ -26,22 +26,7 @@ pub trait Kind: Drop {
     fn with_nodes(alloc: Global, count: u32) -> Result<Self, AllocError>
         ensures { IfOk result (λ kind. nodes kind ≡ count) };
 
-    /// Whether the predicate holds in the part.
-    fn holds(
-        &mut self,
-        alloc: Global,
-        graph: &Graph,
-        part: &Part,
-        predicate: Predicate,
-    ) -> Result<bool, AllocError>
-        requires size { nodes self.old ≡ graph.now.nodes }
-        requires kind { IsTrue (covers predicate) }
-        requires over { IsOver graph.now predicate }
-        requires part { IsPartOf part.now graph.now }
-        ensures size { nodes self.new ≡ nodes self.old }
-        ensures holds { IfOk result (Decides graph.now part.now predicate) };
-
-    /// What shows that it does, or that it doesn't.
+    /// What shows that the predicate holds in the part, or that it fails there.
     fn evidence(
         &mut self,
         alloc: Global,

@@ -11,16 +11,26 @@ mod frame;
 mod graph_theory;
 /// Places by key.
 mod index;
+/// What is kept of each atom on one side.
+mod kept_side;
 /// What a kind of predicate supplies.
 mod kind;
 /// What holds of bounds and lemmas by their definitions.
 pub mod laws;
+/// Looking at the atoms that wait on one side.
+mod looking;
 /// Absent edges at the border of a set of nodes.
 mod node_marks;
 /// What the first literals seen show.
 mod past;
+/// Which atoms stand on what is kept of them.
+mod standing;
+/// The atoms that a literal strikes.
+mod strikes;
 /// What theories answer.
 mod theory;
+/// The atoms that watch each edge.
+mod watchers;
 /// Evidence from walks.
 pub mod walks;
 

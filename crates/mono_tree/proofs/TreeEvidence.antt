@@ -1,9 +1,9 @@
 -- Trees and splits show whether a predicate on spanning trees holds.
-use Rattle.std.proofs.Common.{◌≡◌, ℕ, suc, ◌+◌, ◌<◌, ◌≤◌, Bool, true, false, not, ◌&&◌, ◌||◌, ◌==◌, cond, List, [], ◌∷◌, map, length, get_or, ltb, leb, refl, sym, ap, subst, ◌∙◌, ◌⊎◌, inl, inr, arith, ℤ, pos, All, le-leb, lt-ltb}
+use Rattle.std.proofs.Common.{◌≡◌, ℕ, ◌<◌, ◌≤◌, Bool, true, false, not, ◌&&◌, ◌||◌, cond, List, [], ◌∷◌, length, ltb, leb, refl, sym, ap, subst, ◌∙◌, inl, inr, arith, ℤ, pos, All, le-leb, lt-ltb}
 use Rattle.std.specs.Prelude.{IsTrue, filter, int_le, int_lt}
-use Rattle.std.specs.List.{list_all, list_any, range_with_len}
-use Rattle.std.proofs.lemmas.Bool.{and_parts, and_from, both_ways, not-true, not_from_false, cases_Bool, cases_lt, false_from_ne_true}
-use Rattle.std.proofs.lemmas.List.Elements.{All-head, All-tail}
+use Rattle.std.specs.List.{list_all, list_any}
+use Rattle.std.proofs.lemmas.Bool.{and_parts, and_from, both_ways, not-true, not_from_false, cases_lt}
+use Rattle.std.proofs.lemmas.List.Elements.{All-tail}
 use Rattle.mono_graph.specs.declared.edge.Edge.{Edge}
 use Rattle.mono_graph.specs.Digraph.{Digraph, IsGraph, edge_at, no_edge, present, places, nodes_of, crosses, weight_of, has}
 use Rattle.mono_graph.specs.Trees.{joins, edges_at, is_spanning_tree, is_tree, is_split, is_bridged, is_least}
@@ -11,11 +11,7 @@ use Rattle.mono_graph.proofs.Joins.{joins-sym, joins-trans}
 use Rattle.mono_graph.proofs.Membership.{all_at, all_from, has_range, range_has, has_filter, filter_has}
 use Rattle.mono_graph.proofs.Places.{list_all_agree, all_below}
 use Rattle.mono_problem.specs.declared.atom.Predicate.TheVariants as kind
-use Rattle.mono_problem.specs.Holds.{Holds}
-use Rattle.mono_problem.specs.WellFormed.{IsOver}
 use Rattle.mono_steps.specs.declared.lemma.Witness.TheVariants as by
-use Rattle.mono_steps.specs.Witnesses.{placed, passes}
-use Rattle.mono_steps.proofs.Witnessed.{negative_excludes}
 use Rattle.mono_theory.specs.declared.evidence.Evidence.{Evidence}
 use Rattle.mono_theory.specs.Evidences.{only, IsEvidence}
 use Rattle.mono_theory.specs.Resting.{AreAbsent, AreAlike, absent_across}
@@ -27,9 +23,6 @@ use Rattle.mono_theory.proofs.WalkedLaws.{numbers-known, placed-numbers, nodes-k
 use Rattle.mono_tree.specs.Spanning.{tree_evidence, split_evidence, lighter_absent, is_unbridged, IsLeastEvidence}
 
 -- ---- trees within the bound
-
-pub tree_holds : (g : Digraph) (P : List Bool) (most : ℤ) (ks : List ℕ) → IsTrue (is_tree g P most ks) → Holds g P (kind.Tree most)
-tree_holds g P most ks h = (ks, h)
 
 pub tree_shows : (g : Digraph) (P : List Bool) (most : ℤ) (ks : List ℕ) → IsGraph g → All (λ k. k < length g.edges) ks → IsTrue (is_tree g P most ks) → IsEvidence g P (kind.Tree most) (tree_evidence g ks)
 tree_shows g P most ks ok known h =
@@ -47,18 +40,12 @@ tree_shows g P most ks ok known h =
 
 -- ---- splits
 
-pub split_fails : (g : Digraph) (P : List Bool) (most : ℤ) (s : List ℕ) → IsGraph g → IsOver g (kind.Tree most) → length P ≡ length g.edges → IsTrue (is_split g P s) → ¬ Holds g P (kind.Tree most)
-split_fails g P most s ok over len h = negative_excludes g P (kind.Tree most) (by.Split s) ok over len refl h
-
 pub split_shows : (g : Digraph) (P : List Bool) (most : ℤ) (s : List ℕ) → All (λ u. u < g.nodes) s → IsTrue (is_split g P s) → IsEvidence g P (kind.Tree most) (split_evidence g P s)
 split_shows g P most s known h =
     resting_evidence (crosses s) g P (kind.Tree most) (by.Split s) (absent_across g P s) refl (nodes-known g s known) refl
     (λ Q same. ap (λ b. list_any (has s) (nodes_of g) && not (list_all (has s) (nodes_of g)) && b) (alike_none same)) (crossing_are_absent g P s) h
 
 -- ---- lightest trees above the bound
-
-pub least_fails : (g : Digraph) (P : List Bool) (most : ℤ) (ks : List ℕ) → IsGraph g → IsOver g (kind.Tree most) → length P ≡ length g.edges → All (λ k. k < length g.edges) ks → IsTrue (is_least g P most ks) → ¬ Holds g P (kind.Tree most)
-least_fails g P most ks ok over len known h = negative_excludes g P (kind.Tree most) (by.Least (numbers_of g ks)) ok over len refl (ap (is_least g P most) (placed-numbers g ks ok known) ∙ h)
 
 -- a spanning tree joins all nodes
 all_joined : (g : Digraph) (ks : List ℕ) (u v : ℕ) → IsTrue (is_spanning_tree g ks) → u < g.nodes → v < g.nodes → IsTrue (joins (edges_at g ks) u v)

@@ -7,7 +7,7 @@
 ghost use Rattle.std.specs.Prelude.{◌≡◌, ◌<◌, ◌≤◌, ◌&&◌, not, nat_lt, All, IfOk, length};
 ghost use Rattle.mono_graph.specs.Digraph.{IsPartOf, edge_at, present};
 ghost use Rattle.mono_problem.specs.WellFormed.{IsOver};
-ghost use Rattle.mono_theory.specs.Evidences.{Decides, IsEvidence};
+ghost use Rattle.mono_theory.specs.Evidences.{IsEvidence};
 ghost use Rattle.mono_tree.specs.Spanning.{lighter_absent as lighter_absent_of, tree_evidence as tree_evidence_of, split_evidence as split_evidence_of, IsLeastEvidence};
 
 use mono_base::Row;
@@ -130,28 +130,7 @@ fn least_evidence(
     })
 }
 
-/// Whether a spanning tree weighs at most so much.
-fn decide(
-    finder: &mut TreeFinder,
-    graph: &Graph,
-    part: &Part,
-    most: i64,
-) -> Result<bool, AllocError>
-    requires size { finder.old ≡ graph.now.nodes }
-    requires part { IsPartOf part.now graph.now }
-    requires over { IsOver graph.now (Predicate.Tree most) }
-    ensures size { finder.new ≡ finder.old }
-    ensures holds { IfOk result (Decides graph.now part.now (Predicate.Tree most)) }
-{
-    let _ = graph.nodes();
-    match finder.find_tree(graph, part, most)? {
-        TreeFound::Tree(_) => Ok(true),
-        TreeFound::Split(_) => Ok(false),
-        TreeFound::Least(_) => Ok(false),
-    }
-}
-
-/// What shows that one does, or that none does.
+/// What shows that a spanning tree weighs at most so much, or that none does.
 fn show(
     alloc: Global,
     finder: &mut TreeFinder,
@@ -187,20 +166,6 @@ impl Kind for Tree {
         let finder = TreeFinder::new(alloc, count)?;
         let marks = NodeMarks::new(alloc, count)?;
         Ok(Tree { finder, marks })
-    }
-
-    fn holds(
-        &mut self,
-        alloc: Global,
-        graph: &Graph,
-        part: &Part,
-        predicate: Predicate,
-    ) -> Result<bool, AllocError> {
-        let _ = alloc;
-        match predicate {
-            Predicate::Tree { most } => decide(&mut self.finder, graph, part, most),
-            _ => unreachable!(),
-        }
     }
 
     fn evidence(

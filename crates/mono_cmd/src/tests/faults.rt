@@ -1,9 +1,14 @@
 //! Files that can't be read, outputs that can't be written, and files that are too long.
 
+ghost use Rattle.std.specs.Prelude.{◌≤◌};
+
 use super::words_of;
 use crate::run::run;
 use crate::status::Status;
-use mono_io::{MemoryShelf, MemorySink};
+use mono_check::{CheckRefusal, Reason, Verdict, verdict_from};
+use mono_gnf::read_gnf;
+use mono_io::{GREATEST_LIMIT, MemoryShelf, MemorySink};
+use std::alloc::Global;
 use std::process::Abort;
 use std::test::Fail;
 
@@ -73,9 +78,10 @@ fn an_input_beyond_its_limit_comes_before_a_missing_answer(rt: HostRuntime) -> R
     )
 }
 
-/// Each call on the shelf fails in turn, until a run makes no further call.
+/// Each call on the shelf fails in turn, until a run makes no further call. A piece of 0 is one as large as any.
 fn each_read_fails(
     rt: &(impl Abort + AllocGlobal),
+    line: &[&str],
     answer: &[u8],
     most: usize,
     calls: u64,
@@ -90,7 +96,7 @@ fn each_read_fails(
         }
         shelf.fail_at(call)?;
         let mut out = MemorySink::new(rt.alloc(), 100)?;
-        let words = words_of(rt.alloc(), &["check", "f", "a"])?;
+        let words = words_of(rt.alloc(), line)?;
         let found = run(rt.alloc(), words.as_slice(), &mut shelf, &mut out);
         let due = if call < calls {
             Status::ReadFault
@@ -107,16 +113,21 @@ fn each_read_fails(
 
 #[test]
 fn each_call_on_the_shelf_may_fail(rt: HostRuntime) -> Result<(), Fail> {
-    // A file is begun once and read to its end: two calls, and one more for the end.
-    each_read_fails(&rt, MODEL, 0, 7, Status::Accepted)?;
-    each_read_fails(&rt, OTHER, 0, 7, Status::Rejected)?;
+    let check = ["check", "f", "a"];
+    // A file is begun once and read to its end: two calls, and one more for the end. It is read to its end behind a line
+    // at fault too.
+    each_read_fails(&rt, &check, MODEL, 0, 7, Status::Accepted)?;
+    each_read_fails(&rt, &check, OTHER, 0, 7, Status::Rejected)?;
+    each_read_fails(&rt, &check, b"bad\n\n\n\n\n\n\n\n", 7, 9, Status::Rejected)?;
     // 11 and 23 bytes in pieces of 7: begin, two or four pieces, the end.
-    each_read_fails(&rt, MODEL, 7, 11, Status::Accepted)
+    each_read_fails(&rt, &check, MODEL, 7, 11, Status::Accepted)?;
+    each_read_fails(&rt, &["solve", "f"], b"", 0, 4, Status::Satisfiable)
 }
 
-/// Each write fails in turn: a prefix was written, and the last run has no further write.
+/// Each write of three bytes fails in turn: what was written before it stays. The last run has no further write.
 fn each_write_fails(
     rt: &(impl Abort + AllocGlobal),
+    line: &[&str],
     answer: &[u8],
     text: &[u8],
     writes: u64,
@@ -129,7 +140,7 @@ fn each_write_fails(
         let mut out = MemorySink::new(rt.alloc(), 100)?;
         out.pieces(3);
         out.fail_at(call)?;
-        let words = words_of(rt.alloc(), &["check", "f", "a"])?;
+        let words = words_of(rt.alloc(), line)?;
         let found = run(rt.alloc(), words.as_slice(), &mut shelf, &mut out);
         let due = if call < writes {
             Status::WriteFault
@@ -137,21 +148,64 @@ fn each_write_fails(
             status
         };
         assert_eq!(rt; found, due);
-        assert!(rt; text.starts_with(out.bytes()));
+        let written = (call as usize).saturating_sub(1).saturating_mul(3);
+        assert_eq!(rt; out.bytes(), &text[..written.min(text.len())]);
     }
     Ok(())
 }
 
 #[test]
 fn each_write_may_fail(rt: HostRuntime) -> Result<(), Fail> {
-    each_write_fails(&rt, MODEL, b"accepted model\n", 6, Status::Accepted)?;
+    let check = ["check", "f", "a"];
+    each_write_fails(&rt, &check, MODEL, b"accepted model\n", 6, Status::Accepted)?;
     each_write_fails(
         &rt,
+        &check,
         OTHER,
         b"rejected 2 ClauseFalse 2\n",
         10,
         Status::Rejected,
+    )?;
+    each_write_fails(
+        &rt,
+        &["solve", "f"],
+        b"",
+        b"s SATISFIABLE\nv -1 2 0\n",
+        9,
+        Status::Satisfiable,
     )
+}
+
+/// The verdict on a text for the empty problem, read up to a limit.
+fn verdict_within(alloc: Global, text: &[u8], limit: u64) -> Result<Verdict, CheckRefusal>
+    requires { limit ≤ GREATEST_LIMIT }
+{
+    let Ok(problem) = read_gnf(alloc, b"") else {
+        return Err(CheckRefusal::Memory);
+    };
+    let mut shelf = MemoryShelf::new(alloc);
+    shelf.put("a", text)?;
+    verdict_from(alloc, &problem, &mut shelf, "a", limit)
+}
+
+#[test]
+fn an_answer_beyond_its_limit_is_told_before_its_faults(rt: HostRuntime) -> Result<(), Fail> {
+    let rejected = Ok(Verdict::Rejected {
+        line: 1,
+        reason: Reason::NotAnswer,
+    });
+    let line = b"x                    ";
+    assert_eq!(rt; verdict_within(rt.alloc(), b"", 0), rejected);
+    assert_eq!(rt;
+        verdict_within(rt.alloc(), b" ", 0),
+        Err(CheckRefusal::TooLong)
+    );
+    assert_eq!(rt;
+        verdict_within(rt.alloc(), line, 20),
+        Err(CheckRefusal::TooLong)
+    );
+    assert_eq!(rt; verdict_within(rt.alloc(), line, 21), rejected);
+    Ok(())
 }
 
 #[test]

@@ -176,7 +176,8 @@ fn there_are_at_most_1024_graphs(rt: HostRuntime) -> Result<(), Fail> {
 
 #[test]
 fn other_words_are_no_command(rt: HostRuntime) -> Result<(), Fail> {
-    let usage = b"usage: solve FILE [--conflicts N] | check FILE ANSWER | print FILE\n";
+    let usage =
+        b"usage: solve FILE [--conflicts N] | check FILE ANSWER | print FILE | gen KIND SIZE SEED [--solve]\n";
     let words = [
         "",
         "check",
@@ -203,6 +204,17 @@ fn other_words_are_no_command(rt: HostRuntime) -> Result<(), Fail> {
         "solve f conflicts 1",
         "solve --conflicts 1 f",
         "check f --conflicts 1",
+        "gen grid 10",
+        "gen grid 1 7",
+        "gen grid 101 7",
+        "gen grid x 7",
+        "gen maze 10 7",
+        "gen grid 10 18446744073709551616",
+        "gen grid 10 -7",
+        "gen grid 10 7 --solve 1",
+        "gen grid 10 7 solve",
+        "gen --solve grid 10 7",
+        "print grid 10 7 --solve",
     ];
     for line in &words {
         let split: Vec<&str> = line

@@ -1,13 +1,21 @@
 use Rattle.std.proofs.Common.{map, string_bytes}
 use Rattle.mono_cmd.specs.Commands.{command_of}
 use Rattle.mono_cmd.proofs.Stages.{ends_begun, ends_faults}
+use Rattle.mono_cmd.proofs.Causes.{fault_counted, past_its_limit}
 use Rattle.mono_cmd.proofs.Needs.{no_read_fault, steady, complete}
 use Rattle.mono_cmd.proofs.Solves.{satisfiable, unsatisfiable, unknown, its_verdict}
+use Rattle.mono_cmd.proofs.Summaries.{gen_satisfiable, gen_unsatisfiable, gen_unknown, summed}
 use Rattle.mono_cmd.proofs.Sound.{refutes, models}
 use Rattle.mono_cmd.proofs.run.run.Goals as goal
 
 pub returns-clause-begun : goal.returns-clause-begun
 returns-clause-begun g c = ends_begun _ _ _ c.ending_of-ending.result c.ending_of-ending.ensures
+
+pub returns-clause-read_fault : goal.returns-clause-read_fault
+returns-clause-read_fault g c = fault_counted _ _ _ c.ending_of-ending.result c.write_ending.result _ _ c.ending_of-ending.ensures c.write_ending.ensures.writes
+
+pub returns-clause-too_long : goal.returns-clause-too_long
+returns-clause-too_long g c = past_its_limit _ _ _ c.ending_of-ending.result c.write_ending.result _ _ c.ending_of-ending.ensures c.write_ending.ensures.writes
 
 pub returns-clause-refutes : goal.returns-clause-refutes
 returns-clause-refutes g c =
@@ -48,3 +56,23 @@ pub returns-clause-verdict : goal.returns-clause-verdict
 returns-clause-verdict g c = λ p budget there written solves.
     its_verdict (command_of (map string_bytes c.args.words.now)) (g.S.Shelf.seen c.args.shelf.now) (g.S.Shelf.seen c.ending_of-ending.new.shelf) c.write_ending.result (g.K.Sink.written c.args.out.now) (g.K.Sink.written c.write_ending.new.out)
     (record { ending = c.ending_of-ending.result; ends = c.ending_of-ending.ensures; writes = c.write_ending.ensures.writes }) p budget solves there written
+
+pub returns-clause-gen_satisfiable : goal.returns-clause-gen_satisfiable
+returns-clause-gen_satisfiable g c =
+    gen_satisfiable (command_of (map string_bytes c.args.words.now)) (g.S.Shelf.seen c.args.shelf.now) (g.S.Shelf.seen c.ending_of-ending.new.shelf) c.write_ending.result (g.K.Sink.written c.args.out.now) (g.K.Sink.written c.write_ending.new.out)
+    (record { ending = c.ending_of-ending.result; ends = c.ending_of-ending.ensures; writes = c.write_ending.ensures.writes })
+
+pub returns-clause-gen_unsatisfiable : goal.returns-clause-gen_unsatisfiable
+returns-clause-gen_unsatisfiable g c =
+    gen_unsatisfiable (command_of (map string_bytes c.args.words.now)) (g.S.Shelf.seen c.args.shelf.now) (g.S.Shelf.seen c.ending_of-ending.new.shelf) c.write_ending.result (g.K.Sink.written c.args.out.now) (g.K.Sink.written c.write_ending.new.out)
+    (record { ending = c.ending_of-ending.result; ends = c.ending_of-ending.ensures; writes = c.write_ending.ensures.writes })
+
+pub returns-clause-gen_unknown : goal.returns-clause-gen_unknown
+returns-clause-gen_unknown g c =
+    gen_unknown (command_of (map string_bytes c.args.words.now)) (g.S.Shelf.seen c.args.shelf.now) (g.S.Shelf.seen c.ending_of-ending.new.shelf) c.write_ending.result (g.K.Sink.written c.args.out.now) (g.K.Sink.written c.write_ending.new.out)
+    (record { ending = c.ending_of-ending.result; ends = c.ending_of-ending.ensures; writes = c.write_ending.ensures.writes })
+
+pub returns-clause-summary : goal.returns-clause-summary
+returns-clause-summary g c = λ p there written solves.
+    summed (command_of (map string_bytes c.args.words.now)) (g.S.Shelf.seen c.args.shelf.now) (g.S.Shelf.seen c.ending_of-ending.new.shelf) c.write_ending.result (g.K.Sink.written c.args.out.now) (g.K.Sink.written c.write_ending.new.out)
+    (record { ending = c.ending_of-ending.result; ends = c.ending_of-ending.ensures; writes = c.write_ending.ensures.writes }) p solves there written

@@ -17,3 +17,11 @@ returns-clause-rejected c = refl
 pub returns-clause-clause_false : goal.returns-clause-clause_false
 unfolding digits
 returns-clause-clause_false c = refl
+
+pub returns-clause-summary : goal.returns-clause-summary
+unfolding digits
+returns-clause-summary c = refl
+
+pub returns-clause-summary_of_progress : goal.returns-clause-summary_of_progress
+unfolding digits
+returns-clause-summary_of_progress c = refl

@@ -1,6 +1,5 @@
-use Rattle.std.proofs.Common.{◌≡◌, ℕ, List, false, map, get_or, take, subst, ◌∙◌}
+use Rattle.std.proofs.Common.{List, map, subst, ◌∙◌}
 use Rattle.std.proofs.lemmas.List.{take_all}
-use Rattle.mono_graph.specs.Digraph.{has}
 use Rattle.mono_graph.specs.declared.label.Label.{Label}
 use Rattle.mono_graph.proofs.Prefixes.{Cleared, cleared_all}
 use Rattle.mono_distance.proofs.LabelLaws.{unlisted}

@@ -1,10 +1,8 @@
-use Rattle.std.proofs.Common.{◌≡◌, ◌≤◌, ◌<◌, ◌∙◌, sym, ap, subst, arith, ℕ, List, take, length}
-use Rattle.mono_base.specs.Literal.{var_of, lit_at}
+use Rattle.std.proofs.Common.{sym, subst, List, take}
 use Rattle.mono_problem.specs.Instance.{Instance}
 use Rattle.mono_steps.specs.declared.step.Step.{Step}
 use Rattle.mono_steps.specs.Steps.{clauses_after}
-use Rattle.mono_learn.specs.Explain.{AtomForces, IsExplanation}
-use Rattle.mono_learn.specs.Reasons.{WasForced}
+use Rattle.mono_learn.specs.Explain.{IsExplanation}
 use Rattle.mono_learn.specs.Asked.{AsksFor}
 use Rattle.mono_learn.proofs.PlacesOfLits.{is_var_at}
 use Rattle.mono_learn.proofs.Asking.{IsAsked, asks_none, late_asked, late_there, was_forced}

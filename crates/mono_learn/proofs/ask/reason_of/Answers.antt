@@ -1,4 +1,4 @@
-use Rattle.std.proofs.Common.{◌≡◌, sym, ◌∙◌}
+use Rattle.std.proofs.Common.{sym, ◌∙◌}
 use Rattle.mono_steps.specs.Steps.{clauses_after}
 use Rattle.mono_learn.proofs.Asking.{asks_none, was_unit}
 use Rattle.mono_learn.proofs.ask.reason_of.Goals as goal

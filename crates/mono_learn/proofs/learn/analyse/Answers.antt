@@ -1,6 +1,4 @@
-use Rattle.std.proofs.Common.{◌≡◌, ◌∙◌, sym}
 use Rattle.std.proofs.lemmas.Result.{IfOk-weaker, on_err_weaker}
-use Rattle.mono_steps.specs.Steps.{clauses_after}
 use Rattle.mono_learn.proofs.Asking.{are_asked, adds_lemmas}
 use Rattle.mono_learn.proofs.Learning.{learns_after, settles_grown, asked_grown, reasons_grown, minimal_grown, adds_same, on_err, all_of}
 use Rattle.mono_learn.proofs.learn.analyse.Goals as goal

@@ -1,4 +1,4 @@
-use Rattle.std.proofs.Common.{◌≡◌, ◌<◌, ◌∙◌, ap, length, List, ℕ, ◌++◌, ◌∷◌, []}
+use Rattle.std.proofs.Common.{◌∙◌, ap, length, List, ℕ, ◌++◌, ◌∷◌, []}
 use Rattle.mono_steps.specs.Steps.{clauses_after}
 use Rattle.mono_learn.proofs.PlacesOfLits.{is_number}
 use Rattle.mono_learn.proofs.Learning.{fresh_counted, false_but, begins, begins_some}

@@ -1,4 +1,4 @@
-use Rattle.std.proofs.Common.{◌≡◌, ◌≤◌, ◌<◌, ◌-◌, ◌∙◌, sym, ap, subst, ℕ, length, refl}
+use Rattle.std.proofs.Common.{◌≡◌, ◌<◌, ◌-◌, ◌∙◌, sym, ap, subst, ℕ, length}
 use Rattle.mono_steps.specs.Steps.{clauses_after}
 use Rattle.mono_trail.specs.TrailView.{TrailView, count_to}
 use Rattle.mono_learn.specs.Walks.{AllImplied, IsAtLast}

@@ -1,5 +1,5 @@
-use Rattle.std.proofs.Common.{◌≡◌, ◌≤◌, ◌<◌, ◌-◌, ◌∙◌, sym, ap, subst, arith, ℕ, List, length}
-use Rattle.std.specs.Prelude.{ℤ, neg_ℤ, Contains}
+use Rattle.std.proofs.Common.{◌-◌, ◌∙◌, sym, ap, subst, arith, ℕ, List, length}
+use Rattle.std.specs.Prelude.{neg_ℤ, Contains}
 use Rattle.mono_steps.specs.Steps.{clauses_after}
 use Rattle.mono_trail.specs.TrailView.{count_to}
 use Rattle.mono_learn.specs.Levels.{highest_of}

@@ -1,6 +1,5 @@
 use Rattle.std.proofs.Common.{◌≡◌, sym, ◌∙◌, ap, subst, length, Some}
 use Rattle.std.proofs.lemmas.Option.{same_Some}
-use Rattle.mono_base.specs.Literal.{var_of}
 use Rattle.mono_trail.specs.Places.{place_in}
 use Rattle.mono_learn.specs.Resolvents.{IsFalseAt}
 use Rattle.mono_learn.proofs.PlacesOfLits.{is_var_false, place_of_false}

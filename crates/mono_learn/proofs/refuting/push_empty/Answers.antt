@@ -1,6 +1,5 @@
-use Rattle.std.proofs.Common.{◌≡◌, ◌∙◌, sym, refl, subst, List, ℕ, []}
+use Rattle.std.proofs.Common.{refl, []}
 use Rattle.mono_steps.specs.Steps.{clauses_after}
-use Rattle.mono_steps.specs.New.{IsExactEnd}
 use Rattle.mono_learn.proofs.Learning.{empty_justified, pushes_by, chains_none, chains_one}
 use Rattle.mono_learn.proofs.refuting.push_empty.Goals as goal
 

@@ -1,4 +1,4 @@
-use Rattle.std.proofs.Common.{◌≡◌, ◌≤◌, ◌<◌, arith, sym, ◌∙◌, ap, subst, length, true, false}
+use Rattle.std.proofs.Common.{◌≡◌, true, false}
 use Rattle.mono_learn.proofs.LitSets.{has-without, has_read, same_if, true_false}
 use Rattle.mono_learn.proofs.Shrinking.{covered_more, covered_same}
 use Rattle.mono_learn.proofs.shrink.is_covered.Goals as goal

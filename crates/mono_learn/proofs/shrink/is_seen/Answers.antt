@@ -1,4 +1,4 @@
-use Rattle.std.proofs.Common.{◌≡◌, ◌≤◌, ◌<◌, arith}
+use Rattle.std.proofs.Common.{arith}
 use Rattle.mono_learn.proofs.shrink.is_seen.Goals as goal
 
 pub bounds-seen-place_of_false : goal.bounds-seen-place_of_false

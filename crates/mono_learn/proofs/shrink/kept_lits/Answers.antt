@@ -1,9 +1,7 @@
-use Rattle.std.proofs.Common.{◌≡◌, ◌≤◌, ◌<◌, ◌∙◌, sym, ap, subst, arith, ℕ, List, length, get_or, refl, Vec, Global}
+use Rattle.std.proofs.Common.{◌≡◌, ◌∙◌, sym, ap, subst, arith, ℕ, List, length, get_or, refl, Vec, Global}
 use Rattle.std.specs.Prelude.{ℤ, neg_ℤ, ◌+◌}
 use Rattle.std.proofs.lemmas.List.Elements.{Contains-get_or}
 use Rattle.mono_learn.specs.Shrinks.{AreKept}
-use Rattle.mono_base.specs.Literal.{lit_at}
-use Rattle.mono_learn.proofs.Walking.{lit_read}
 use Rattle.mono_learn.proofs.Shrinking.{kept_none, kept_more, kept_skip}
 use Rattle.mono_learn.proofs.shrink.kept_lits.Goals as goal
 use Rattle.mono_learn.proofs.shrink.kept_lits.Goals.{then-seen-place+in_ok-push, else-seen-place}

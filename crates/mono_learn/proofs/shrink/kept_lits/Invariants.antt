@@ -1,4 +1,4 @@
-use Rattle.std.proofs.Common.{◌≡◌, ◌≤◌, ◌<◌, ℕ, length}
+use Rattle.std.proofs.Common.{◌<◌, ℕ}
 use Rattle.std.specs.Prelude.{Contains}
 use Rattle.mono_learn.specs.Shrinks.{AreKept}
 use Rattle.mono_learn.proofs.shrink.kept_lits.Given as goal

@@ -1,4 +1,4 @@
-use Rattle.std.proofs.Common.{◌≡◌, ◌≤◌, ◌<◌, arith, sym, ◌∙◌, subst, length, List, ℕ, Bool, true, false}
+use Rattle.std.proofs.Common.{◌≡◌, arith, sym, ◌∙◌, subst, List, Bool, true, false}
 use Rattle.std.specs.Prelude.{ℤ}
 use Rattle.std.proofs.lemmas.List.{get_or_read}
 use Rattle.mono_base.specs.Literal.{without, lit_at}

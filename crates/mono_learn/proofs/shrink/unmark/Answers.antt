@@ -1,4 +1,4 @@
-use Rattle.std.proofs.Common.{◌≡◌, ◌≤◌, ◌<◌, ◌∙◌, sym, ap, subst, arith, ℕ, List, length, get_or, false, refl}
+use Rattle.std.proofs.Common.{◌≡◌, ◌∙◌, subst, arith, ℕ, length, get_or, false, refl}
 use Rattle.std.proofs.lemmas.List.Elements.{Contains-get_or}
 use Rattle.std.proofs.lemmas.List.{length-set}
 use Rattle.mono_learn.specs.Shrinks.{AreLeft}

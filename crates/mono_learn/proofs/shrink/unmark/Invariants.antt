@@ -1,4 +1,4 @@
-use Rattle.std.proofs.Common.{◌≡◌, ◌≤◌, ◌<◌, ℕ, length}
+use Rattle.std.proofs.Common.{◌≡◌, length}
 use Rattle.mono_learn.specs.Shrinks.{AreLeft}
 use Rattle.mono_learn.proofs.shrink.unmark.Given as goal
 

@@ -1,7 +1,7 @@
-use Rattle.std.proofs.Common.{◌≡◌, ◌≤◌, ◌<◌, arith, sym, ◌∙◌, ap, subst, refl, length, List, get_or, false, ◌-◌}
+use Rattle.std.proofs.Common.{arith, subst, refl, false, ◌-◌}
 use Rattle.std.specs.Vec.{with_item}
 use Rattle.std.specs.Prelude.{ℤ}
-use Rattle.mono_base.specs.Literal.{without, lit_at}
+use Rattle.mono_base.specs.Literal.{without}
 use Rattle.mono_steps.specs.Steps.{clauses_after}
 use Rattle.mono_learn.specs.declared.resolvent.Resolvent.{Resolvent}
 use Rattle.mono_learn.specs.Joins.{Joins}

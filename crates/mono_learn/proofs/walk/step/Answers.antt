@@ -1,4 +1,4 @@
-use Rattle.std.proofs.Common.{◌≡◌, ◌+◌}
+use Rattle.std.proofs.Common.{◌+◌}
 use Rattle.mono_learn.proofs.Asking.{come_asked}
 use Rattle.mono_learn.proofs.walk.step.Goals as goal
 

@@ -1,15 +1,10 @@
-use Rattle.std.proofs.Common.{◌≡◌, ◌≢◌, ◌≤◌, ◌<◌, ◌-◌, ◌+◌, arith, sym, ◌∙◌, ap, subst, refl, length, true, false, ℕ, List}
+use Rattle.std.proofs.Common.{◌<◌, ◌-◌, arith, sym, ◌∙◌, ap, subst, refl, length, true, List}
 use Rattle.std.specs.Prelude.{ℤ}
-use Rattle.std.proofs.lemmas.List.{get_or_read}
 use Rattle.mono_steps.specs.Steps.{clauses_after}
-use Rattle.mono_trail.specs.Places.{reason_at}
-use Rattle.mono_trail.specs.declared.reason.Reason.TheVariants.{Decided}
-use Rattle.mono_trail.specs.Seen.{is_marked}
 use Rattle.mono_learn.specs.Walks.{HasCome}
 use Rattle.mono_learn.proofs.LevelsByPlace.{none_decided}
 use Rattle.mono_learn.proofs.Asking.{asks_none, asks_more}
 use Rattle.mono_learn.proofs.Settling.{decided_before}
-use Rattle.mono_learn.proofs.Walking.{start_below, other_left, come_at, come_past}
 use Rattle.mono_learn.proofs.walk.unwind.Goals as goal
 
 pub loop-place-init : goal.loop-place-init

@@ -1,15 +1,19 @@
-use Rattle.std.proofs.Common.{ℕ, Vec, List, sym, ◌∙◌, subst}
-use Rattle.std.specs.Prelude.{IsTrue, Option}
-use Rattle.std.specs.declared.alloc.Global.{Global}
+use Rattle.std.proofs.Common.{List, ℕ, sym, subst, ◌∙◌, arith}
+use Rattle.std.specs.Prelude.{IsTrue}
 use Rattle.mono_graph.specs.declared.limit.Limit.TheVariants as limit
 use Rattle.mono_graph.specs.Walks.{is_cut}
-use Rattle.mono_paths.specs.Reaches.{Reaches}
-use Rattle.mono_paths.proofs.Ends.{cut_found}
+use Rattle.mono_paths.proofs.Ends.{cut_found, final}
 use Rattle.mono_paths.proofs.find.path_or_cut.Goals as goal
 
-pub returns-in_ok-from_slice-in-None-clause-passes : goal.returns-in_ok-from_slice-in-None-clause-passes
-returns-in_ok-from_slice-in-None-clause-passes c =
-    subst (λ (us : List ℕ). IsTrue (is_cut c.args.graph.now c.args.part.now c.args.from c.args.to us)) (sym c.in_ok-from_slice-in-None.ensures.items)
-    (cut_found c.args.graph.now c.args.part.now c.args.from c.args.to c.search_from.new.labels c.reached.result.now c.nodes.ensures.graph.ends c.requires.from c.requires.to
-    (c.in_ok-walk.ensures.len ∙ c.requires.labels) c.reached.ensures.reached
-    (subst (λ (r : Option (Vec ℕ Global)). Reaches c.args.graph.now c.args.part.now limit.Free c.args.from c.args.to 1 r c.search_from.new.labels) c.in-None.is c.in_ok-walk.ensures.reaches))
+pub goes_to-requires-clause-search : goal.goes_to-requires-clause-search
+goes_to-requires-clause-search c = c.in_ok-begin.ensures.begun c.args.part.now
+
+pub returns-in_ok-from_slice-clause-passes : goal.returns-in_ok-from_slice-clause-passes
+returns-in_ok-from_slice-clause-passes c =
+    let e = c.in_ok-goes_to.ensures in
+    let off = c.if-branch.false in
+    let above = e.above off in
+    subst (λ (us : List ℕ). IsTrue (is_cut c.args.graph.now c.args.part.now c.args.from c.args.to us)) (sym c.in_ok-from_slice.ensures.items)
+    (cut_found c.args.graph.now c.args.part.now c.args.from c.args.to c.goes_to.new.self.labels c.reached.result.now c.nodes.ensures.graph.ends c.requires.from c.requires.to
+    e.search.labelled.len c.reached.ensures.reached
+    (final c.args.graph.now c.args.part.now limit.Free c.args.from c.args.to 1 c.goes_to.new.self e.search (e.source ∙ c.in_ok-begin.ensures.source) (e.cap ∙ c.in_ok-begin.ensures.cap) (omega arith) (e.tight off)))

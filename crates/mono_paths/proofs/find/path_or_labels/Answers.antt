@@ -1,11 +1,11 @@
-use Rattle.std.proofs.Common.{◌≤◌, ◌<◌, ◌+◌, ℕ, Vec, List, sym, ◌∙◌, subst}
-use Rattle.std.specs.Prelude.{IsTrue, Option, All}
-use Rattle.std.specs.declared.alloc.Global.{Global}
+use Rattle.std.proofs.Common.{◌≤◌, ◌<◌, ◌+◌, ℕ, List, sym, ◌∙◌, subst, arith}
+use Rattle.std.specs.Prelude.{IsTrue, All}
 use Rattle.mono_base.specs.declared.limits.TheConstants.{MAX_WITNESS_VALUE}
 use Rattle.mono_graph.specs.declared.label.Label.{Label}
 use Rattle.mono_graph.specs.Walks.{is_labelling}
-use Rattle.mono_paths.specs.Reaches.{Reaches, HasFinal}
-use Rattle.mono_paths.proofs.Ends.{empty_labelling, cheap_path, labelling_found, labels_found, bound_small}
+use Rattle.mono_paths.specs.Reaches.{HasFinal, IsCheap}
+use Rattle.mono_paths.specs.Searches.{source_of}
+use Rattle.mono_paths.proofs.Ends.{empty_labelling, cheap_path, labelling_found, labels_found, bound_small, final}
 use Rattle.mono_paths.proofs.find.path_or_labels.Goals as goal
 
 pub returns-in_default-clause-passes : goal.returns-in_default-clause-passes
@@ -13,22 +13,33 @@ returns-in_default-clause-passes c =
     subst (λ (ls : List Label). IsTrue (is_labelling c.args.graph.now c.args.part.now c.args.from c.args.to c.args.limit ls)) (sym c.new.ensures.items)
     (empty_labelling c.args.graph.now c.args.part.now c.args.from c.args.to c.args.limit c.requires.limit c.in_default.ensures)
 
-pub returns-in-Some-2-clause-passes : goal.returns-in-Some-2-clause-passes
-returns-in-Some-2-clause-passes c =
-    cheap_path c.args.graph.now c.args.part.now c.args.from c.args.to c.in-Some.most c.args.limit c.in-Some-2.walk.items c.in-Some.ensures
-    (subst (λ (r : Option (Vec ℕ Global)). Reaches c.args.graph.now c.args.part.now c.args.limit c.args.from c.args.to (c.in-Some.most + 1) r c.search_from.new.labels) c.in-Some-2.is c.in_ok-walk.ensures.reaches)
+pub goes_to-requires-clause-search : goal.goes_to-requires-clause-search
+goes_to-requires-clause-search c = c.in_ok-begin.ensures.begun c.args.part.now
 
-final : (c : goal.In_ok-listed-in-None) → HasFinal c.args.graph.now c.args.part.now c.args.limit c.args.from c.args.to (c.in-Some.most + 1) c.search_from.new.labels
-final c = subst (λ (r : Option (Vec ℕ Global)). Reaches c.args.graph.now c.args.part.now c.args.limit c.args.from c.args.to (c.in-Some.most + 1) r c.search_from.new.labels) c.in-None.is c.in_ok-walk.ensures.reaches
+pub returns-in_ok-walk-clause-passes : goal.returns-in_ok-walk-clause-passes
+returns-in_ok-walk-clause-passes c =
+    let source = c.in_ok-goes_to.ensures.source ∙ c.in_ok-begin.ensures.source in
+    let at_cap = c.in_ok-goes_to.ensures.cap ∙ c.in_ok-begin.ensures.cap in
+    cheap_path c.args.graph.now c.args.part.now c.args.from c.args.to c.in-Some.most c.args.limit c.in_ok-walk.field-0.items c.in-Some.ensures
+    (subst (λ (u : ℕ). IsCheap c.args.graph.now c.args.part.now c.args.limit u c.args.to (c.in-Some.most + 1) c.in_ok-walk.field-0.items) source
+    (subst (λ (n : ℕ). IsCheap c.args.graph.now c.args.part.now c.args.limit (source_of c.goes_to.new.self) c.args.to n c.in_ok-walk.field-0.items) at_cap c.in_ok-walk.ensures))
 
-pub returns-in_ok-listed-in-None-clause-passes : goal.returns-in_ok-listed-in-None-clause-passes
-returns-in_ok-listed-in-None-clause-passes c =
-    subst (λ (ls : List Label). IsTrue (is_labelling c.args.graph.now c.args.part.now c.args.from c.args.to c.args.limit ls)) (sym c.in_ok-listed-in-None.ensures.labels)
-    (labelling_found c.args.graph.now c.args.part.now c.args.from c.args.to c.in-Some.most c.args.limit c.search_from.new.labels c.search_from.new.labels.reached
-    c.nodes.ensures.graph.ends c.requires.from c.requires.to c.in-Some.ensures (c.in_ok-walk.ensures.len ∙ c.requires.labels) c.in_ok-listed-in-None.ensures.reached (final c))
+final_labels : (c : goal.In_ok-listed) → HasFinal c.args.graph.now c.args.part.now c.args.limit c.args.from c.args.to (c.in-Some.most + 1) c.goes_to.new.self.labels
+final_labels c =
+    let e = c.in_ok-goes_to.ensures in
+    let off = c.if-branch.false in
+    let above = e.above off in
+    final c.args.graph.now c.args.part.now c.args.limit c.args.from c.args.to (c.in-Some.most + 1) c.goes_to.new.self e.search
+    (e.source ∙ c.in_ok-begin.ensures.source) (e.cap ∙ c.in_ok-begin.ensures.cap) (omega arith) (e.tight off)
 
-pub returns-in_ok-listed-in-None-clause-known : goal.returns-in_ok-listed-in-None-clause-known
-returns-in_ok-listed-in-None-clause-known c =
-    subst (λ (ls : List Label). All (λ (l : Label). (l.node < c.args.graph.now.nodes) × (l.value ≤ MAX_WITNESS_VALUE)) ls) (sym c.in_ok-listed-in-None.ensures.labels)
-    (labels_found c.args.graph.now c.args.part.now c.args.from c.args.to c.in-Some.most c.args.limit c.search_from.new.labels c.search_from.new.labels.reached
-    (bound_small c.args.limit c.in-Some.most c.requires.limit c.in-Some.ensures) (c.in_ok-walk.ensures.len ∙ c.requires.labels) c.in_ok-listed-in-None.ensures.reached (final c))
+pub returns-in_ok-listed-clause-passes : goal.returns-in_ok-listed-clause-passes
+returns-in_ok-listed-clause-passes c =
+    subst (λ (ls : List Label). IsTrue (is_labelling c.args.graph.now c.args.part.now c.args.from c.args.to c.args.limit ls)) (sym c.in_ok-listed.ensures.labels)
+    (labelling_found c.args.graph.now c.args.part.now c.args.from c.args.to c.in-Some.most c.args.limit c.goes_to.new.self.labels c.goes_to.new.self.labels.reached
+    c.nodes.ensures.graph.ends c.requires.from c.requires.to c.in-Some.ensures c.in_ok-goes_to.ensures.search.labelled.len c.in_ok-listed.ensures.reached (final_labels c))
+
+pub returns-in_ok-listed-clause-known : goal.returns-in_ok-listed-clause-known
+returns-in_ok-listed-clause-known c =
+    subst (λ (ls : List Label). All (λ (l : Label). (l.node < c.args.graph.now.nodes) × (l.value ≤ MAX_WITNESS_VALUE)) ls) (sym c.in_ok-listed.ensures.labels)
+    (labels_found c.args.graph.now c.args.part.now c.args.from c.args.to c.in-Some.most c.args.limit c.goes_to.new.self.labels c.goes_to.new.self.labels.reached
+    (bound_small c.args.limit c.in-Some.most c.requires.limit c.in-Some.ensures) c.in_ok-goes_to.ensures.search.labelled.len c.in_ok-listed.ensures.reached (final_labels c))

@@ -1,31 +1,34 @@
-use Rattle.std.proofs.Common.{◌≡◌, ℕ, true, false, rules, arith, ltb, leb, inl, inr}
-use Rattle.std.proofs.lemmas.Bool.{cases_lt, ltb-true, ltb-false, leb-true, leb-false}
-use Rattle.std.specs.List.Sorted.{IsPartitionPoint}
-use Rattle.std.proofs.lemmas.List.Sorted.{IsPartitionPoint-from_clause, IsPartitionedBy-ltb, IsPartitionedBy-leb}
+use Rattle.std.proofs.Common.{◌≡◌, ℕ, ◌<◌, ◌≤◌, List, length, true, false, rules, arith, ltb}
+use Rattle.std.specs.Prelude.{slice_index}
+use Rattle.std.specs.List.Sorted.{IsPartitionPoint, IsNonDecreasingBy}
+use Rattle.std.proofs.lemmas.Bool.{ltb-true, ltb-false}
+use Rattle.std.proofs.lemmas.List.Sorted.{IsPartitionPoint-from_clause, IsPartitionedBy-ltb}
+use Rattle.mono_problem.specs.Uses.{IsRangeOf}
 use Rattle.mono_problem.proofs.uses.range_of.Goals as goal
 
-start : (c : goal.After-partition_point-end) → IsPartitionPoint (λ (v : ℕ). ltb v c.args.var ≡ true) (λ (v : ℕ). ltb v c.args.var ≡ false) c.args.vars.now c.partition_point-start.result
-start c = IsPartitionPoint-from_clause (λ (v : ℕ). ltb v c.args.var) c.args.vars.now c.partition_point-start.result c.partition_point-start.ensures.partitioned (IsPartitionedBy-ltb (λ (v : ℕ). v) c.args.vars.now c.args.var c.requires) (λ a r q k. search rules)
-
-end : (c : goal.After-partition_point-end) → IsPartitionPoint (λ (v : ℕ). leb v c.args.var ≡ true) (λ (v : ℕ). leb v c.args.var ≡ false) c.args.vars.now c.partition_point-end.result
-end c = IsPartitionPoint-from_clause (λ (v : ℕ). leb v c.args.var) c.args.vars.now c.partition_point-end.result c.partition_point-end.ensures.partitioned (IsPartitionedBy-leb (λ (v : ℕ). v) c.args.vars.now c.args.var c.requires) (λ a r q k. search rules)
-
-pub returns-clause-range : goal.returns-clause-range
-returns-clause-range c = record {
-  below = λ k low. ltb-true _ _ ((start c).0 k 0 (omega arith) low);
-  at = λ k low high.
-      let least = ltb-false _ _ ((start c).1 k 0 low (omega (arith, c.partition_point-end.ensures.bound))) in
-      let most = leb-true _ _ ((end c).0 k 0 (omega arith) high) in
-      omega (arith, least, most);
-  above = λ k low high. leb-false _ _ ((end c).1 k 0 low high);
+-- from where x may stand, to where it no longer does
+range : (vars : List ℕ) (x start end : ℕ) → IsNonDecreasingBy (λ (v : ℕ). v) vars → IsPartitionPoint (λ (v : ℕ). ltb v x ≡ true) (λ (v : ℕ). ltb v x ≡ false) vars start → start ≤ end → end ≤ length vars
+    → ((k : ℕ) → start ≤ k → k < end → slice_index vars k ≡ x) → (end < length vars → slice_index vars end ≡ x → ⊥) → IsRangeOf vars x start end
+range vars x start end sorted part rises within at other = record {
+  below = λ k low. ltb-true _ _ (part.0 k 0 (omega arith) low);
+  at = at;
+  above = λ k low high.
+      let inside : end < length vars = omega arith in
+      let least : x ≤ slice_index vars end = ltb-false _ _ (part.1 end 0 rises inside) in
+      let rise : slice_index vars end ≤ slice_index vars k = sorted end k 0 low high in
+      let apart = other inside in
+      grind (arith, least, rise, apart);
 }
 
-pub returns-clause-rises : goal.returns-clause-rises
-returns-clause-rises c =
-    elim (cases_lt c.partition_point-end.result c.partition_point-start.result) [
-      | inl crossed ↦
-          let less = ltb-true _ _ ((start c).0 c.partition_point-end.result 0 (omega arith) crossed) in
-          let more = leb-false _ _ ((end c).1 c.partition_point-end.result 0 (omega arith) (omega (arith, c.partition_point-start.ensures.bound))) in
-          absurd (omega (arith, less, more))
-      | inr risen ↦ risen
-    ]
+pub returns-else-vars-end-clause-range : goal.returns-else-vars-end-clause-range
+returns-else-vars-end-clause-range c =
+    range c.args.vars.now c.args.var c.partition_point-start.result c.loop-end.end c.requires
+    (IsPartitionPoint-from_clause (λ (v : ℕ). ltb v c.args.var) c.args.vars.now c.partition_point-start.result c.partition_point-start.ensures.partitioned (IsPartitionedBy-ltb (λ (v : ℕ). v) c.args.vars.now c.args.var c.requires) (λ a r q k. search rules))
+    c.loop-end.invariant.rises c.loop-end.invariant.within c.loop-end.invariant.at
+    (λ lt e. c.if-vars-end.false e)
+
+pub returns-after-loop-end-clause-range : goal.returns-after-loop-end-clause-range
+returns-after-loop-end-clause-range c =
+    range c.args.vars.now c.args.var c.partition_point-start.result c.loop-end.end c.requires
+    (IsPartitionPoint-from_clause (λ (v : ℕ). ltb v c.args.var) c.args.vars.now c.partition_point-start.result c.partition_point-start.ensures.partitioned (IsPartitionedBy-ltb (λ (v : ℕ). v) c.args.vars.now c.args.var c.requires) (λ a r q k. search rules))
+    c.loop-end.invariant.rises c.loop-end.invariant.within c.loop-end.invariant.at (λ lt e. omega (arith, lt))

@@ -1,5 +1,4 @@
-use Rattle.std.proofs.Common.{◌≡◌, ◌∙◌, ◌++◌, ◌∷◌, [], List, sym, ap, arith}
-use Rattle.mono_graph.specs.Digraph.{Digraph}
+use Rattle.std.proofs.Common.{◌∙◌, ◌++◌, ◌∷◌, [], List, sym, ap, arith}
 use Rattle.mono_problem.specs.Instance.{graph_at, no_graph}
 use Rattle.mono_steps.specs.Checkers.{GraphSize, size_of}
 use Rattle.mono_steps.proofs.Placed.{map_more}

@@ -1,6 +1,6 @@
-use Rattle.std.proofs.Common.{◌≡◌, ◌∙◌, Bool, cond, not, sym, subst, ap, IfOk}
+use Rattle.std.proofs.Common.{◌≡◌, ◌∙◌, Bool, cond, not, subst, ap, IfOk}
 use Rattle.mono_base.specs.Literal.{has_lit}
-use Rattle.mono_graph.specs.Digraph.{Digraph, edge_at, present}
+use Rattle.mono_graph.specs.Digraph.{Digraph, edge_at}
 use Rattle.mono_problem.specs.Instance.{graph_at}
 use Rattle.mono_steps.specs.Switching.{literal_of}
 use Rattle.mono_steps.specs.Witnesses.{passes}

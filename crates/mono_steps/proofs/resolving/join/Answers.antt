@@ -1,4 +1,4 @@
-use Rattle.std.proofs.Common.{◌≡◌, ◌∙◌, sym, subst, ap, ◌+◌}
+use Rattle.std.proofs.Common.{◌≡◌, ◌∙◌, sym, subst, ◌+◌}
 use Rattle.std.specs.Ordering.{int_eq}
 use Rattle.std.proofs.lemmas.Bool.{not-true, not-false}
 use Rattle.mono_base.specs.LitSet.{LiteralSet}

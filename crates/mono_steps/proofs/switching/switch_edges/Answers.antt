@@ -1,12 +1,10 @@
-use Rattle.std.proofs.Common.{◌≡◌, ◌<◌, ◌∙◌, ◌+◌, ◌==◌, ℕ, Bool, true, false, cond, length, take, sym, subst, ap, arith, ℤ, pos, nat_abs}
+use Rattle.std.proofs.Common.{◌≡◌, ◌<◌, ◌∙◌, ◌==◌, ℕ, Bool, true, false, length, sym, subst, ap, arith, pos, nat_abs}
 use Rattle.std.specs.Prelude.{int_lt}
 use Rattle.std.proofs.Math.Bool.{beq}
-use Rattle.mono_base.specs.Literal.{has_lit}
-use Rattle.mono_graph.specs.Digraph.{edge_at, present, IsPartOf}
+use Rattle.mono_graph.specs.Digraph.{edge_at, present}
 use Rattle.mono_graph.specs.declared.part.Part.{Part}
 use Rattle.mono_problem.specs.Instance.{graph_at}
 use Rattle.mono_problem.specs.Uses.{has_edge_use}
-use Rattle.mono_steps.specs.Switching.{literal_of}
 use Rattle.mono_steps.proofs.Switched.{switched_more, switched_same}
 use Rattle.mono_steps.proofs.switching.switch_edges.Goals as goal
 use Rattle.mono_steps.proofs.switching.switch_edges.Goals.{then-is_positive-sign, else-is_positive-sign}

@@ -1,6 +1,4 @@
-use Rattle.std.proofs.Common.{◌≡◌, ◌<◌, ◌∙◌, sym, subst, ℕ, arith}
-use Rattle.mono_problem.specs.declared.uses.Use.{Use}
-use Rattle.mono_problem.specs.declared.uses.Use.TheVariants as use_of
+use Rattle.std.proofs.Common.{◌∙◌, sym, arith}
 use Rattle.mono_steps.proofs.Switched.{place_of_use}
 use Rattle.mono_steps.proofs.switching.switch_uses.Goals as goal
 

@@ -1,7 +1,7 @@
-use Rattle.std.proofs.Common.{◌≡◌, ◌≤◌, ◌<◌, ◌-◌, ◌+◌, arith, length, Some, true, false, sym, ◌∙◌, subst, ℕ}
+use Rattle.std.proofs.Common.{◌≡◌, ◌<◌, ◌-◌, ◌+◌, arith, length, Some, true, false, sym, ◌∙◌, subst, ℕ}
 use Rattle.std.specs.Prelude.{slice_get}
 use Rattle.std.proofs.lemmas.List.{get_or_read}
-use Rattle.mono_steps.specs.Needed.{is_set, IsNeeded, StepNamesHeld}
+use Rattle.mono_steps.specs.Needed.{is_set, IsNeeded}
 use Rattle.mono_steps.proofs.StepLists.{slice_get_read}
 use Rattle.mono_steps.proofs.NeededSteps.{held_wider, needed_start, needed_skip, needed_mark}
 use Rattle.mono_steps.proofs.trimming.mark_needed.Goals as goal

@@ -1,4 +1,4 @@
-use Rattle.std.proofs.Common.{◌≡◌, ◌≤◌, length}
+use Rattle.std.proofs.Common.{◌≤◌, length}
 use Rattle.mono_steps.specs.Needed.{IsNeeded}
 use Rattle.mono_steps.proofs.trimming.mark_needed.Given as goal
 

@@ -1,4 +1,4 @@
-use Rattle.std.proofs.Common.{◌≡◌, ℕ, ◌+◌, ◌<◌, ◌≤◌, length}
+use Rattle.std.proofs.Common.{◌≡◌, ℕ, ◌+◌, ◌<◌, length}
 use Rattle.std.specs.Prelude.{slice_index_or}
 use Rattle.mono_steps.specs.Trimmed.{rank}
 use Rattle.mono_steps.proofs.trimming.new_numbers.Given as goal

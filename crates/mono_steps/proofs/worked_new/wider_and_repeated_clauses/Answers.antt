@@ -4,8 +4,6 @@ use Rattle.mono_problem.specs.Instance.{Instance}
 use Rattle.mono_steps.specs.declared.step.Step.{Step}
 use Rattle.mono_steps.specs.Journals.{chain_clauses}
 use Rattle.mono_steps.specs.New.{AreNew}
-use Rattle.mono_steps.specs.Worked.{clauses_over}
-use Rattle.mono_steps.specs.WorkedLemmas.{minus, chain}
 use Rattle.mono_steps.proofs.LeftOpen.{end_literals}
 use Rattle.mono_steps.proofs.NewSteps.{clauses_of_new, none_of_the_problem, pairs_apart}
 use Rattle.mono_steps.proofs.worked_new.wider_and_repeated_clauses.Goals as goal

@@ -1,4 +1,4 @@
-use Rattle.std.proofs.Common.{◌≡◌, ◌<◌, arith, sym, ◌∙◌, false, length, refl}
+use Rattle.std.proofs.Common.{◌<◌, arith, sym, ◌∙◌, false, length, refl}
 use Rattle.std.proofs.lemmas.List.{get_or_read}
 use Rattle.mono_learn.proofs.Joining.{joins_again, joins_low, joins_high, room_for}
 use Rattle.mono_learn.proofs.resolvent.Resolvent.join.Goals as goal

@@ -1,8 +1,6 @@
-use Rattle.std.proofs.Common.{◌≡◌, sym, ◌∙◌, ap, subst, arith, List, [], ◌∷◌, take, ◌<◌, length}
+use Rattle.std.proofs.Common.{subst, arith, List}
 use Rattle.std.specs.Prelude.{ℤ}
-use Rattle.mono_base.specs.Literal.{without}
 use Rattle.mono_learn.proofs.LitSets.{has-without, has_read, same_if, true_false}
-use Rattle.mono_learn.specs.declared.resolvent.Resolvent.{Resolvent}
 use Rattle.mono_learn.specs.Joins.{Joins}
 use Rattle.mono_learn.proofs.Joining.{without_all, joins_none, joins_step_other, joins_step_same}
 use Rattle.mono_learn.proofs.resolvent.Resolvent.join_all.Goals as goal

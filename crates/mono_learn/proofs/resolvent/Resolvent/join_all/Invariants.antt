@@ -1,4 +1,4 @@
-use Rattle.std.proofs.Common.{◌≡◌, take}
+use Rattle.std.proofs.Common.{take}
 use Rattle.mono_base.specs.Literal.{without}
 use Rattle.mono_learn.specs.Joins.{Joins}
 use Rattle.mono_learn.proofs.resolvent.Resolvent.join_all.Given as goal

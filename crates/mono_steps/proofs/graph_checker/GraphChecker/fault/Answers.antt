@@ -1,4 +1,4 @@
-use Rattle.std.proofs.Common.{◌≡◌, ◌∙◌, Bool, cond, sym, ap, None, Some, Option}
+use Rattle.std.proofs.Common.{◌∙◌, Bool, cond, sym, ap, None, Some, Option}
 use Rattle.mono_problem.specs.Instance.{graph_at}
 use Rattle.mono_steps.specs.declared.fault.StepFault.{StepFault}
 use Rattle.mono_steps.specs.declared.fault.StepFault.TheVariants as fault

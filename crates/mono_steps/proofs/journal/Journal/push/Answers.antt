@@ -1,8 +1,8 @@
-use Rattle.std.proofs.Common.{◌≡◌, ◌++◌, ◌∷◌, [], List, sym, subst}
+use Rattle.std.proofs.Common.{◌++◌, ◌∷◌, [], List, sym, subst}
 use Rattle.std.specs.Prelude.{IsTrue}
 use Rattle.mono_steps.specs.declared.step.Step.{Step}
 use Rattle.mono_steps.proofs.StepLists.{justified_more}
-use Rattle.mono_steps.specs.Steps.{are_justified, is_justified_step, clauses_after}
+use Rattle.mono_steps.specs.Steps.{are_justified}
 use Rattle.mono_steps.proofs.journal.Journal.push.Goals as goal
 
 pub returns-clause-keeps : goal.returns-clause-keeps

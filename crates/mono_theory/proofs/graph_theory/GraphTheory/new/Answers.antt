@@ -1,7 +1,7 @@
-use Rattle.std.proofs.Common.{◌≤◌, length, map, arith, ◌∙◌}
-use Rattle.mono_problem.specs.Read.{atom_numbered}
+use Rattle.std.proofs.Common.{◌≡◌, ◌≤◌, false, true, length, arith, sym, ap, subst, ◌∙◌}
+use Rattle.mono_theory.specs.Supports.{AreCovered}
+use Rattle.mono_theory.specs.Theories.{Facts}
 use Rattle.mono_theory.proofs.NumberLaws.{atoms_known, atoms_few, atoms_covered}
-use Rattle.mono_theory.proofs.PassedLaws.{passed_new}
 use Rattle.mono_theory.proofs.graph_theory.GraphTheory.new.Goals as goal
 
 pub new-requires-clause-known : goal.new-requires-clause-known
@@ -15,5 +15,13 @@ new-requires-clause-few g c =
 
 pub invariant_of-result : goal.invariant_of-result
 invariant_of-result g c =
-    rw (c.in_ok-frame.ensures, c.in_ok-held.ensures)
-    (passed_new (c.in_ok-own.own) (map (atom_numbered c.args.problem.now) c.args.atoms.now) (c.in_ok-kind.ensures ∙ c.nodes.ensures.count) (atoms_covered g.K.Kind.covers c.args.problem.now c.args.graph c.args.atoms.now c.requires.atoms))
+    let f = c.in_ok-frame.frame in
+    let e = c.in_ok-frame.ensures in
+    let atoms : length f.atoms ≡ c.atom_count-count.result = sym c.atom_count-count.ensures.count in
+    let edges : length f.graph.edges ≡ c.edge_count-edges.result = ap (λ (h : Facts). length h.graph.edges) e ∙ sym c.edge_count-edges.ensures in
+    record {
+      covered = subst (λ (h : Facts). AreCovered g.K.Kind.covers h.atoms) (sym e) (rw c.in_ok-held.ensures (atoms_covered g.K.Kind.covers c.args.problem.now c.args.graph c.args.atoms.now c.requires.atoms));
+      size = c.in_ok-kind.ensures ∙ c.nodes.ensures.count ∙ sym (ap (λ (h : Facts). h.graph.nodes) e);
+      surely = c.in_ok-surely.ensures f false atoms edges;
+      possibly = c.in_ok-possibly.ensures f true atoms edges;
+    }

@@ -1,0 +1,44 @@
+"""The families by name: how an input is made of a size and a seed, and the sizes, each with its number of seeds."""
+
+from dataclasses import dataclass
+from typing import Callable
+
+from families import boards, clauses, grids, orders, sites
+
+
+@dataclass
+class Family:
+    make: Callable
+    sizes: list  # pairs of a size and its number of seeds
+    large: list  # the same, for sizes that take long
+    clauses_alone: bool = False
+
+    def inputs(self, seeds, large):
+        """The label and the maker of each input."""
+        for size, most in self.large if large else self.sizes:
+            for seed in range(1, min(seeds, most) + 1):
+                shown = "x".join(map(str, size)) if isinstance(size, tuple) else str(size)
+                yield "%s, seed %d" % (shown, seed), lambda size=size, seed=seed: self.make(size, seed)
+
+
+FAMILIES = {
+    # boards: cells on a side, nets
+    "routing": Family(boards.routing, [((10, 4), 10), ((12, 5), 10)], [((20, 10), 3), ((30, 8), 3)]),
+    "maze": Family(boards.maze, [(20, 5), (30, 5)], [(60, 3)]),
+    # sites
+    "network": Family(sites.network, [(40, 10), (60, 10)], [(120, 3), (200, 3)]),
+    "layout": Family(sites.layout, [(30, 10), (40, 10)], [(80, 3), (160, 3)]),
+    "trees": Family(sites.trees, [(40, 5), (60, 5)], [(100, 3), (150, 3)]),
+    # elements
+    "orders": Family(orders.betweenness, [(30, 5), (40, 5)], [(80, 3)]),
+    # grids: nodes on a side, predicates
+    "predicates": Family(grids.predicates, [((8, 20), 5), ((16, 20), 5)], [((24, 20), 3), ((50, 20), 3)]),
+    "tree-bounds": Family(grids.tree_bounds, [((8, 12), 5), ((12, 12), 5)], [((16, 12), 3), ((24, 12), 3)]),
+    "wall": Family(grids.wall, [(100, 3)], [(300, 1)]),
+    # variables; holes; nodes
+    "random150": Family(clauses.uniform, [(150, 20)], [(300, 3)], True),
+    "random200": Family(clauses.uniform, [(200, 20)], [(250, 3)], True),
+    "pigeons": Family(clauses.pigeons, [(7, 1), (8, 1), (9, 1)], [(10, 1)], True),
+    "colours": Family(clauses.colours, [(300, 10)], [(500, 3)], True),
+    "parity": Family(clauses.parity, [(20, 3), (24, 3), (28, 3)], [(32, 3)], True),
+}

@@ -1,0 +1,66 @@
+"""Families on grids of n by n nodes whose neighbours are joined by an edge each way, with random clauses over the edges."""
+
+import random
+
+from families.boards import neighbours
+from families.encoding import Encoding
+
+WALKS_AND_FLOWS = ["reach", "distance_leq", "weighted_distance_leq", "maximum_flow_geq"]
+
+
+def grid(n, drawn):
+    made = Encoding()
+    graph, edges = made.graph(n * n), []
+    for u, v in neighbours(n):
+        for s, t in ((u, v), (v, u)):
+            edges.append(made.edge(graph, s, t, drawn.randint(1, 9)))
+    for _ in range(4 * n * n - 3):
+        x, y, z = (drawn.choice(edges) for _ in range(3))
+        made.clause(x, drawn.choice([-1, 1]) * y, drawn.choice([-1, 1]) * z)
+    return made, graph, edges
+
+
+def predicates(size, seed):
+    """Predicates on walks and flows in turn: most have to hold, and the others have to fail."""
+    n, count = size
+    drawn = random.Random(seed)
+    made, graph, _ = grid(n, drawn)
+    for k in range(count):
+        word = WALKS_AND_FLOWS[k % 4]
+        u, v = drawn.sample(range(n * n), 2)
+        apart = abs(u // n - v // n) + abs(u % n - v % n)
+        holds = k % 7 < 5
+        bound = {
+            "reach": [],
+            "distance_leq": [apart + 4 if holds else apart],
+            "weighted_distance_leq": [5 * apart + 9 if holds else 3 * apart],
+            "maximum_flow_geq": [drawn.randint(2, 5) if holds else drawn.randint(12, 20)],
+        }[word]
+        holds = holds or word == "reach"
+        made.clause(made.predicate(word, graph, u, v, *bound) * (1 if holds else -1))
+    return made
+
+
+def tree_bounds(size, seed):
+    """Predicates on spanning trees of the same grid with rising bounds, of which the upper ones have to hold."""
+    n, count = size
+    drawn = random.Random(seed)
+    made, graph, edges = grid(n, drawn)
+    for k in range(count):
+        x = made.predicate("mst_weight_leq", graph, (n * n - 1) * (12 + k) // 5)
+        made.clause(x if k >= count // 2 else drawn.choice([-x, drawn.choice(edges)]))
+    return made
+
+
+def wall(n, seed):
+    """The last node has to be reached, and no edge leads over one column's border."""
+    drawn = random.Random(seed)
+    made, graph, edges = grid(n, drawn)
+    made.clauses.clear()
+    q = drawn.randrange(n - 1)
+    crossing = {(u, u + 1) for u in range(q, n * n, n)}
+    for pair, x in zip(neighbours(n), edges[::2]):
+        if pair in crossing:
+            made.clause(-x)
+    made.clause(made.predicate("reach", graph, 0, n * n - 1))
+    return made

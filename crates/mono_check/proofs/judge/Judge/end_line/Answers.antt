@@ -1,0 +1,9 @@
+use Rattle.std.proofs.Common.{◌∙◌}
+use Rattle.mono_check.specs.Judges.{so_far}
+use Rattle.mono_check.proofs.Cuts.{line_ended}
+use Rattle.mono_check.proofs.judge.Judge.end_line.Goals as goal
+
+pub returns-clause-later : goal.returns-clause-later
+returns-clause-later c =
+    line_ended c.args.problem.now (so_far c.args.self.now.said) (so_far c.judge_line.new.said) c.args.self.now.lines c.args.self.now.unfinished.items c.args.end.now c.as_slice.result.now c.clear.new.self.items
+    c.requires.kept.one_line c.requires.one_line (c.as_slice.ensures.value ∙ c.in_ok-extend_from_slice.ensures.items) c.clear.ensures.items c.in_ok-judge_line.ensures.behind

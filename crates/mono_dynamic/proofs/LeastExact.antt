@@ -1,0 +1,196 @@
+-- Labels along which each present edge is tight are the least costs, after each number of steps.
+use Rattle.std.proofs.Common.{◌≡◌, ℕ, ◌+◌, ◌<◌, ◌≤◌, Bool, false, List, [], ◌∷◌, ◌++◌, length, set, take, drop, replicate, refl, sym, ap, subst, ◌∙◌, inl, inr, arith}
+use Rattle.std.specs.Prelude.{IsTrue, All, ◌==◌}
+use Rattle.std.specs.List.{list_all}
+use Rattle.std.proofs.lemmas.Bool.{cases_lt, cases_eq, or_cases, or_left, and_from, and_parts, eqb-true, both_ways, ltb-true}
+use Rattle.std.proofs.lemmas.List.{length-set, length-replicate, get_or-replicate, get_or-set_same, get_or-set_other, get_or_past}
+use Rattle.std.proofs.lemmas.List.Sums.{sum_by_push, sum_by-cons}
+use Rattle.std.proofs.lemmas.List.Elements.{All-nil}
+use Rattle.mono_graph.specs.declared.limit.Limit.{Limit}
+use Rattle.mono_graph.specs.Digraph.{Digraph, edge_at, present, has, is_place}
+use Rattle.mono_graph.specs.Walks.{is_walk, leads, cost_of}
+use Rattle.mono_dynamic.specs.declared.change.Change.{Change}
+use Rattle.mono_dynamic.specs.Arrivals.{IsGrown, GrowsAfter}
+use Rattle.mono_dynamic.specs.Costs.{Costs, label_of, cost_along, AreAttained, AreLeast, AreLeastAlong, IsTight, AreTight, AreRelaxed, IsLater, unwound, made_by, made_after, labels_after}
+use Rattle.mono_dynamic.proofs.Exact.{walks, is_walk_of, walk_push, walk_none}
+use Rattle.mono_dynamic.proofs.CostLists.{after_none, after_parts, by_latest, unwound-append, later_earlier}
+
+pub record EachTight (g : Digraph) (P : List Bool) (limit : Limit) (labels : List ℕ) : Type 0 where
+  pub each : (k : ℕ) → k < length g.edges → IsTrue (present P k) → IsTight g limit labels k
+
+bounded : (g : Digraph) (P : List Bool) (limit : Limit) (labels : List ℕ) → EachTight g P limit labels → (u v : ℕ) (ks : List ℕ)
+    → IsTrue (list_all (is_place g) ks) → IsTrue (list_all (present P) ks) → IsTrue (leads g u ks v) → label_of labels v ≤ label_of labels u + cost_along limit g ks
+bounded g P limit labels t u v [] known here way = subst (λ (w : ℕ). label_of labels w ≤ label_of labels u + 0) (eqb-true u v way) (omega arith)
+bounded g P limit labels t u v (k ∷ ks) known here way =
+    let q = and_parts (is_place g k) (list_all (is_place g) ks) known in
+    let p = and_parts (present P k) (list_all (present P) ks) here in
+    let w = and_parts ((edge_at g k).from == u) (leads g (edge_at g k).to ks v) way in
+    let step : label_of labels (edge_at g k).to ≤ label_of labels u + cost_of limit (edge_at g k) =
+    subst (λ (x : ℕ). label_of labels (edge_at g k).to ≤ label_of labels x + cost_of limit (edge_at g k)) (eqb-true (edge_at g k).from u w.0) (t.each k (ltb-true k (length g.edges) q.0) p.0) in
+    let rest : label_of labels v ≤ label_of labels (edge_at g k).to + cost_along limit g ks = bounded g P limit labels t (edge_at g k).to v ks q.1 p.1 w.1 in
+    let sums : cost_along limit g (k ∷ ks) ≡ cost_of limit (edge_at g k) + cost_along limit g ks = sum_by-cons (λ j. cost_of limit (edge_at g j)) k ks in
+    omega (arith, step, rest, sums)
+
+-- labels that are attained and along which each present edge is tight are the least costs
+pub least_of : (g : Digraph) (P : List Bool) (limit : Limit) (u most : ℕ) (labels : List ℕ) → length labels ≡ g.nodes → ((v : ℕ) → label_of labels v ≤ most) → label_of labels u ≡ 0 → EachTight g P limit labels
+    → AreAttained g P limit u most labels → AreLeast g P limit u most labels
+least_of g P limit u most labels len low source tight a = record {
+  len = len;
+  most = low;
+  least = λ v ks h.
+      let x = walks g P u v ks h in
+      let far = bounded g P limit labels tight u v ks x.known x.here x.way in
+      omega (arith, far, source);
+  attained = a;
+}
+
+all_grown : (P Q : List Bool) (js ks : List ℕ) → IsGrown P Q js → IsTrue (list_all (present P) ks) → IsTrue (list_all (present Q) ks)
+all_grown P Q js [] grown h = refl
+all_grown P Q js (k ∷ ks) grown h =
+    let p = and_parts (present P k) (list_all (present P) ks) h in
+    and_from (present Q k) (list_all (present Q) ks) (grown.each k ∙ or_left (present P k) (has js k) p.0) (all_grown P Q js ks grown p.1)
+
+attained_grown : (g : Digraph) (P Q : List Bool) (limit : Limit) (u most : ℕ) (labels js : List ℕ) → IsGrown P Q js → AreAttained g P limit u most labels → AreAttained g Q limit u most labels
+attained_grown g P Q limit u most labels js grown a = record {
+  walk = λ v lt below.
+      let w = a.walk v lt below in
+      let x = walks g P u v w.0 w.1 in
+      (w.0, is_walk_of g Q u v w.0 (record { known = x.known; here = all_grown P Q js w.0 grown x.here; way = x.way }), w.2);
+}
+
+-- each edge of a graph leads from a node to a node
+pub record HasNodes (g : Digraph) : Type 0 where
+  pub from : (k : ℕ) → k < length g.edges → (edge_at g k).from < g.nodes
+
+tight_start : (g : Digraph) (P Q : List Bool) (limit : Limit) (u most : ℕ) (labels js : List ℕ) → HasNodes g → IsGrown P Q js → AreLeast g P limit u most labels → AreTight g Q limit most labels [] js
+tight_start g P Q limit u most labels js ends grown l = record {
+  each = λ k lt here. elim (or_cases (present P k) (has js k) (sym (grown.each k) ∙ here)) [
+    | inl old ↦ elim (cases_lt (label_of labels (edge_at g k).from) most) [
+      | inl low ↦
+          let w = l.attained.walk (edge_at g k).from (ends.from k lt) low in
+          let cost : cost_along limit g (w.0 ++ k ∷ []) ≡ cost_along limit g w.0 + cost_of limit (edge_at g k) = sum_by_push (λ (j : ℕ). cost_of limit (edge_at g j)) w.0 k in
+          let far = l.least (edge_at g k).to (w.0 ++ k ∷ []) (walk_push g P u (edge_at g k).from k w.0 w.1 lt old refl) in
+          inl (inl (omega (arith, far, cost, w.2)))
+      | inr high ↦ inl (inl (let top = l.most (edge_at g k).to in omega arith))
+    ]
+    | inr due ↦ inr due
+  ];
+}
+
+pub least_relaxed : (g : Digraph) (P Q : List Bool) (u : ℕ) (js : List ℕ) (old new : Costs) → HasNodes g → length new.labels ≡ length old.labels → IsGrown P Q js → AreRelaxed g Q js [] old new [] [] []
+    → AreLeast g P old.limit u old.cap old.labels → AreLeast g Q old.limit u old.cap new.labels
+least_relaxed g P Q u js old new ends len grown r l =
+    let source : label_of old.labels u ≤ 0 = l.least u [] (walk_none g P u) in
+    let tight : EachTight g Q old.limit new.labels = record {
+      each = λ k lt here. elim ((r.tight (tight_start g P Q old.limit u old.cap old.labels js ends grown l)).each k lt here) [
+        | inl done ↦ elim done [
+          | inl t ↦ t
+          | inr waits ↦ absurd cc
+        ]
+        | inr none ↦ absurd cc
+      ];
+    } in
+    record {
+      len = len ∙ l.len;
+      most = λ v. (let a = r.lower v in let b = l.most v in omega arith);
+      least = λ v ks h.
+          let x = walks g Q u v ks h in
+          let far = bounded g Q old.limit new.labels tight u v ks x.known x.here x.way in
+          let a = r.lower u in
+          omega (arith, far, a, source);
+      attained = r.attained u (attained_grown g P Q old.limit u old.cap old.labels js grown l.attained);
+    }
+
+-- ---- after each number of steps
+
+whole_labels : (n : ℕ) (t : Costs) → All (λ (c : Change). c.stamp ≤ n) t.changes → labels_after n t ≡ t.labels
+whole_labels n t latest = ap (λ (cs : List Change). unwound t.labels cs) (after_none n t.changes latest)
+
+pub least_along_grown : (g : Digraph) (parts : ℕ → List Bool) (n last u : ℕ) (old new : Costs) (Q : List Bool) (ks : List ℕ) → AreLeastAlong g parts n u old → GrowsAfter parts n last Q ks
+    → IsLater last old new → All (λ (c : Change). c.stamp ≤ last) new.changes
+    → ((P : List Bool) → AreLeast g P old.limit u old.cap old.labels → IsGrown P Q ks → AreLeast g Q old.limit u old.cap new.labels)
+    → AreLeastAlong g parts last u new
+least_along_grown g parts n last u old new Q ks r grows later stamps grown =
+    let whole : AreLeast g (parts n) old.limit u old.cap old.labels = subst (λ (ls : List ℕ). AreLeast g (parts n) old.limit u old.cap ls) (whole_labels n old r.latest) (r.each n (omega arith)) in
+    record {
+      each = λ m le.
+          subst (λ (l : Limit). AreLeast g (parts m) l u new.cap (labels_after m new)) (sym later.limit)
+          (subst (λ (x : ℕ). AreLeast g (parts m) old.limit u x (labels_after m new)) (sym later.cap)
+          (elim (cases_lt m last) [
+            | inl less ↦ subst (λ (ls : List ℕ). AreLeast g (parts m) old.limit u old.cap ls) (sym (later_earlier last m old new later less)) (elim (cases_lt n m) [
+              | inl past ↦
+                  subst (λ (P : List Bool). AreLeast g P old.limit u old.cap (labels_after m old)) (sym (grows.still m (omega arith) less))
+                  (subst (λ (ls : List ℕ). AreLeast g (parts n) old.limit u old.cap ls) (sym (whole_labels m old (λ i d lt. (let s = r.latest i d lt in omega arith)))) whole)
+              | inr low ↦ r.each m low
+            ])
+            | inr more ↦
+                let e : last ≡ m = omega arith in
+                subst (λ (j : ℕ). AreLeast g (parts j) old.limit u old.cap (labels_after j new)) e
+                (subst (λ (P : List Bool). AreLeast g P old.limit u old.cap (labels_after last new)) (sym grows.is)
+                (subst (λ (ls : List ℕ). AreLeast g Q old.limit u old.cap ls) (sym (whole_labels last new stamps)) (grown (parts n) whole grows.grown)))
+          ]));
+      latest = stamps;
+    }
+
+pub least_along_undone : (g : Digraph) (parts : ℕ → List Bool) (kept n u k : ℕ) (old new : Costs) → kept ≤ n → take k old.changes ≡ made_by kept old.changes → drop k old.changes ≡ made_after kept old.changes
+    → new ≡ record old { labels = labels_after kept old; changes = made_by kept old.changes } → AreLeastAlong g parts n u old → AreLeastAlong g parts kept u new
+least_along_undone g parts kept n u k old new le front back is r = subst (λ (t : Costs). AreLeastAlong g parts kept u t) (sym is) (record {
+  each = λ m low.
+      subst (λ (ls : List ℕ). AreLeast g (parts m) old.limit u old.cap ls)
+      (ap (λ (cs : List Change). unwound old.labels cs) (after_parts m kept k old.changes low front back) ∙ unwound-append old.labels (made_after m (made_by kept old.changes)) (made_after kept old.changes))
+      (r.each m (omega arith));
+  latest = by_latest kept old.changes;
+})
+
+-- ---- laws
+
+none_present : (P : List Bool) → ((k : ℕ) → present P k ≡ false) → (ks : List ℕ) → IsTrue (list_all (present P) ks) → ks ≡ []
+none_present P none [] h = refl
+none_present P none (k ∷ ks) h = absurd (both_ways (present P k) (none k) (and_parts (present P k) (list_all (present P) ks) h).0)
+
+pub least_first : (g : Digraph) (parts : ℕ → List Bool) (limit : Limit) (u most : ℕ) → u < g.nodes → ((k : ℕ) → present (parts 0) k ≡ false)
+    → AreLeastAlong g parts 0 u (record { limit = limit; cap = most; labels = set (replicate g.nodes most) u 0; changes = [] })
+least_first g parts limit u most inside none =
+    let labels : List ℕ = set (replicate g.nodes most) u 0 in
+    let source : label_of labels u ≡ 0 = get_or-set_same (replicate g.nodes most) u 0 0 (omega (arith, length-replicate g.nodes most)) in
+    record {
+      each = λ m le. let e : 0 ≡ m = omega arith in subst (λ (j : ℕ). AreLeast g (parts j) limit u most labels) e (record {
+        len = length-set (replicate g.nodes most) u 0 ∙ length-replicate g.nodes most;
+        most = λ v. elim (cases_eq v u) [
+          | inl at ↦ subst (λ (w : ℕ). label_of labels w ≤ most) (sym at) (omega (arith, source))
+          | inr other ↦ elim (cases_lt v g.nodes) [
+            | inl lt ↦ omega (arith, get_or-set_other (replicate g.nodes most) u v 0 0 other, get_or-replicate g.nodes v most 0 lt)
+            | inr past ↦ omega (arith, get_or_past labels v 0 (omega (arith, length-set (replicate g.nodes most) u 0, length-replicate g.nodes most)))
+          ]
+        ];
+        least = λ v ks h.
+            let x = walks g (parts 0) u v ks h in
+            let empty : ks ≡ [] = none_present (parts 0) none ks x.here in
+            let at : u ≡ v = eqb-true u v (subst (λ (js : List ℕ). IsTrue (leads g u js v)) empty x.way) in
+            subst (λ (w : ℕ). label_of labels w ≤ cost_along limit g ks) at (omega (arith, source));
+        attained = record {
+          walk = λ v lt below. elim (cases_eq v u) [
+            | inl at ↦ subst (λ (w : ℕ). (ks : List ℕ) × IsTrue (is_walk g (parts 0) u w ks) × (cost_along limit g ks ≡ label_of labels w)) (sym at) ([], walk_none g (parts 0) u, sym source)
+            | inr other ↦ absurd (omega (arith, get_or-set_other (replicate g.nodes most) u v 0 0 other, get_or-replicate g.nodes v most 0 lt, below))
+          ];
+        };
+      });
+      latest = All-nil (λ (c : Change). c.stamp ≤ 0);
+    }
+
+pub least_same : (g : Digraph) (parts others : ℕ → List Bool) (n u : ℕ) (t : Costs) → ((m : ℕ) → m ≤ n → others m ≡ parts m) → AreLeastAlong g parts n u t → AreLeastAlong g others n u t
+least_same g parts others n u t same r = record {
+  each = λ m le. subst (λ (P : List Bool). AreLeast g P t.limit u t.cap (labels_after m t)) (sym (same m le)) (r.each m le);
+  latest = r.latest;
+}
+
+pub least_still : (g : Digraph) (parts : ℕ → List Bool) (n last u : ℕ) (t : Costs) → n ≤ last → ((m : ℕ) → n ≤ m → m ≤ last → parts m ≡ parts n) → AreLeastAlong g parts n u t → AreLeastAlong g parts last u t
+least_still g parts n last u t le still r = record {
+  each = λ m low. elim (cases_lt n m) [
+    | inl past ↦
+        subst (λ (P : List Bool). AreLeast g P t.limit u t.cap (labels_after m t)) (sym (still m (omega arith) low))
+        (subst (λ (ls : List ℕ). AreLeast g (parts n) t.limit u t.cap ls) (whole_labels n t r.latest ∙ sym (whole_labels m t (λ i d lt. (let s = r.latest i d lt in omega arith)))) (r.each n (omega arith)))
+    | inr here ↦ r.each m here
+  ];
+  latest = λ i d lt. (let s = r.latest i d lt in omega arith);
+}

@@ -1,0 +1,11 @@
+pub mod Lists
+pub mod Listed
+pub mod Followed
+pub mod Exact
+pub mod WalkBack
+pub mod Rows
+pub mod CostLists
+pub mod Tight
+pub mod LeastExact
+pub mod CostRows
+pub mod RowLists

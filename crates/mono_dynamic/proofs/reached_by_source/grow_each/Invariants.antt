@@ -1,0 +1,10 @@
+use Rattle.std.proofs.Common.{◌≡◌, length}
+use Rattle.mono_dynamic.specs.Rows.{IsGrownRow}
+use Rattle.mono_dynamic.proofs.RowLists.{AreChanged}
+use Rattle.mono_dynamic.proofs.reached_by_source.grow_each.Given as goal
+
+abbrev pub invariant-loop-i : goal.invariant-loop-i
+invariant-loop-i l = record {
+  end : l.i-end ≡ length l.rows.items;
+  changed : AreChanged (IsGrownRow l.graph l.part l.places l.stamp) l.fn.rows.items l.rows.items l.i;
+}

@@ -1,0 +1,5 @@
+pub mod Arrivals
+pub mod Reached
+pub mod Worked
+pub mod Costs
+pub mod Rows

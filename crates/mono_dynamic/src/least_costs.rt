@@ -1,0 +1,124 @@
+//! What walks from one source cost at least, in a part that gains edges and loses the last of them again.
+//!
+//! A label is the cost of the cheapest walk, or the cap. A new edge lowers the label of the node to which it leads, and
+//! from there Dijkstra's method goes on as far as labels fall. What each label was before is kept with the number of the
+//! step, so going back puts it there again, the last change first.
+
+ghost use Rattle.std.specs.Prelude.{◌≡◌, ◌+◌, ◌<◌, ◌≤◌, ◌∷◌, [], ℕ, Bool, List, All, IfOk, OnOk, OnErr, length, replicate, slice_set};
+ghost use Rattle.mono_graph.specs.Digraph.{Digraph, IsPartOf};
+ghost use Rattle.mono_dynamic.specs.Arrivals.{IsGrown, GrowsAfter};
+ghost use Rattle.mono_dynamic.specs.Costs.{label_of, labels_after, made_by, AreLeast, AreLeastAlong};
+
+use crate::change::Change;
+use crate::cost_table::CostTable;
+use crate::relax::relax_from;
+use crate::waiting::Waiting;
+use mono_base::limits::MAX_BOUND;
+use mono_graph::{Graph, Limit, Part};
+use std::alloc::{AllocError, Global};
+use std::collections::BinaryHeap;
+use std::marker::Model;
+
+/// The least costs of walks from one source, after each number of steps by which the part grew.
+///
+/// Contracts see what walks cost, the cap, the labels by node, and the changes that led to them. `new` and `grow` take
+/// memory.
+#[derive(Drop)]
+pub struct LeastCosts {
+    table: CostTable,
+    queue: BinaryHeap<Waiting>,
+}
+
+impl Model for LeastCosts {
+    ghost use Rattle.mono_dynamic.specs.Costs.{Costs};
+
+    ghost Value = { Costs };
+
+    ghost view = { λ s. s.table };
+}
+
+impl LeastCosts {
+    /// Label 0 at the source, and the cap at each other node: so it is in a part with no edge.
+    ///
+    /// The limit says what a walk costs; its bound doesn't matter. The cap is at most one above [`MAX_BOUND`].
+    pub fn new(
+        alloc: Global,
+        nodes: u32,
+        source: u32,
+        limit: Limit,
+        cap: u64,
+    ) -> Result<Self, AllocError>
+        requires source { source < nodes }
+        requires cap { cap ≤ MAX_BOUND + 1 }
+        ensures { IfOk result (λ s. s ≡ record { limit = limit; cap = cap; labels = slice_set (replicate nodes cap) source 0; changes = [] }) }
+    {
+        let table = CostTable::new(alloc, nodes, source, limit, cap)?;
+        Ok(LeastCosts {
+            table,
+            queue: BinaryHeap::new(alloc),
+        })
+    }
+
+    /// The label of a node.
+    pub fn label(&self, node: u32) -> u64
+        requires { node < length self.now.labels }
+        ensures label { result ≡ label_of self.now.labels node }
+        ensures most { result ≤ self.now.cap }
+    {
+        self.table.label(node)
+    }
+
+    /// The changes of labels, in order: what a step lowered stands at the end.
+    pub fn changes(&self) -> &[Change]
+        ensures changes { result.now ≡ self.now.changes }
+        ensures known { All (λ c. c.node < length self.now.labels) result.now }
+    {
+        self.table.changes()
+    }
+
+    /// Edges have come into the part, with the step of this number. Labels that they lower are lowered. Where memory is
+    /// missing, all is as before.
+    ///
+    /// It costs the places, the nodes whose labels fall and the edges that leave them, each as often as its label falls.
+    pub fn grow(
+        &mut self,
+        graph: &Graph,
+        part: &Part,
+        places: &[u32],
+        stamp: u32,
+    ) -> Result<(), AllocError>
+        requires size { length self.old.labels ≡ graph.now.nodes }
+        requires part { IsPartOf part.now graph.now }
+        requires places { All (λ k. k < length graph.now.edges) places.now }
+        requires stamps { All (λ c. c.stamp ≤ stamp) self.old.changes }
+        ensures limit { self.new.limit ≡ self.old.limit }
+        ensures cap { self.new.cap ≡ self.old.cap }
+        ensures len { length self.new.labels ≡ length self.old.labels }
+        ensures unchanged { OnErr result (self.new ≡ self.old) }
+        ensures stamps { All (λ c. c.stamp ≤ stamp) self.new.changes }
+        ensures earlier { (m : ℕ) → m < stamp → labels_after m self.new ≡ labels_after m self.old }
+        ensures least { OnOk result ((u : ℕ) (P : List Bool) → AreLeast graph.now P self.old.limit u self.old.cap self.old.labels → IsGrown P part.now places.now → AreLeast graph.now part.now self.old.limit u self.old.cap self.new.labels) }
+        ensures along { OnOk result ((parts : ℕ → List Bool) (n u : ℕ) → AreLeastAlong graph.now parts n u self.old → GrowsAfter parts n stamp part.now places.now → AreLeastAlong graph.now parts stamp u self.new) }
+    {
+        // The edges of a graph lead between its nodes.
+        let _ = graph.nodes();
+        let count = self.table.change_count();
+        let table = &mut self.table;
+        match relax_from(graph, part, places, stamp, table, &mut self.queue) {
+            Ok(()) => Ok(()),
+            Err(error) => {
+                self.table.unwind(count);
+                Err(error)
+            }
+        }
+    }
+
+    /// Goes back to the labels after so many steps. It costs the changes that it takes back.
+    pub fn undo_to(&mut self, kept: u32)
+        ensures restored { self.new ≡ record self.old { labels = labels_after kept self.old; changes = made_by kept self.old.changes } }
+        ensures along { (g : Digraph) (parts : ℕ → List Bool) (n u : ℕ) → kept ≤ n → AreLeastAlong g parts n u self.old → AreLeastAlong g parts kept u self.new }
+    {
+        let count = self.table.count_by(kept);
+        self.table.unwind(count);
+    }
+}

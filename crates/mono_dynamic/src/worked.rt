@@ -1,0 +1,73 @@
+//! Worked rows: what the words of this crate's contracts make of small graphs.
+
+ghost use Rattle.std.specs.Prelude.{◌≡◌, ◌∷◌, [], ℕ, pos, true, false, None, Some};
+ghost use Rattle.mono_graph.specs.Worked.{pipe, parallel, round_trip, looped, both, first_alone, last_alone, neither};
+ghost use Rattle.mono_dynamic.specs.Arrivals.{at_source, is_reached, is_by, within, AreReached, AreReachedAlong};
+ghost use Rattle.mono_dynamic.specs.Costs.{AreLeast, AreLeastAlong, labels_after};
+ghost use Rattle.mono_dynamic.specs.Worked.{arrival, one_by_one, at_once, change, last_first};
+
+use mono_graph::Limit;
+
+/// Along a path of two edges each node is reached up to the first edge that is absent, by its own edge, and no other.
+pub fn reached_along_a_path()
+    ensures both { AreReached (pipe 1 1) both 0 (at_source 0 ∷ arrival 1 0 0 1 ∷ arrival 2 1 1 1 ∷ []) }
+    ensures first { AreReached (pipe 1 1) first_alone 0 (at_source 0 ∷ arrival 1 0 0 1 ∷ []) }
+    ensures last { AreReached (pipe 1 1) last_alone 0 (at_source 0 ∷ []) }
+    ensures too_few { AreReached (pipe 1 1) both 0 (at_source 0 ∷ arrival 1 0 0 1 ∷ []) → ⊥ }
+    ensures too_many { AreReached (pipe 1 1) first_alone 0 (at_source 0 ∷ arrival 1 0 0 1 ∷ arrival 2 1 1 1 ∷ []) → ⊥ }
+    ensures by_another_edge { AreReached (pipe 1 1) both 0 (at_source 0 ∷ arrival 1 1 0 1 ∷ arrival 2 1 1 1 ∷ []) → ⊥ }
+    ensures from_another_arrival { AreReached (pipe 1 1) both 0 (at_source 0 ∷ arrival 1 0 0 1 ∷ arrival 2 1 0 1 ∷ []) → ⊥ }
+    ensures of_another_source { AreReached (pipe 1 1) both 1 (at_source 0 ∷ arrival 1 0 0 1 ∷ arrival 2 1 1 1 ∷ []) → ⊥ }
+{}
+
+/// A cycle and an edge from a node to itself reach nothing again, and of two parallel edges either may be the one.
+pub fn reached_round_a_cycle()
+    ensures cycle { AreReached (round_trip 1 1) both 0 (at_source 0 ∷ arrival 1 0 0 1 ∷ []) }
+    ensures to_itself { AreReached looped (true ∷ []) 0 (at_source 0 ∷ []) }
+    ensures by_first { AreReached (parallel 1 4) both 0 (at_source 0 ∷ arrival 1 0 0 1 ∷ []) }
+    ensures by_last { AreReached (parallel 1 4) both 0 (at_source 0 ∷ arrival 1 1 0 1 ∷ []) }
+    ensures by_absent { AreReached (parallel 1 4) first_alone 0 (at_source 0 ∷ arrival 1 1 0 1 ∷ []) → ⊥ }
+{}
+
+/// Where two edges come one after the other, the nodes have the stamps 1 and 2; where they come at once, both have 1.
+pub fn reached_step_by_step()
+    ensures one_by_one { AreReachedAlong (pipe 1 1) one_by_one 2 0 (at_source 0 ∷ arrival 1 0 0 1 ∷ arrival 2 1 1 2 ∷ []) }
+    ensures too_late { AreReachedAlong (pipe 1 1) one_by_one 2 0 (at_source 0 ∷ arrival 1 0 0 2 ∷ arrival 2 1 1 2 ∷ []) → ⊥ }
+    ensures too_early { AreReachedAlong (pipe 1 1) one_by_one 2 0 (at_source 0 ∷ arrival 1 0 0 1 ∷ arrival 2 1 1 1 ∷ []) → ⊥ }
+    ensures at_once { AreReachedAlong (pipe 1 1) at_once 1 0 (at_source 0 ∷ arrival 1 0 0 1 ∷ arrival 2 1 1 1 ∷ []) }
+    ensures not_yet { AreReachedAlong (pipe 1 1) at_once 1 0 (at_source 0 ∷ arrival 1 0 0 1 ∷ arrival 2 1 1 2 ∷ []) → ⊥ }
+{}
+
+/// Going back keeps the arrivals with stamps up to a number, at 0 the source alone, and at the last number all.
+pub fn arrivals_up_to_a_stamp()
+    ensures none { within 0 (at_source 0 ∷ arrival 1 0 0 1 ∷ arrival 2 1 1 2 ∷ []) ≡ at_source 0 ∷ [] }
+    ensures some { within 1 (at_source 0 ∷ arrival 1 0 0 1 ∷ arrival 2 1 1 2 ∷ []) ≡ at_source 0 ∷ arrival 1 0 0 1 ∷ [] }
+    ensures all { within 2 (at_source 0 ∷ arrival 1 0 0 1 ∷ arrival 2 1 1 2 ∷ []) ≡ at_source 0 ∷ arrival 1 0 0 1 ∷ arrival 2 1 1 2 ∷ [] }
+    ensures source { is_reached (within 0 (at_source 4 ∷ [])) 4 ≡ true }
+    ensures other { is_reached (within 9 (at_source 4 ∷ [])) 0 ≡ false }
+    ensures never { (n : ℕ) → is_by None n ≡ false }
+    ensures before { is_by (Some 2) 1 ≡ false }
+    ensures at { is_by (Some 2) 2 ≡ true }
+{}
+
+/// Of two parallel edges the cheaper one counts, where it is present; what costs more than the cap counts as the cap.
+pub fn least_costs_over_parallel_edges()
+    ensures both { AreLeast (parallel 1 4) both (Limit.Weight (pos 9)) 0 10 (0 ∷ 1 ∷ []) }
+    ensures last { AreLeast (parallel 1 4) last_alone (Limit.Weight (pos 9)) 0 10 (0 ∷ 4 ∷ []) }
+    ensures steps { AreLeast (parallel 1 4) last_alone (Limit.Steps (pos 9)) 0 10 (0 ∷ 1 ∷ []) }
+    ensures capped { AreLeast (parallel 1 4) last_alone (Limit.Weight (pos 2)) 0 3 (0 ∷ 3 ∷ []) }
+    ensures not_lowered { AreLeast (parallel 1 4) both (Limit.Weight (pos 9)) 0 10 (0 ∷ 4 ∷ []) → ⊥ }
+    ensures above_cap { AreLeast (parallel 1 4) last_alone (Limit.Weight (pos 2)) 0 3 (0 ∷ 4 ∷ []) → ⊥ }
+    ensures too_low { AreLeast (parallel 1 4) last_alone (Limit.Weight (pos 9)) 0 10 (0 ∷ 1 ∷ []) → ⊥ }
+    ensures to_itself { AreLeast looped (true ∷ []) (Limit.Weight (pos 9)) 0 10 (0 ∷ []) }
+    ensures cycle { AreLeast (round_trip 2 3) both (Limit.Weight (pos 9)) 0 10 (0 ∷ 2 ∷ []) }
+{}
+
+/// Where the dearer of two parallel edges comes first, the label falls twice, and going back raises it twice.
+pub fn least_costs_step_by_step()
+    ensures falls { AreLeastAlong (parallel 1 4) last_first 2 0 (record { limit = Limit.Weight (pos 9); cap = 10; labels = 0 ∷ 1 ∷ []; changes = change 1 10 1 ∷ change 1 4 2 ∷ [] }) }
+    ensures too_late { AreLeastAlong (parallel 1 4) last_first 2 0 (record { limit = Limit.Weight (pos 9); cap = 10; labels = 0 ∷ 1 ∷ []; changes = change 1 10 2 ∷ change 1 4 2 ∷ [] }) → ⊥ }
+    ensures after_none { labels_after 0 (record { limit = Limit.Weight (pos 9); cap = 10; labels = 0 ∷ 1 ∷ []; changes = change 1 10 1 ∷ change 1 4 2 ∷ [] }) ≡ 0 ∷ 10 ∷ [] }
+    ensures after_one { labels_after 1 (record { limit = Limit.Weight (pos 9); cap = 10; labels = 0 ∷ 1 ∷ []; changes = change 1 10 1 ∷ change 1 4 2 ∷ [] }) ≡ 0 ∷ 4 ∷ [] }
+    ensures after_both { labels_after 2 (record { limit = Limit.Weight (pos 9); cap = 10; labels = 0 ∷ 1 ∷ []; changes = change 1 10 1 ∷ change 1 4 2 ∷ [] }) ≡ 0 ∷ 1 ∷ [] }
+{}

@@ -1,0 +1,30 @@
+//! What of a walk is bounded.
+
+ghost use Rattle.std.specs.Prelude.{◌≡◌};
+ghost use Rattle.mono_paths.specs.Asked.{limit_by};
+
+use mono_graph::Limit;
+
+/// What of a walk is bounded, whatever the bound is.
+#[derive(Debug, Clone, Copy, PartialEq, Eq, PartialOrd, Ord)]
+pub enum Measure {
+    /// Nothing: each walk will do.
+    Nothing,
+    /// How many edges it has.
+    Edges,
+    /// How much they weigh.
+    Weight,
+}
+
+impl Measure {
+    /// The limit of this much.
+    pub fn limit(self, most: i64) -> Limit
+        ensures { result ≡ limit_by self most }
+    {
+        match self {
+            Measure::Nothing => Limit::Free,
+            Measure::Edges => Limit::Steps(most),
+            Measure::Weight => Limit::Weight(most),
+        }
+    }
+}

@@ -1,0 +1,116 @@
+//! The atoms that watch each edge: those whose support has it.
+//!
+//! An atom whose support changes goes on watching the edges of the old one. So the lists are made anew from the supports
+//! when they have grown to more than twice what these need.
+
+ghost use Rattle.std.specs.Prelude.{◌≡◌, ◌<◌, ◌^◌, ℕ, List, All, IfOk, IfSome, length};
+ghost use Rattle.mono_theory.specs.Watching.{watching, support_at, AreBelow, AreWatched, AllWatch, IsGrown};
+
+use mono_base::Row;
+use mono_graph::Buckets;
+use std::alloc::{AllocError, Global};
+use std::marker::Model;
+
+/// A list of atoms for each edge.
+#[derive(Drop)]
+pub(crate) struct Watchers {
+    lists: Buckets<u32>,
+    /// How many entries the lists have.
+    entries: usize,
+    /// How many they may have before they are made anew.
+    limit: usize,
+}
+
+impl Model for Watchers {
+    ghost use Rattle.std.specs.Prelude.{List, ℕ};
+
+    ghost Value = { List (List ℕ) };
+
+    ghost view = { λ w. w.lists };
+}
+
+/// The atom watches each of the edges.
+fn watch_all(lists: &mut Buckets<u32>, atom: u32, edges: &[u32]) -> Result<(), AllocError>
+    requires edges { All (λ k. k < length lists.old) edges.now }
+    ensures grown { IsGrown lists.old lists.new }
+    ensures below { (n : ℕ) → atom < n → AreBelow n lists.old → AreBelow n lists.new }
+    ensures watched { IfOk result (λ _. AreWatched lists.new atom edges.now) }
+{
+    for edge in edges {
+        lists.push(*edge, atom)?;
+    }
+    Ok(())
+}
+
+/// The atom watches the edges of its support.
+fn watch_support(
+    lists: &mut Buckets<u32>,
+    atom: u32,
+    support: &Option<Row<u32>>,
+) -> Result<usize, AllocError>
+    requires edges { IfSome support.now (All (λ k. k < length lists.old)) }
+    ensures grown { IsGrown lists.old lists.new }
+    ensures below { (n : ℕ) → atom < n → AreBelow n lists.old → AreBelow n lists.new }
+    ensures watched { IfOk result (λ _. IfSome support.now (AreWatched lists.new atom)) }
+{
+    match support {
+        None => Ok(0),
+        Some(edges) => {
+            watch_all(lists, atom, edges.as_slice())?;
+            Ok(edges.as_slice().len())
+        }
+    }
+}
+
+impl Watchers {
+    /// Each atom watches the edges of its support.
+    pub(crate) fn of_supports(
+        alloc: Global,
+        edges: u32,
+        supports: &[Option<Row<u32>>],
+    ) -> Result<Watchers, AllocError>
+        requires few { length supports.now < 2 ^ 32 }
+        requires edges { (a : ℕ) → a < length supports.now → IfSome (support_at supports.now a) (All (λ k. k < edges)) }
+        ensures len { IfOk result (λ w. length w ≡ edges) }
+        ensures below { IfOk result (AreBelow (length supports.now)) }
+        ensures watch { IfOk result (λ w. AllWatch w supports.now (length supports.now)) }
+    {
+        let mut lists = Buckets::new(alloc, edges)?;
+        let mut entries: usize = 0;
+        for atom in 0..supports.len() {
+            let more = watch_support(&mut lists, atom as u32, &supports[atom])?;
+            entries = entries.saturating_add(more);
+        }
+        let least = supports.len().saturating_add(edges as usize);
+        let limit = entries.saturating_mul(2).saturating_add(least);
+        Ok(Watchers {
+            lists,
+            entries,
+            limit,
+        })
+    }
+
+    /// The atoms that watch the edge.
+    pub(crate) fn list(&self, edge: u32) -> &[u32]
+        requires { edge < length self.now }
+        ensures { result.now ≡ watching self.now edge }
+    {
+        self.lists.list(edge)
+    }
+
+    /// Whether it is time to make the lists anew.
+    pub(crate) fn is_full(&self) -> bool {
+        self.entries > self.limit
+    }
+
+    /// The atom watches each of the edges. Where memory is wanting, it may watch some.
+    pub(crate) fn watch(&mut self, atom: u32, edges: &[u32]) -> Result<(), AllocError>
+        requires edges { All (λ k. k < length self.old) edges.now }
+        ensures grown { IsGrown self.old self.new }
+        ensures below { (n : ℕ) → atom < n → AreBelow n self.old → AreBelow n self.new }
+        ensures watched { IfOk result (λ _. AreWatched self.new atom edges.now) }
+    {
+        self.entries = self.entries.saturating_add(edges.len());
+        watch_all(&mut self.lists, atom, edges)
+    }
+}

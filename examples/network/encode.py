@@ -1,0 +1,74 @@
+"""The cheapest set of links that joins all sites and goes on doing so where any one link is cut.
+
+`sites.txt` has a name and a place on each line, `links.txt` two names and the cost of a link between them. No cut link
+parts a site from the first one exactly where two ways without a common link lead there (Menger): a flow of 2, each link
+having the capacity 1.
+"""
+
+from __future__ import annotations
+
+from pathlib import Path
+
+from gulfezo import Edge, Model, Problem, Sum
+from gulfezo.draw import drawing
+
+HERE = Path(__file__).parent
+
+
+def read_rows(name: str) -> list[list[str]]:
+    """The words of each line of a file."""
+    return [line.split() for line in (HERE / name).read_text().splitlines()]
+
+
+def encode() -> tuple[Problem, list[Edge], Sum]:
+    """The problem without a bound on the costs, the links, and the sum of their costs."""
+    problem = Problem()
+    graph = problem.add_graph("sites")
+    node = {name: graph.add_node(f"{name}@{x},{y}") for name, x, y in read_rows("sites.txt")}
+    rows = read_rows("links.txt")
+    links = [graph.add_link(node[one], node[other]) for one, other, _ in rows]
+    first, *others = node.values()
+    problem.require(*(graph.maximum_flow_geq(first, other, 2) for other in others))
+    costs = problem.add_sum([(link, int(cost)) for link, (_, _, cost) in zip(links, rows)], "costs")
+    return problem, links, costs
+
+
+def cost_of(model: Model, costs: Sum) -> int:
+    """What the links of a model cost."""
+    return sum(amount for literal, amount in costs.terms if model[literal])
+
+
+def bounded(bound: int) -> Problem:
+    """The problem with links that cost at most so much."""
+    problem, _, costs = encode()
+    problem.require(costs.at_most(bound))
+    return problem
+
+
+CHEAPEST = 30
+
+
+def problems() -> dict[str, Problem]:
+    """The problems of this example by name: the least cost, and one less."""
+    return {"cheapest": bounded(CHEAPEST), "cheaper": bounded(CHEAPEST - 1)}
+
+
+def picture(problem: Problem, model: Model) -> str:
+    """The sites and links alone, with the two ways to the last but two site."""
+    return drawing(problem, model, predicate=3)
+
+
+def main() -> None:
+    """Lowers the bound until no set of links is left: the last refutation shows that the last model is the cheapest."""
+    problem, links, costs = encode()
+    while answer := problem.solve():
+        cost = cost_of(answer, costs)
+        names = problem.graphs[0].names
+        built = [link for link in links if answer[link]]
+        print(f"cost {cost}:", ", ".join(f"{names[e.start].split('@')[0]}-{names[e.end].split('@')[0]}" for e in built))
+        problem.require(costs.at_most(cost - 1))
+    print(f"nothing is cheaper: the refutation has {len(answer.lemmas)} lemmas")
+
+
+if __name__ == "__main__":
+    main()

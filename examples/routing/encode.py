@@ -1,0 +1,72 @@
+"""Routes nets on a board of cells: each net joins its two pins, and no cell is used by two nets.
+
+A board is a text: a letter is a pin of the net of that name, `.` a free cell and `#` a blocked one.
+"""
+
+from __future__ import annotations
+
+from pathlib import Path
+
+from gulfezo import Literal, Model, Problem
+from gulfezo.draw import drawing
+
+HERE = Path(__file__).parent
+
+Cell = tuple[int, int]
+
+
+def read_board(path: Path) -> dict[Cell, str]:
+    """What is in each cell that isn't blocked, by column and row."""
+    rows = [row.split() for row in path.read_text().splitlines()]
+    return {(x, y): mark for y, row in enumerate(rows) for x, mark in enumerate(row) if mark != "#"}
+
+
+def encode(board: dict[Cell, str]) -> Problem:
+    """One graph for each net, over the same cells."""
+    problem = Problem()
+    cells = list(board)
+    used: dict[Cell, list[Literal]] = {cell: [] for cell in cells}
+    for net in sorted(set(board.values()) - {"."}):
+        graph = problem.add_graph(f"net {net}")
+        node = {(x, y): graph.add_node(f"{board[x, y]}@{x},{y}".removeprefix(".@")) for x, y in cells}
+        uses = {cell: problem.add_variable(f"net {net} uses {cell[0]},{cell[1]}") for cell in cells}
+        for x, y in cells:
+            for beside in ((x + 1, y), (x, y + 1)):
+                if beside in board:
+                    track = graph.add_link(node[x, y], node[beside])
+                    problem.add_clause(~track, uses[x, y])
+                    problem.add_clause(~track, uses[beside])
+        start, end = (node[cell] for cell in cells if board[cell] == net)
+        problem.require(graph.reach(start, end))
+        for cell in cells:
+            used[cell].append(uses[cell])
+    for literals in used.values():
+        problem.at_most_one(literals)
+    return problem
+
+
+def problems() -> dict[str, Problem]:
+    """The problems of this example by name."""
+    return {name: encode(read_board(HERE / f"{name}.txt")) for name in ("board", "crossed")}
+
+
+def picture(problem: Problem, model: Model) -> str:
+    """Both nets on one board."""
+    return drawing(problem, model)
+
+
+def main() -> None:
+    """Solves both boards, and prints each net's way."""
+    for name, problem in problems().items():
+        answer = problem.solve()
+        if not answer:
+            print(f"{name}: the nets can't both be routed; the refutation has {len(answer.lemmas)} lemmas")
+            continue
+        for net in problem.predicates:
+            way, graph = answer.path(net), problem.graphs[net.graph]
+            nodes = [way[0].start] + [edge.end for edge in way]
+            print(f"{name}: {graph.name}: {' '.join(graph.names[node] for node in nodes)}")
+
+
+if __name__ == "__main__":
+    main()

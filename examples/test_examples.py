@@ -1,0 +1,64 @@
+"""Each example: its files are as its script makes them, `check` accepts its answer, `solve` answers the same way."""
+
+import contextlib
+import io
+import os
+import subprocess
+import tempfile
+import unittest
+import unittest.mock
+from pathlib import Path
+
+import kept
+
+BUILT = Path(__file__).resolve().parents[1] / "crates" / "mono_cmd" / "out" / "mono_cmd"
+
+
+class Examples(unittest.TestCase):
+    def setUp(self):
+        self.program = os.environ.get("GULFEZO") or str(BUILT)
+
+    def check(self, problem: Path, answer: Path) -> str:
+        if not os.access(self.program, os.X_OK):
+            self.skipTest("the program isn't built, and GULFEZO names none: no answer was checked")
+        run = subprocess.run([self.program, "check", problem, answer], capture_output=True, text=True, check=False)
+        return run.stdout.strip()
+
+    def test_files_are_as_their_scripts_make_them(self):
+        for example in kept.all_kept():
+            with self.subTest(example.folder.name, name=example.name):
+                self.assertEqual(example.file("gnf").read_text(), example.problem.text())
+                self.assertEqual(example.file("svg").read_text(), example.kept_picture())
+
+    def test_kept_answers_are_accepted(self):
+        for example in kept.all_kept():
+            with self.subTest(example.folder.name, name=example.name):
+                self.assertEqual(self.check(example.file("gnf"), example.file("answer")), example.verdict)
+
+    def test_solving_gives_the_expected_answer(self):
+        for example in kept.all_kept():
+            with self.subTest(example.folder.name, name=example.name), tempfile.TemporaryDirectory() as folder:
+                self.check(example.file("gnf"), example.file("answer"))
+                example.problem.solve(folder=folder, program=self.program)
+                self.assertEqual(self.check(Path(folder, "problem.gnf"), Path(folder, "answer")), example.verdict)
+
+    def test_scripts_run_to_their_end(self):
+        for example in kept.EXAMPLES:
+            with self.subTest(example):
+                self.check(Path("none"), Path("none"))
+                told = io.StringIO()
+                with contextlib.redirect_stdout(told), unittest.mock.patch.dict(os.environ, {"GULFEZO": self.program}):
+                    kept.script_of(kept.HERE / example).main()
+                self.assertIn(EXPECTED[example], told.getvalue())
+
+
+# The last thing that each script says.
+EXPECTED = {
+    "routing": "crossed: the nets can't both be routed",
+    "network": "nothing is cheaper: the refutation has",
+    "placement": "tank: column ",
+    "backbone": "a budget of 11: ",
+}
+
+if __name__ == "__main__":
+    unittest.main()

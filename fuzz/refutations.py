@@ -1,0 +1,84 @@
+"""Right answers for small problems: a model, or a refutation with lemmas and chains, by splitting on each variable."""
+
+import reference
+import witnesses
+
+
+class Model(Exception):
+    """An assignment that satisfies the problem."""
+
+
+class Refuter:
+    """Splits until a clause is false; where none is, a lemma of a wrong predicate is; then resolves on the way back."""
+
+    def __init__(self, problem, random):
+        self.problem, self.random = problem, random
+        self.clauses = [frozenset(c) for c in problem.clauses]
+        self.rows = []
+        self.chains = {}  # clause number: the clause numbers of its chain
+
+    def false_clause(self, signs):
+        for number, clause in enumerate(self.clauses, 1):
+            if all(signs.get(abs(x)) == (x < 0) for x in clause):
+                return number
+        return None
+
+    def add(self, row, clause):
+        self.rows.append(row)
+        self.clauses.append(frozenset(clause))
+        return len(self.clauses)
+
+    def add_lemma(self, signs):
+        number = reference.first_wrong_predicate(self.problem, signs)
+        if number is None:
+            raise Model(dict(signs))
+        word, literals, listed = witnesses.lemma(self.problem, number, signs)
+        if self.random.random() < 0.2:  # a literal more does no harm
+            x = self.random.choice(list(signs))
+            literals = sorted({*literals, -x if signs[x] else x})
+        self.random.shuffle(literals)
+        return self.add([word, number, *literals, 0, *listed], literals)
+
+    def refute(self, signs):
+        """The number of a clause that these signs make false."""
+        found = self.false_clause(signs)
+        if found is not None:
+            return found
+        left = [x for x in range(1, self.problem.variables + 1) if x not in signs]
+        if not left:
+            return self.add_lemma(signs)
+        x, sign = self.random.choice(left), self.random.random() < 0.5
+        ends = []
+        for value in (sign, not sign):
+            number = self.refute({**signs, x: value})
+            if not {x, -x} & self.clauses[number - 1]:
+                return number
+            ends.append(number)
+        return self.resolve(*ends)
+
+    def resolve(self, one, other):
+        clause = list(reference.resolvent(self.clauses[one - 1], self.clauses[other - 1]))
+        self.random.shuffle(clause)
+        # The chain of the first clause is gone on with, now and then, in place of the clause.
+        used = [*self.chains.get(one, [one]), other] if self.random.random() < 0.3 else [one, other]
+        number = self.add(["chain", *clause, 0, *used], clause)
+        self.chains[number] = used
+        return number
+
+
+def answer(problem, random):
+    """The rows of a right answer: a model, a refutation or progress."""
+    refuter = Refuter(problem, random)
+    try:
+        last = refuter.refute({})
+    except Model as model:
+        (signs,) = model.args
+        literals = [x if sign else -x for x, sign in sorted(signs.items())]
+        if refuter.rows and random.random() < 0.3:
+            return [["s", "UNKNOWN"], *refuter.rows]
+        return [["s", "SATISFIABLE"], ["v", *literals, 0]]
+    if not refuter.rows or refuter.rows[-1][:2] != ["chain", 0]:
+        refuter.add(["chain", 0, last], [])
+    if random.random() < 0.2:
+        return [["s", "UNKNOWN"], *refuter.rows[: random.randint(0, len(refuter.rows))]]
+    return [["s", "UNSATISFIABLE"], *refuter.rows]

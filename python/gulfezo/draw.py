@@ -1,0 +1,101 @@
+"""Draws a problem's graphs: gulfezo-draw FILE [ANSWER] -o out.svg [--predicate N | --lemma N] [--graph G]
+
+With a model it draws present edges dark and absent ones pale, and marks a walk, flow or tree for each predicate that
+holds; `--predicate N` chooses one predicate, also one that fails, for which it fills the nodes of a cut. With a
+refutation it draws the lemma whose clause has the number `--lemma N`, or the first lemma. Without an answer it draws
+the bare graphs. Graphs whose nodes have the same names lie upon each other; others stand beside each other.
+"""
+
+from __future__ import annotations
+
+import argparse
+import sys
+from collections.abc import Sequence
+from pathlib import Path
+
+from . import marks as marking, program
+from .answer import Answer, parse_answer
+from .errors import GulfezoError, ProgramMissing
+from .graph import Graph
+from .model import Model
+from .panels import drawn
+from .problem import Problem
+from .reading import read_problem
+
+
+def drawing(
+    problem: Problem, answer: Answer | None, predicate: int = 0, lemma: int = 0, graph: int = -1, absent: bool = True
+) -> str:
+    """An SVG file. `predicate`, `lemma` and `graph` choose by number (0 and -1: none is chosen), as the command does.
+
+    Without `absent`, edges that aren't there are left out. `ValueError`: there is no such one, or nothing to draw.
+    """
+    if answer is None:
+        return drawn([(g, marking.bare(g)) for g in chosen_graphs(problem, 0, graph)])
+    if isinstance(answer, Model):
+        one = problem.predicates[predicate - 1] if 0 < predicate <= len(problem.predicates) else None
+        colours = list(marking.COLOURS)
+        chosen = chosen_graphs(problem, predicate, graph)
+        return drawn([(g, marking.of_model(answer, g, one, colours)) for g in chosen], absent)
+    if not lemma and not answer.lemmas:
+        raise ValueError("the answer has no lemma, so there is no graph to draw")
+    step = answer.step(lemma) if lemma else answer.lemmas[0]
+    if step.predicate is None:
+        numbers = ", ".join(str(step.number) for step in answer.lemmas[:9])
+        raise ValueError(f"clause {lemma} is a chain and speaks of no graph; lemmas have the numbers {numbers}")
+    return drawn([(problem.graphs[problem.predicates[step.predicate - 1].graph], marking.of_lemma(problem, step))])
+
+
+def chosen_graphs(problem: Problem, predicate: int, graph: int) -> list[Graph]:
+    """The graph that is chosen, or that of the chosen predicate, or all that have nodes."""
+    if not 0 <= predicate <= len(problem.predicates):
+        raise ValueError(f"there is no predicate {predicate}: the problem has {len(problem.predicates)}, from 1")
+    if predicate:
+        graph = problem.predicates[predicate - 1].graph
+    if graph >= 0 and graph not in problem.graphs:
+        raise ValueError(f"there is no graph {graph}: the problem has {', '.join(map(str, problem.graphs)) or 'none'}")
+    found = [problem.graphs[graph]] if graph >= 0 else [g for g in problem.graphs.values() if len(g)]
+    if not found:
+        raise ValueError("the problem has no graph to draw")
+    return found
+
+
+def read(file: str, answer: str | None, unchecked: bool) -> tuple[Problem, Answer | None]:
+    """The problem and the answer of two files; the answer is drawn only where `check` accepts it."""
+    problem = read_problem(file)
+    if answer is None:
+        return problem, None
+    if not unchecked:
+        try:
+            said = program.verdict(program.find(), Path(file), Path(answer))
+        except ProgramMissing as missing:
+            raise ProgramMissing(f"{missing}; or draw an unchecked answer by --unchecked") from missing
+        if not said.startswith("accepted "):
+            raise GulfezoError(f"check says '{said}' of {answer}, so it isn't drawn; --unchecked draws it all the same")
+    return problem, parse_answer(problem, Path(answer).read_text(encoding="utf-8", errors="replace"))
+
+
+def main(words: Sequence[str] | None = None) -> int:
+    """Ends with 0 where the picture was written, and with 1, and a message on standard error, where there is none."""
+    parser = argparse.ArgumentParser(prog="gulfezo-draw", description=(__doc__ or "").split("\n", maxsplit=1)[0])
+    parser.add_argument("file", metavar="FILE", help="the problem")
+    parser.add_argument("answer", metavar="ANSWER", nargs="?", help="an answer to it that `gulfezo check` accepts")
+    parser.add_argument("-o", metavar="SVG", dest="out", required=True, help="where to write the picture")
+    parser.add_argument("--predicate", metavar="N", type=int, default=0, help="draw this predicate of a model, from 1")
+    parser.add_argument("--lemma", metavar="N", type=int, default=0, help="draw the lemma whose clause has this number")
+    parser.add_argument("--graph", metavar="G", type=int, default=-1, help="draw this graph alone")
+    parser.add_argument("--no-absent", action="store_true", help="leave out the edges that a model doesn't have")
+    parser.add_argument("--unchecked", action="store_true", help="don't run `gulfezo check` on the answer")
+    given = parser.parse_args(words)
+    try:
+        problem, answer = read(given.file, given.answer, given.unchecked)
+        text = drawing(problem, answer, given.predicate, given.lemma, given.graph, not given.no_absent)
+        Path(given.out).write_text(text, encoding="utf-8")
+    except (GulfezoError, OSError, ValueError) as fault:
+        print(f"gulfezo-draw: {fault}", file=sys.stderr)
+        return 1
+    return 0
+
+
+if __name__ == "__main__":
+    sys.exit(main())

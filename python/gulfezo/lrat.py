@@ -1,0 +1,120 @@
+"""Writes a refutation by clauses alone as a proof for other checkers: gulfezo-lrat FILE ANSWER [-o PROOF] [--cnf FILE]
+
+LRAT (L. Cruz-Filipe, M. Heule, W. Hunt, M. Kaufmann, P. Schneider-Kamp, "Efficient Certified RAT Verification", CADE
+2017) names for each clause the earlier ones by which unit propagation finds it, in that order and the false clause
+last. Here a chain begins with that clause and goes back, so the hints are the chain turned round; one whose literal is
+known to be true already when it comes is left out. DRAT (N. Wetzler, M. Heule, W. Hunt, SAT 2014) has clauses alone.
+
+A lemma about a graph has no counterpart there: clauses alone don't give it. An answer that has one is refused.
+"""
+
+from __future__ import annotations
+
+import argparse
+import sys
+from collections.abc import Iterable, Sequence
+from pathlib import Path
+
+from .answer import parse_answer
+from .errors import GulfezoError
+from .problem import Problem
+from .reading import read_problem
+from .steps import Refutation
+
+
+class NoCounterpart(GulfezoError):
+    """The answer is no refutation by clauses alone."""
+
+
+def hints(clause: Sequence[int], chain: Iterable[tuple[int, frozenset[int]]]) -> list[int]:
+    """The numbers of the chain's clauses in the order in which unit propagation uses them, from the clause's negation.
+
+    The chain is given with the clauses that it names.
+    """
+    false, used = set(clause), []
+    for number, named in reversed(list(chain)):
+        left = set(named - false)
+        if any(-literal in false for literal in left):
+            continue  # it is true by now, and implies nothing
+        used.append(number)
+        if not left:
+            break  # it is false, which ends the step
+        if len(left) > 1:
+            raise NoCounterpart(f"clause {number} implies no literal: has `check` accepted this answer?")
+        false.add(-left.pop())
+    else:
+        raise NoCounterpart("unit propagation finds no false clause: has `check` accepted this answer?")
+    return used
+
+
+def proof(problem: Problem, answer: Refutation, with_hints: bool = True) -> list[str]:
+    """The lines of the LRAT proof, or of the DRAT proof where hints aren't wanted.
+
+    `NoCounterpart`: a step is a lemma; the message names the first one.
+    """
+    clauses = [frozenset(clause) for clause in problem.clauses]
+    lines = []
+    for step in answer.steps:
+        if step.predicate is not None:
+            raise NoCounterpart(
+                f"line {step.line} of the answer, clause {step.number}, is a lemma `{step.word}` on predicate "
+                f"{step.predicate}: LRAT and DRAT have clauses alone, and no step for graphs. "
+                "`gulfezo check` judges this answer"
+            )
+        literals = dimacs(step.clause)
+        if with_hints:
+            named = hints(step.clause, ((number, clauses[number - 1]) for number in step.listed))
+            lines.append(f"{step.number} {literals} {' '.join(map(str, (*named, 0)))}")
+        else:
+            lines.append(literals)
+        clauses.append(frozenset(step.clause))
+    return lines
+
+
+def clauses_alone(problem: Problem) -> str:
+    """The problem's clauses as a DIMACS CNF file, in the order of their numbers."""
+    rows = [f"p cnf {problem.variables} {len(problem.clauses)}"]
+    rows += [dimacs(clause) for clause in problem.clauses]
+    return "\n".join(rows) + "\n"
+
+
+def dimacs(clause: Iterable[int]) -> str:
+    """A clause as a line, each of its literals once."""
+    return " ".join(map(str, (*dict.fromkeys(clause), 0)))
+
+
+def convert(file: str, answer: str, with_hints: bool = True) -> tuple[str, str]:
+    """The proof, and the clauses it is about, of a problem's file and an answer's."""
+    problem = read_problem(file)
+    found = parse_answer(problem, Path(answer).read_text(encoding="utf-8", errors="replace"))
+    if not isinstance(found, Refutation):
+        raise NoCounterpart(f"{answer} is no refutation: only `s UNSATISFIABLE` has a proof")
+    lines = proof(problem, found, with_hints)
+    return "".join(line + "\n" for line in lines), clauses_alone(problem)
+
+
+def main(words: Sequence[str] | None = None) -> int:
+    """Ends with 0 where the proof was written, and with 1, and a message on standard error, where there is none."""
+    parser = argparse.ArgumentParser(prog="gulfezo-lrat", description=(__doc__ or "").split("\n", maxsplit=1)[0])
+    parser.add_argument("file", metavar="FILE", help="the problem")
+    parser.add_argument("answer", metavar="ANSWER", help="a refutation of it that `gulfezo check` accepts")
+    parser.add_argument("-o", metavar="PROOF", dest="out", help="where to write the proof (standard output)")
+    parser.add_argument("--cnf", metavar="FILE", help="where to write the clauses that the proof is about")
+    parser.add_argument("--drat", action="store_true", help="without hints, for checkers of DRAT")
+    given = parser.parse_args(words)
+    try:
+        text, clauses = convert(given.file, given.answer, not given.drat)
+        if given.cnf:
+            Path(given.cnf).write_text(clauses, encoding="utf-8")
+        if given.out:
+            Path(given.out).write_text(text, encoding="utf-8")
+        else:
+            sys.stdout.write(text)
+    except (GulfezoError, OSError) as fault:
+        print(f"gulfezo-lrat: {fault}", file=sys.stderr)
+        return 1
+    return 0
+
+
+if __name__ == "__main__":
+    sys.exit(main())

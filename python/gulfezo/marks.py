@@ -1,0 +1,195 @@
+"""What a picture marks: a model's walks, cuts, flows and trees, or the witness of a lemma."""
+
+from __future__ import annotations
+
+from collections.abc import Iterable
+from dataclasses import dataclass, field
+
+from . import search
+from .graph import Graph
+from .layout import label
+from .literals import Edge, Kind, Predicate
+from .model import Model
+from .problem import Problem
+from .steps import Step
+
+# Colours that most people tell apart (M. Okabe and K. Ito, "Color Universal Design", 2008).
+COLOURS = ["#0072b2", "#d55e00", "#009e73", "#cc79a7", "#e69f00", "#56b4e9"]
+SIDE = "#fde9b8"  # fills the nodes of a cut's side
+
+
+@dataclass
+class Marks:
+    """What is to be seen beside the bare graph.
+
+    `present` are numbers of edges that are there, and `against` of edges whose absence a lemma rests on. `strong` gives
+    a marked edge its colour, `notes` an edge its label, `filled` a node its colour, and `labels` a node its label.
+    Spanning trees ignore directions, so edges have no `arrows` where only trees are spoken of.
+    """
+
+    present: set[int] = field(default_factory=set)
+    against: set[int] = field(default_factory=set)
+    strong: dict[int, str] = field(default_factory=dict)
+    notes: dict[int, str] = field(default_factory=dict)
+    filled: dict[int, str] = field(default_factory=dict)
+    labels: dict[int, str] = field(default_factory=dict)
+    arrows: bool = True
+    captions: list[tuple[str, str]] = field(default_factory=list)
+
+    def mark(self, edges: Iterable[Edge], colour: str) -> None:
+        """Marks these edges, but for those that are marked already."""
+        for edge in edges:
+            self.strong.setdefault(edge.edge_number, colour)
+
+    def fill(self, nodes: Iterable[int], colour: str) -> None:
+        """Fills these nodes."""
+        self.filled.update(dict.fromkeys(nodes, colour))
+
+
+def bare(graph: Graph) -> Marks:
+    """The graph itself, with all its edges."""
+    return Marks(present={edge.edge_number for edge in graph.edges}, arrows=has_directions(graph))
+
+
+def of_model(model: Model, graph: Graph, chosen: Predicate | None, colours: list[str]) -> Marks:
+    """What a model says of a graph: the chosen predicate, or all that hold, each in the next one of the colours."""
+    marks = Marks(present={edge.edge_number for edge in model.edges(graph)}, arrows=has_directions(graph))
+    for predicate in model.problem.predicates:
+        if predicate.graph == graph.identity and (predicate == chosen or chosen is None and model[predicate]):
+            mark_predicate(marks, model, predicate, colours.pop(0) if len(colours) > 1 else colours[0])
+    return marks
+
+
+def mark_predicate(marks: Marks, model: Model, predicate: Predicate, colour: str) -> None:
+    """Marks what shows that the predicate holds, or that it fails."""
+    named = name_of(model.problem.graphs[predicate.graph], predicate)
+    if model[predicate]:
+        marks.captions.append((colour, f"{named}: {hold(marks, model, predicate, colour)}"))
+    else:
+        marks.captions.append((colour, f"{named} fails: {fail(marks, model, predicate, colour)}"))
+
+
+def hold(marks: Marks, model: Model, predicate: Predicate, colour: str) -> str:
+    """Marks the walk, flow or tree; what the caption says of it."""
+    if predicate.kind is Kind.MAXIMUM_FLOW:
+        flow = model.flow(predicate)
+        marks.mark(flow, colour)
+        marks.notes.update({edge.edge_number: f"{amount}/{edge.weight}" for edge, amount in flow.items()})
+        return f"a flow of {predicate.limit}, as amount/capacity"
+    edges = model.tree(predicate) if predicate.kind is Kind.MST_WEIGHT else model.path(predicate)
+    marks.mark(edges, colour)
+    if predicate.kind in (Kind.MST_WEIGHT, Kind.WEIGHTED_DISTANCE):
+        marks.notes.update({edge.edge_number: str(edge.weight) for edge in edges})
+        what = "a tree" if predicate.kind is Kind.MST_WEIGHT else "a walk"
+        return f"{what} of weight {sum(edge.weight for edge in edges)}, at most {predicate.limit}"
+    within = "" if predicate.limit is None else f", at most {predicate.limit}"
+    return f"a walk of {count(len(edges), 'edge')}{within}"
+
+
+def fail(marks: Marks, model: Model, predicate: Predicate, colour: str) -> str:
+    """Marks the shortest walk or lightest tree, which is beyond the bound, or fills the nodes on one side of a cut.
+
+    What the caption says of it.
+    """
+    graph, ends = model.problem.graphs[predicate.graph], predicate.ends
+    edges = model.edges(graph)
+    if ends is None:
+        tree = search.lightest_tree(len(graph), edges)
+        if tree is not None:
+            marks.mark(tree, colour)
+            return f"the lightest tree weighs {sum(edge.weight for edge in tree)}, above {predicate.limit}"
+        component = search.components(len(graph), edges)
+        marks.fill((node for node, least in enumerate(component) if least == component[0]), SIDE)
+        return "nothing joins the filled nodes with the others"
+    if predicate.kind is Kind.MAXIMUM_FLOW:
+        marks.fill(search.narrowest_cut(edges, *ends), SIDE)
+        return f"what leaves the filled nodes can't carry {predicate.limit}"
+    weighted = predicate.kind is Kind.WEIGHTED_DISTANCE
+    walk = search.shortest_walk(edges, *ends, weighted)
+    if walk is None:
+        marks.fill(search.reached(edges, ends[0]), SIDE)
+        return "no edge leaves the filled nodes"
+    marks.mark(walk, colour)
+    length = f"weighs {sum(edge.weight for edge in walk)}" if weighted else f"has {count(len(walk), 'edge')}"
+    return f"the shortest walk {length}, above {predicate.limit}"
+
+
+def of_lemma(problem: Problem, step: Step) -> Marks:
+    """What a lemma says: its witness, and the edges on which it rests."""
+    predicate = problem.predicates[(step.predicate or 0) - 1]
+    graph = problem.graphs[predicate.graph]
+    edges = {edge.edge_number: edge for edge in graph.edges}
+    literals, colour = set(step.clause), COLOURS[0]
+    marks = Marks(arrows=predicate.kind is not Kind.MST_WEIGHT)
+    if step.shows_that_it_holds:
+        marks.present = {number for number, edge in edges.items() if -edge.number in literals}
+    else:
+        marks.against = {number for number, edge in edges.items() if edge.number in literals}
+        marks.present = set(edges) - marks.against
+    said = witness(marks, step, edges, predicate.kind is Kind.WEIGHTED_DISTANCE, colour)
+    named = name_of(graph, predicate) + ("" if predicate.bound is None else f" with bound {predicate.bound}")
+    holds = "holds" if step.shows_that_it_holds else "fails"
+    marks.captions = [(colour, f"{step.word} lemma, clause {step.number}: {named} {holds}"), ("#222222", said)]
+    if marks.against:
+        marks.captions.append((COLOURS[1], "it rests on the absence of the dashed edges"))
+    return marks
+
+
+def witness(marks: Marks, step: Step, edges: dict[int, Edge], weighted: bool, colour: str) -> str:
+    """Marks the list behind a lemma's clause; what the caption says of it. Labels may be `weighted` distances."""
+    if step.word in ("path", "tree", "least"):
+        return walk_or_tree(marks, step, edges, colour)
+    if step.word == "flow":
+        marks.mark((edges[number] for number, amount in step.pairs if amount), colour)
+        marks.notes.update({number: f"{amount}/{edges[number].weight}" for number, amount in step.pairs if amount})
+        return "a flow, as amount/capacity"
+    if step.word == "label":
+        marks.labels = {node: str(value) for node, value in step.pairs}
+        marks.fill(marks.labels, SIDE)
+        if weighted:
+            marks.notes.update({n: str(edges[n].weight) for n in marks.present})
+        return "no edge leads to a label greater by more than its length; other nodes are too far"
+    return side(marks, step, edges)
+
+
+def walk_or_tree(marks: Marks, step: Step, edges: dict[int, Edge], colour: str) -> str:
+    """Marks the edges of a walk or a spanning tree; what the caption says of it."""
+    chosen = [edges[number] for number in step.listed]
+    marks.mark(chosen, colour)
+    noted = edges.values() if step.word == "least" else chosen
+    marks.notes.update({edge.edge_number: str(edge.weight) for edge in noted})
+    weight = sum(edge.weight for edge in chosen)
+    if step.word == "path":
+        return f"a walk of {count(len(chosen), 'edge')} and of weight {weight}"
+    if step.word == "tree":
+        return f"a spanning tree of weight {weight}"
+    return f"a lightest spanning tree of the edges that may be present weighs {weight}"
+
+
+def side(marks: Marks, step: Step, edges: dict[int, Edge]) -> str:
+    """Fills the nodes on one side of a cut; what the caption says of it."""
+    marks.fill(step.listed, SIDE)
+    if step.word == "flowcut":
+        inside = set(step.listed)
+        out = [n for n in marks.present if edges[n].start in inside and edges[n].end not in inside]
+        marks.notes.update({n: str(edges[n].weight) for n in out})
+        return f"what may still leave the filled nodes carries {sum(edges[n].weight for n in out)}"
+    joins = "joins the filled nodes with the others" if step.word == "split" else "leaves the filled nodes"
+    return f"no edge that may be present {joins}"
+
+
+def name_of(graph: Graph, predicate: Predicate) -> str:
+    """The predicate by its graph's name, its word and the labels of its ends."""
+    ends = "" if predicate.ends is None else " " + " to ".join(label(graph, node) for node in predicate.ends)
+    return (f"{graph.name}, " if graph.name else "") + predicate.word + ends
+
+
+def has_directions(graph: Graph) -> bool:
+    """Whether a predicate over the graph, or none at all, cares for the directions of its edges."""
+    kinds = {p.kind for p in graph.problem.predicates if p.graph == graph.identity}
+    return kinds != {Kind.MST_WEIGHT}
+
+
+def count(number: int, thing: str) -> str:
+    """So many things, in words."""
+    return f"{number} {thing}" if number == 1 else f"{number} {thing}s"

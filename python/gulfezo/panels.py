@@ -1,0 +1,125 @@
+"""Draws graphs with their marks: upon each other where their nodes have the same names, else beside each other."""
+
+from __future__ import annotations
+
+from collections import defaultdict
+from dataclasses import dataclass
+
+from . import layout, svg
+from .graph import Graph
+from .literals import Edge
+from .marks import COLOURS, Marks
+
+View = tuple[Graph, Marks]
+
+# How an edge is drawn by its height: its colour, its width, and its dashes.
+STYLES = [(svg.PALE, 1.2, "3 4"), (svg.INK, 1.6, ""), (COLOURS[1], 1.8, "6 5"), (COLOURS[0], 4.5, "")]
+
+
+@dataclass(frozen=True)
+class Line:
+    """An edge as it is drawn: bent aside by so many pixels, with an arrow head or without."""
+
+    edge: Edge
+    marks: Marks
+    bend: float
+    arrow: bool
+
+    @property
+    def height(self) -> int:
+        """Which edges lie on top: marked ones over those a lemma rests on, over present ones, over absent ones."""
+        return height(self.edge, self.marks)
+
+    def draw(self, picture: svg.Picture, at: list[svg.Point]) -> svg.Point:
+        """Draws it between its nodes; the point where its label belongs."""
+        colour, width, dashes = STYLES[self.height]
+        colour = self.marks.strong.get(self.edge.edge_number, colour)
+        start, end = at[self.edge.start], at[self.edge.end]
+        if self.edge.start == self.edge.end:
+            return picture.loop(start, colour, width, dashes)
+        return picture.line(start, end, self.bend, colour, width, dashes, self.arrow)
+
+
+def height(edge: Edge, marks: Marks) -> int:
+    """See `Line.height`."""
+    number = edge.edge_number
+    return 3 if number in marks.strong else 2 if number in marks.against else int(number in marks.present)
+
+
+def drawn(views: list[View], absent: bool = True) -> str:
+    """The picture of these graphs with what is marked in each, with absent edges or without, as an SVG file."""
+    panels: defaultdict[tuple[str, ...] | int, list[View]] = defaultdict(list)
+    for graph, marks in views:
+        panels[tuple(graph.names) if all(graph.names) else graph.identity].append((graph, marks))
+    picture, left, captions = svg.Picture(), 0.0, []
+    for panel in panels.values():
+        places = layout.places(panel[0][0])
+        first = min(x for x, _ in places)
+        at = [((x - first) * svg.STEP + left, y * svg.STEP) for x, y in places]
+        left = max(x for x, _ in at) + 2 * svg.STEP
+        draw_edges(picture, panel, at, absent)
+        draw_nodes(picture, panel, at)
+        for _, marks in panel:
+            captions += marks.captions
+    return picture.written(captions)
+
+
+def draw_edges(picture: svg.Picture, panel: list[View], at: list[svg.Point], absent: bool) -> None:
+    """The edges, those that are marked on top, and then their labels."""
+    lines = [line for graph, marks in panel for line in lines_of(graph, marks) if absent or line.height]
+    notes = []
+    for line in sorted(lines, key=lambda line: line.height):
+        place, number = line.draw(picture, at), line.edge.edge_number
+        if number in line.marks.notes:
+            notes.append((place, line.marks.notes[number], line.marks.strong.get(number, svg.INK)))
+    for place, note, colour in notes:
+        picture.text(place, note, colour, 11)
+
+
+def draw_nodes(picture: svg.Picture, panel: list[View], at: list[svg.Point]) -> None:
+    """The nodes, each with the rim of a marked edge and its labels."""
+    rims, names = rims_of(panel), panel[0][0]
+    for node, place in enumerate(at):
+        fill = next((marks.filled[node] for _, marks in panel if node in marks.filled), "white")
+        picture.node(place, layout.label(names, node), fill, rims.get(node, svg.INK))
+        for _, marks in panel:
+            if node in marks.labels:
+                picture.text((place[0] + svg.RADIUS + 4, place[1] - svg.RADIUS), marks.labels[node], COLOURS[0])
+
+
+def rims_of(panel: list[View]) -> dict[int, str]:
+    """The colour of a marked edge at each node that has one."""
+    rims: dict[int, str] = {}
+    for graph, marks in panel:
+        for edge in graph.edges:
+            if edge.edge_number in marks.strong:
+                rims.setdefault(edge.start, marks.strong[edge.edge_number])
+                rims.setdefault(edge.end, marks.strong[edge.edge_number])
+    return rims
+
+
+def lines_of(graph: Graph, marks: Marks) -> list[Line]:
+    """The edges as lines; those between the same nodes are bent apart.
+
+    Two edges there and back, of one variable and one weight, are one line, with an arrow head only for a flow.
+    """
+    bundles: defaultdict[tuple[int, int], list[tuple[Edge, bool]]] = defaultdict(list)
+    waiting: dict[tuple[int, int, int, int], list[int]] = {}
+    for edge in graph.edges:
+        pair = (min(edge.start, edge.end), max(edge.start, edge.end))
+        back = waiting.get((edge.end, edge.start, edge.number, edge.weight))
+        if back and edge.start != edge.end:
+            place = back.pop()
+            there = bundles[pair][place][0]
+            strong = edge if height(edge, marks) > height(there, marks) else there
+            is_flow = any("/" in marks.notes.get(e.edge_number, "") for e in (edge, there))
+            bundles[pair][place] = (strong, is_flow)
+        else:
+            waiting.setdefault((edge.start, edge.end, edge.number, edge.weight), []).append(len(bundles[pair]))
+            bundles[pair].append((edge, marks.arrows))
+    lines = []
+    for (low, _), bundle in bundles.items():
+        for place, (edge, arrow) in enumerate(bundle):
+            bend = 22.0 * (place - (len(bundle) - 1) / 2)
+            lines.append(Line(edge, marks, bend if edge.start == low else -bend, arrow))
+    return lines

@@ -1,0 +1,101 @@
+"""Writes SVG: lines with arrow heads, circles and text, in a picture as large as what is drawn."""
+
+from __future__ import annotations
+
+from html import escape
+
+STEP = 90.0  # the distance of neighbours on a grid, in pixels
+RADIUS = 20.0  # of a node
+MARGIN = 34.0
+
+INK = "#222222"
+PALE = "#c4c4c4"
+FONT = "font-family='Helvetica, Arial, sans-serif'"
+
+Point = tuple[float, float]
+
+
+class Picture:
+    """Shapes in the order in which they are drawn, later ones on top."""
+
+    def __init__(self) -> None:
+        self.shapes: list[str] = []
+        self.points: list[Point] = []
+
+    def line(self, start: Point, end: Point, bend: float, colour: str, width: float, dashes: str, arrow: bool) -> Point:
+        """A line between two nodes, from rim to rim, bent aside by so many pixels; the point where a label belongs."""
+        (x0, y0), (x1, y1) = start, end
+        length = max(1.0, ((x1 - x0) ** 2 + (y1 - y0) ** 2) ** 0.5)
+        along, aside = ((x1 - x0) / length, (y1 - y0) / length), (-(y1 - y0) / length, (x1 - x0) / length)
+        middle = ((x0 + x1) / 2 + 2 * bend * aside[0], (y0 + y1) / 2 + 2 * bend * aside[1])
+        tip = RADIUS + (width + 4 if arrow else 0)
+        begin, stop = towards(start, middle, RADIUS), towards(end, middle, tip)
+        path = f"M{begin[0]:.1f} {begin[1]:.1f} Q{middle[0]:.1f} {middle[1]:.1f} {stop[0]:.1f} {stop[1]:.1f}"
+        dashed = f" stroke-dasharray='{dashes}'" if dashes else ""
+        self.shapes.append(f"<path d='{path}' fill='none' stroke='{colour}' stroke-width='{width:g}'{dashed}/>")
+        if arrow:
+            self.arrow_head(towards(end, middle, RADIUS), middle, colour, width)
+        self.points.append(middle)
+        off = bend + 9
+        return ((x0 + x1) / 2 + off * aside[0] + 6 * along[0], (y0 + y1) / 2 + off * aside[1] + 6 * along[1])
+
+    def arrow_head(self, tip: Point, behind: Point, colour: str, width: float) -> None:
+        """A triangle at the tip, pointing away from the point behind."""
+        size = 6 + 1.5 * width
+        back = towards(tip, behind, size)
+        dx, dy = (tip[0] - back[0]) * 0.45, (tip[1] - back[1]) * 0.45
+        corners = [tip, (back[0] - dy, back[1] + dx), (back[0] + dy, back[1] - dx)]
+        self.shapes.append(f"<polygon points='{' '.join(f'{x:.1f},{y:.1f}' for x, y in corners)}' fill='{colour}'/>")
+
+    def loop(self, at: Point, colour: str, width: float, dashes: str) -> Point:
+        """A line from a node to itself; the point where a label belongs."""
+        x, y = at
+        dashed = f" stroke-dasharray='{dashes}'" if dashes else ""
+        self.shapes.append(
+            f"<circle cx='{x + RADIUS:.1f}' cy='{y - RADIUS:.1f}' r='11' fill='none' stroke='{colour}' "
+            f"stroke-width='{width:g}'{dashed}/>"
+        )
+        return (x + RADIUS + 16, y - RADIUS - 12)
+
+    def node(self, at: Point, text: str, fill: str, rim: str) -> None:
+        """A node with what is written into it."""
+        x, y = at
+        self.points += [(x - RADIUS, y - RADIUS), (x + RADIUS, y + RADIUS)]
+        self.shapes.append(
+            f"<circle cx='{x:.1f}' cy='{y:.1f}' r='{RADIUS:g}' fill='{fill}' stroke='{rim}' stroke-width='2'/>"
+        )
+        size = 14 if len(text) <= 3 else 11 if len(text) <= 5 else 9
+        self.text(at, text, INK, size, "middle")
+
+    def text(self, at: Point, text: str, colour: str = INK, size: int = 12, anchor: str = "middle") -> None:
+        """Text whose middle, or start, lies at the point; on lines it has a white rim."""
+        x, y = at
+        self.points.append(at)
+        self.shapes.append(
+            f"<text x='{x:.1f}' y='{y + size * 0.35:.1f}' font-size='{size}' text-anchor='{anchor}' fill='{colour}' "
+            f"stroke='white' stroke-width='3' paint-order='stroke' stroke-linejoin='round'>{escape(text)}</text>"
+        )
+
+    def written(self, captions: list[tuple[str, str]]) -> str:
+        """The picture as a file, with captions below it: their colours and texts."""
+        left = min((x for x, _ in self.points), default=0.0) - MARGIN
+        top = min((y for _, y in self.points), default=0.0) - MARGIN
+        bottom = max((y for _, y in self.points), default=0.0) + MARGIN
+        for colour, text in captions:
+            self.text((left + MARGIN / 2, bottom), text, colour, 13, "start")
+            bottom += 20
+        widest = max((len(text) for _, text in captions), default=0)
+        right = max(max((x for x, _ in self.points), default=0.0) + MARGIN, left + MARGIN + 6.9 * widest)
+        bottom += 4 if captions else -MARGIN / 2
+        box = f"{left:.0f} {top:.0f} {right - left:.0f} {bottom - top:.0f}"
+        size = f"width='{right - left:.0f}' height='{bottom - top:.0f}'"
+        background = f"<rect x='{left:.0f}' y='{top:.0f}' width='100%' height='100%' fill='white'/>"
+        head = f"<svg xmlns='http://www.w3.org/2000/svg' viewBox='{box}' {size} {FONT}>"
+        return "\n".join([head, background, *self.shapes, "</svg>", ""])
+
+
+def towards(start: Point, end: Point, by: float) -> Point:
+    """The point that lies so far from the start in the direction of the end."""
+    dx, dy = end[0] - start[0], end[1] - start[1]
+    length = max(0.001, (dx * dx + dy * dy) ** 0.5)
+    return (start[0] + dx * by / length, start[1] + dy * by / length)

@@ -1,0 +1,68 @@
+"""What several tests need: the program, if it is there, and programs that stand in for it."""
+
+from __future__ import annotations
+
+import itertools
+import os
+import sys
+import unittest
+from collections.abc import Iterator
+from pathlib import Path
+
+from gulfezo import Problem
+
+REPOSITORY = Path(__file__).resolve().parents[2]
+BUILT = REPOSITORY / "crates" / "mono_cmd" / "out" / "mono_cmd"
+
+
+def program() -> str:
+    """The compiled program; a test that needs it is skipped where it isn't there."""
+    found = os.environ.get("GULFEZO") or str(BUILT)
+    if not os.access(found, os.X_OK):
+        raise unittest.SkipTest("the program isn't built (rt run in crates/mono_cmd), and GULFEZO names none")
+    return found
+
+
+def stand_in(folder: str, status: int, text: str, verdict: str = "", seconds: float = 0) -> str:
+    """A program that, asked to solve, prints a text and ends with a status, and, asked to check, prints a verdict."""
+    path = Path(folder) / "stand-in"
+    path.write_text(
+        f"#!{sys.executable}\nimport sys, time\n"
+        f"if sys.argv[1] == 'check':\n    print({verdict!r})\n"
+        f"else:\n    time.sleep({seconds})\n    sys.stdout.write({text!r})\n    sys.exit({status})\n"
+    )
+    path.chmod(0o755)
+    return str(path)
+
+
+def every_form() -> Problem:
+    """A problem with each form of line."""
+    problem = Problem()
+    x = problem.add_variable("x, a variable")
+    graph = problem.add_graph("a graph")
+    graph.add_nodes(["first", (2, 3), ""])
+    graph.add_edge(0, 1, 7, x)
+    graph.add_link(1, 2)
+    graph.reach(0, 2)
+    graph.distance_leq(0, 1, 1)
+    graph.distance_lt(0, 1, 2)
+    graph.weighted_distance_leq(0, 1, 3)
+    graph.weighted_distance_lt(0, 1, 4)
+    graph.maximum_flow_geq(0, 1, 5)
+    graph.maximum_flow_gt(0, 1, 6)
+    graph.mst_weight_leq(7)
+    graph.mst_weight_lt(8)
+    problem.add_clause(x, ~x)
+    problem.add_clause()
+    return problem
+
+
+def assignments(variables: int) -> Iterator[dict[int, bool]]:
+    """All assignments of the variables from 1."""
+    for signs in itertools.product([False, True], repeat=variables):
+        yield dict(enumerate(signs, 1))
+
+
+def satisfies(values: dict[int, bool], clauses: list[tuple[int, ...]]) -> bool:
+    """Whether an assignment makes each clause true."""
+    return all(any(values[abs(x)] == (x > 0) for x in clause) for clause in clauses)

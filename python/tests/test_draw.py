@@ -1,0 +1,137 @@
+"""Pictures: what is in them, and what is told where there is nothing to draw."""
+
+import contextlib
+import io
+import tempfile
+import unittest
+import xml.dom.minidom
+from pathlib import Path
+from unittest import mock
+
+from gulfezo import Problem, draw, layout, parse_answer, parse_problem
+
+GRAPH = """digraph int 3 3 0
+edge 0 0 1 1 5
+edge 0 1 2 2 5
+edge 0 0 2 3 3
+reach 0 0 2 4
+weighted_distance_leq 0 0 2 5 8
+maximum_flow_geq 0 0 2 6 8
+mst_weight_leq 0 7 7
+"""
+LEMMAS = [
+    "path 1 -1 -2 4 0 1 2",
+    "cut 1 2 3 -4 0 0 1",
+    "label 2 3 -5 0 0 0 1 5",
+    "flow 3 -1 -2 -3 6 0 1 5 2 5 3 3",
+    "flowcut 3 2 -6 0 0 1",
+    "split 4 1 3 -7 0 0",
+    "least 4 -7 0 1 3",
+]
+
+
+def texts(picture: str) -> list[str]:
+    """What a picture says, after a check that it is a well-formed file."""
+    document = xml.dom.minidom.parseString(picture)
+    return [node.firstChild.data for node in document.getElementsByTagName("text")]
+
+
+class Drawings(unittest.TestCase):
+    def setUp(self):
+        self.problem = parse_problem(GRAPH)
+
+    def test_a_model(self):
+        model = parse_answer(self.problem, "s SATISFIABLE\nv 1 2 3 4 5 6 -7 0\n")
+        found = texts(draw.drawing(self.problem, model))
+        self.assertIn("weighted_distance_leq 0 to 2: a walk of weight 3, at most 8", found)
+        self.assertIn("5/5", found)
+        found = texts(draw.drawing(self.problem, model, predicate=4))
+        self.assertIn("mst_weight_leq fails: the lightest tree weighs 8, above 7", found)
+
+    def test_predicates_that_fail(self):
+        model = parse_answer(self.problem, "s SATISFIABLE\nv -1 2 -3 -4 -5 -6 -7 0\n")
+        for predicate, said in [
+            (1, "reach 0 to 2 fails: no edge leaves the filled nodes"),
+            (2, "weighted_distance_leq 0 to 2 fails: no edge leaves the filled nodes"),
+            (3, "maximum_flow_geq 0 to 2 fails: what leaves the filled nodes can't carry 8"),
+            (4, "mst_weight_leq fails: nothing joins the filled nodes with the others"),
+        ]:
+            self.assertIn(said, texts(draw.drawing(self.problem, model, predicate)))
+        far = parse_problem(GRAPH.replace("5 8", "5 2"))
+        model = parse_answer(far, "s SATISFIABLE\nv 1 2 3 4 -5 6 -7 0\n")
+        found = texts(draw.drawing(far, model, predicate=2))
+        self.assertIn("weighted_distance_leq 0 to 2 fails: the shortest walk weighs 3, above 2", found)
+
+    def test_each_word_of_a_lemma(self):
+        answer = parse_answer(self.problem, "s UNSATISFIABLE\n" + "\n".join(LEMMAS))
+        for step in answer.lemmas:
+            found = texts(draw.drawing(self.problem, answer, lemma=step.number))
+            self.assertTrue(any(text.startswith(f"{step.word} lemma, clause {step.number}: ") for text in found))
+        found = texts(draw.drawing(self.problem, answer, lemma=5))
+        self.assertIn("what may still leave the filled nodes carries 3", found)
+
+    def test_links_loops_and_names_of_markup(self):
+        problem = Problem()
+        graph = problem.add_graph()
+        graph.add_nodes(["<&>", "b@2,1"])
+        graph.add_link(0, 1)
+        graph.add_edge(0, 0)
+        self.assertIn("<&>", texts(draw.drawing(problem, None)))
+
+    def test_nothing_to_draw(self):
+        answer = parse_answer(self.problem, "s UNSATISFIABLE\nchain 0 1\n")
+        for wrong in [
+            lambda: draw.drawing(Problem(), None),
+            lambda: draw.drawing(self.problem, answer),
+            lambda: draw.drawing(self.problem, answer, lemma=1),
+            lambda: draw.drawing(self.problem, None, graph=5),
+        ]:
+            with self.assertRaises(ValueError):
+                wrong()
+
+
+class Layouts(unittest.TestCase):
+    def test_names_say_where(self):
+        graph = Problem().add_graph()
+        graph.add_nodes([(0, 0), "hub@2,-1", "x@0.5,1"])
+        self.assertEqual(layout.places(graph), [(0, 0), (2, -1), (0.5, 1)])
+        self.assertEqual([layout.label(graph, node) for node in range(3)], ["0", "hub", "x"])
+
+    def test_with_and_without_packages(self):
+        graph = Problem().add_graph()
+        graph.add_nodes(4)
+        graph.add_edge(0, 1)
+        self.assertEqual(len(layout.places(graph)), 4)
+        with mock.patch("shutil.which", lambda _: None):
+            self.assertEqual(len(layout.places(graph)), 4)
+            with mock.patch.dict("sys.modules", {"networkx": None}):
+                self.assertEqual(layout.places(graph), layout.in_a_ring(4))
+
+    def test_which_packages_are_there(self):
+        graph = Problem().add_graph()
+        graph.add_nodes(4)
+        layouts = {"Graphviz": layout.by_graphviz, "networkx": layout.by_networkx}
+        missing = [name for name, by in layouts.items() if by(graph) is None]
+        if missing:
+            self.skipTest(f"layouts by {' and '.join(missing)}: not installed (networkx needs numpy too)")
+
+
+class Command(unittest.TestCase):
+    def test_it_writes_a_picture_or_says_why_not(self):
+        with tempfile.TemporaryDirectory() as folder:
+            file, answer, out = (Path(folder, name) for name in ("f", "a", "out.svg"))
+            file.write_text(GRAPH)
+            self.assertEqual(draw.main([str(file), "-o", str(out)]), 0)
+            texts(out.read_text())
+            answer.write_text("s UNSATISFIABLE\n" + "\n".join(LEMMAS))
+            self.assertEqual(draw.main([str(file), str(answer), "-o", str(out), "--unchecked", "--lemma", "2"]), 0)
+            self.assertIn("cut lemma, clause 2: reach 0 to 2 fails", texts(out.read_text()))
+            told = io.StringIO()
+            program = mock.Mock(find=lambda: "x", verdict=lambda *_: "rejected 1 NotAnswer")
+            with contextlib.redirect_stderr(told), mock.patch("gulfezo.draw.program", program):
+                self.assertEqual(draw.main([str(file), str(answer), "-o", str(out)]), 1)
+            self.assertIn("rejected 1 NotAnswer", told.getvalue())
+
+
+if __name__ == "__main__":
+    unittest.main()

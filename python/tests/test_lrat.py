@@ -1,0 +1,168 @@
+"""Refutations by clauses alone as LRAT and DRAT proofs, judged by checkers that know nothing of chains."""
+
+import contextlib
+import io
+import itertools
+import random
+import shutil
+import subprocess
+import tempfile
+import unittest
+from pathlib import Path
+
+import acl2
+from gulfezo import Problem, lrat, parse_answer, parse_problem
+from helpers import program
+from lrat_checker import accepts_drat, accepts_lrat
+
+
+def pigeons(holes: int) -> Problem:
+    """One pigeon more than there are holes."""
+    problem = Problem()
+    at = [problem.add_variables(holes) for _ in range(holes + 1)]
+    for row in at:
+        problem.add_clause(*row)
+    for hole in range(holes):
+        for one, other in itertools.combinations(at, 2):
+            problem.add_clause(~one[hole], ~other[hole])
+    return problem
+
+
+def random_clauses(seed: int) -> Problem:
+    """Random clauses of three literals, so many that they contradict each other."""
+    drawn, problem = random.Random(seed), Problem()
+    variables = problem.add_variables(30)
+    for _ in range(220):
+        problem.add_clause(*(drawn.choice([x, ~x]) for x in drawn.sample(variables, 3)))
+    return problem
+
+
+def parity(count: int) -> Problem:
+    """The parity of some variables along two orders, which differ."""
+    problem = Problem()
+    variables = problem.add_variables(count)
+    ends = []
+    for order in (variables, variables[::-1]):
+        end = order[0]
+        for x in order[1:]:
+            total = problem.add_variable()
+            for a, b, c in ((~end, ~x, ~total), (~end, x, total), (end, ~x, total), (end, x, ~total)):
+                problem.add_clause(a, b, c)
+            end = total
+        ends.append(end)
+    problem.add_clause(*ends)
+    problem.add_clause(*(~end for end in ends))
+    return problem
+
+
+def odd_lines() -> Problem:
+    """Clauses with repeated literals, a tautology, and one that is listed twice."""
+    return parse_problem("1 1 2 0\n1 -1 0\n-1 2 2 0\n-1 2 0\n1 -2 0\n-1 -2 -2 0\n")
+
+
+PROBLEMS = {
+    "contradiction": parse_problem("1 0\n-1 0\n"),
+    "empty clause": parse_problem("1 2 0\n0\n"),
+    "odd lines": odd_lines(),
+    **{f"{holes} holes": pigeons(holes) for holes in range(1, 6)},
+    **{f"random {seed}": random_clauses(seed) for seed in range(1, 5)},
+    "parity of 6": parity(6),
+    "parity of 9": parity(9),
+}
+
+
+class ByHand(unittest.TestCase):
+    def test_hints_go_the_other_way(self):
+        problem = parse_problem("1 2 0\n-1 2 0\n1 -2 0\n-1 -2 0\n")
+        answer = parse_answer(problem, "s UNSATISFIABLE\nchain 2 0 1 2\nchain 0 5 3 4 5\n")
+        self.assertEqual(lrat.proof(problem, answer), ["5 2 0 2 1 0", "6 0 5 4 3 0"])
+        self.assertEqual(lrat.proof(problem, answer, with_hints=False), ["2 0", "0"])
+
+    def test_a_literal_that_is_true_already_is_no_hint(self):
+        # The chain resolves in 1, and its clause keeps the literal 1 all the same.
+        problem = parse_problem("1 2 0\n-1 3 0\n")
+        answer = parse_answer(problem, "s UNSATISFIABLE\nchain 1 2 3 0 1 2\n")
+        self.assertEqual(lrat.proof(problem, answer), ["3 1 2 3 0 1 0"])
+
+    def test_a_lemma_is_refused_by_name(self):
+        with tempfile.TemporaryDirectory() as folder:
+            file, answer = Path(folder, "f"), Path(folder, "a")
+            file.write_text("digraph 2 1 0\nedge 0 0 1 1\nreach 0 0 1 2\n2 0\n-1 0\n")
+            answer.write_text("s UNSATISFIABLE\ncut 1 1 -2 0 0\nchain 0 3 1 2\n")
+            told = io.StringIO()
+            with contextlib.redirect_stderr(told):
+                self.assertEqual(lrat.main([str(file), str(answer)]), 1)
+            self.assertIn("line 2 of the answer, clause 3, is a lemma `cut` on predicate 1", told.getvalue())
+            answer.write_text("s SATISFIABLE\nv 1 2 0\n")
+            with contextlib.redirect_stderr(told):
+                self.assertEqual(lrat.main([str(file), str(answer)]), 1)
+            self.assertIn("is no refutation", told.getvalue())
+
+    def test_the_checkers_of_this_test_refuse(self):
+        cnf = "p cnf 2 4\n1 2 0\n-1 2 0\n1 -2 0\n-1 -2 0\n"
+        self.assertTrue(accepts_lrat(cnf, "5 2 0 2 1 0\n6 0 5 4 3 0\n"))
+        first, last = "5 2 0 2 1 0\n", "6 0 5 4 3 0\n"
+        for wrong in ["", first, "5 2 0 1 3 0\n" + last, first + "6 0 5 4 0\n", "5 2 0 9 0\n" + last]:
+            self.assertFalse(accepts_lrat(cnf, wrong), wrong)
+        self.assertTrue(accepts_drat(cnf, "2 0\n0\n"))
+        self.assertFalse(accepts_drat(cnf, "0\n"))
+
+
+class Solved(unittest.TestCase):
+    """The program's own refutations, through the command."""
+
+    def setUp(self):
+        self.program = program()
+        folder = tempfile.TemporaryDirectory()
+        self.addCleanup(folder.cleanup)
+        self.folder = Path(folder.name)
+
+    def converted(self, problem: Problem, *words: str) -> tuple[Path, Path]:
+        """The clauses and the proof."""
+        self.assertFalse(problem.solve(folder=self.folder, program=self.program))
+        cnf, proof = self.folder / "cnf", self.folder / "proof"
+        files = [str(self.folder / "problem.gnf"), str(self.folder / "answer")]
+        self.assertEqual(lrat.main([*files, "-o", str(proof), "--cnf", str(cnf), *words]), 0)
+        return cnf, proof
+
+    def test_lrat(self):
+        for name, problem in PROBLEMS.items():
+            with self.subTest(name):
+                cnf, proof = self.converted(problem)
+                self.assertTrue(accepts_lrat(cnf.read_text(), proof.read_text()))
+
+    def test_drat(self):
+        for name, problem in PROBLEMS.items():
+            with self.subTest(name):
+                cnf, proof = self.converted(problem, "--drat")
+                self.assertTrue(accepts_drat(cnf.read_text(), proof.read_text()))
+
+    def test_the_checker_that_is_proved_in_acl2(self):
+        acl2.book()
+        pairs = []
+        for name, problem in PROBLEMS.items():
+            if name not in ("odd lines", "empty clause"):  # it takes neither tautologies nor an empty clause
+                cnf, proof = self.converted(problem)
+                pairs.append((cnf.read_text(), proof.read_text()))
+        self.assertEqual(acl2.accepted(pairs), [True] * len(pairs))
+        cnf_text, proof_text = pairs[-1]
+        without_a_hint = [" ".join(line.split()[:-2] + ["0"]) for line in proof_text.splitlines()]
+        without_the_end = proof_text.splitlines()[:-1]
+        wrong = [(cnf_text, "\n".join(lines)) for lines in (without_a_hint, without_the_end)]
+        self.assertEqual(acl2.accepted(wrong), [False] * len(wrong))
+
+    def test_checkers_of_drat_trim(self):
+        checkers = [name for name in ("lrat-check", "drat-trim") if shutil.which(name)]
+        if not checkers:
+            self.skipTest("neither lrat-check nor drat-trim is on the PATH; the checker of this test judged the proofs")
+        for checker, (name, problem) in itertools.product(checkers, PROBLEMS.items()):
+            with self.subTest(checker + ", " + name):
+                words = ["--drat"] if checker == "drat-trim" else []
+                cnf, proof = self.converted(problem, *words)
+                run = subprocess.run([checker, str(cnf), str(proof)], capture_output=True, text=True, check=False)
+                self.assertRegex(run.stdout, r"VERIFIED")
+                self.assertNotIn("NOT VERIFIED", run.stdout)
+
+
+if __name__ == "__main__":
+    unittest.main()
