@@ -33,6 +33,9 @@ FAMILIES = {
     "orders": Family(orders.betweenness, [(30, 5), (40, 5)], [(80, 3)]),
     # grids: nodes on a side, predicates
     "predicates": Family(grids.predicates, [((8, 20), 5), ((16, 20), 5)], [((24, 20), 3), ((50, 20), 3)]),
+    "reaching": Family(grids.reaching, [((8, 20), 5), ((16, 20), 5)], [((24, 20), 3), ((50, 20), 3)]),
+    "near": Family(grids.near, [((8, 20), 5), ((16, 20), 5)], [((24, 20), 3), ((50, 20), 3)]),
+    "flows": Family(grids.flows, [((8, 20), 5), ((16, 20), 5)], [((24, 20), 3), ((50, 20), 3)]),
     "tree-bounds": Family(grids.tree_bounds, [((8, 12), 5), ((12, 12), 5)], [((16, 12), 3), ((24, 12), 3)]),
     "wall": Family(grids.wall, [(100, 3)], [(300, 1)]),
     # variables; holes; nodes

@@ -20,13 +20,13 @@ def grid(n, drawn):
     return made, graph, edges
 
 
-def predicates(size, seed):
+def predicates(size, seed, words=WALKS_AND_FLOWS):
     """Predicates on walks and flows in turn: most have to hold, and the others have to fail."""
     n, count = size
     drawn = random.Random(seed)
     made, graph, _ = grid(n, drawn)
     for k in range(count):
-        word = WALKS_AND_FLOWS[k % 4]
+        word = words[k % len(words)]
         u, v = drawn.sample(range(n * n), 2)
         apart = abs(u // n - v // n) + abs(u % n - v % n)
         holds = k % 7 < 5
@@ -39,6 +39,21 @@ def predicates(size, seed):
         holds = holds or word == "reach"
         made.clause(made.predicate(word, graph, u, v, *bound) * (1 if holds else -1))
     return made
+
+
+def reaching(size, seed):
+    """The same grid with predicates of reachability alone."""
+    return predicates(size, seed, ["reach"])
+
+
+def near(size, seed):
+    """The same grid with predicates on walks within a limit alone."""
+    return predicates(size, seed, ["distance_leq", "weighted_distance_leq"])
+
+
+def flows(size, seed):
+    """The same grid with predicates on flows alone."""
+    return predicates(size, seed, ["maximum_flow_geq"])
 
 
 def tree_bounds(size, seed):

@@ -11,10 +11,10 @@ ghost use Rattle.mono_check.specs.Atoms.{IsJudged};
 ghost use Rattle.mono_check.specs.Enabled.{IsEnabled};
 ghost use Rattle.mono_check.specs.Questions.{IsQuestion, AreAlike, AreTruths, question_at};
 
-use crate::predicates::{carries, reaches, reaches_in_steps, reaches_in_weight, spans};
+use crate::predicates::{carries, reaches, reaches_within, spans};
 use crate::question::{WalkQuestion, keep_answers, targets_of};
 use mono_flows::FlowFinder;
-use mono_graph::{Graph, Part};
+use mono_graph::{Graph, Limit, Part};
 use mono_paths::WalkFinder;
 use mono_problem::{Atom, Predicate, Problem};
 use mono_trees::TreeFinder;
@@ -132,10 +132,10 @@ impl EnabledPart {
         match predicate {
             Predicate::Reach { from, to } => reaches(&mut self.walks, graph, part, from, to),
             Predicate::Steps { from, to, most } => {
-                reaches_in_steps(&mut self.walks, graph, part, from, to, most)
+                reaches_within(&mut self.walks, graph, part, from, to, Limit::Steps(most))
             }
             Predicate::Distance { from, to, most } => {
-                reaches_in_weight(&mut self.walks, graph, part, from, to, most)
+                reaches_within(&mut self.walks, graph, part, from, to, Limit::Weight(most))
             }
             Predicate::Flow {
                 source,

@@ -1,8 +1,9 @@
 //! Whether a predicate holds in a part of a graph: a search finds what shows that it does, or what shows that it doesn't.
 
-ghost use Rattle.std.specs.Prelude.{◌≡◌, ◌≢◌, ◌<◌, ◌≤ℤ◌, ◌+◌, ◌↔◌, pos, IsTrue, IfOk};
+ghost use Rattle.std.specs.Prelude.{◌≡◌, ◌≢◌, ◌<◌, ◌≤ℤ◌, ◌+◌, ◌↔◌, ℕ, List, pos, IsTrue, IfOk};
 ghost use Rattle.mono_graph.specs.Digraph.{IsPartOf};
-ghost use Rattle.mono_problem.specs.WellFormed.{IsMost};
+ghost use Rattle.mono_graph.specs.Walks.{is_path};
+ghost use Rattle.mono_paths.specs.Found.{HasBound};
 ghost use Rattle.mono_problem.specs.Holds.{Holds};
 
 use mono_base::limits::MAX_BOUND;
@@ -34,47 +35,24 @@ pub(crate) fn reaches(
     }
 }
 
-/// Whether a walk of at most so many edges leads from one node to the other.
-pub(crate) fn reaches_in_steps(
+/// Whether a walk within the limit, which has a bound, leads from one node to the other.
+pub(crate) fn reaches_within(
     finder: &mut WalkFinder,
     graph: &Graph,
     part: &Part,
     from: u32,
     to: u32,
-    most: i64,
+    limit: Limit,
 ) -> Result<bool, AllocError>
     requires finder { finder.old ≡ graph.now.nodes }
     requires part { IsPartOf part.now graph.now }
     requires from { from < graph.now.nodes }
     requires to { to < graph.now.nodes }
-    requires most { IsMost most }
-    ensures holds { IfOk result (λ yes. IsTrue yes ↔ Holds graph.now part.now (Predicate.Steps from to most)) }
+    requires limit { HasBound limit }
+    ensures holds { IfOk result (λ yes. IsTrue yes ↔ ((walk : List ℕ) × IsTrue (is_path graph.now part.now from to limit walk))) }
     ensures finder { finder.new ≡ finder.old }
 {
-    match finder.find_light(graph, part, from, to, Limit::Steps(most))? {
-        PathOrLabels::Path(_) => Ok(true),
-        PathOrLabels::Labels(_) => Ok(false),
-    }
-}
-
-/// Whether a walk of at most so much weight leads from one node to the other.
-pub(crate) fn reaches_in_weight(
-    finder: &mut WalkFinder,
-    graph: &Graph,
-    part: &Part,
-    from: u32,
-    to: u32,
-    most: i64,
-) -> Result<bool, AllocError>
-    requires finder { finder.old ≡ graph.now.nodes }
-    requires part { IsPartOf part.now graph.now }
-    requires from { from < graph.now.nodes }
-    requires to { to < graph.now.nodes }
-    requires most { IsMost most }
-    ensures holds { IfOk result (λ yes. IsTrue yes ↔ Holds graph.now part.now (Predicate.Distance from to most)) }
-    ensures finder { finder.new ≡ finder.old }
-{
-    match finder.find_light(graph, part, from, to, Limit::Weight(most))? {
+    match finder.find_light(graph, part, from, to, limit)? {
         PathOrLabels::Path(_) => Ok(true),
         PathOrLabels::Labels(_) => Ok(false),
     }

@@ -1,5 +1,5 @@
 -- Over a steady shelf that holds what the command comes to, no read fault is answered, and the command is carried out.
-use Rattle.std.proofs.Common.{◌≡◌, ◌≢◌, ◌<◌, ◌≤◌, ◌⊎◌, ◌+◌, ℕ, Bool, true, false, List, Option, Some, None, IsSome, IsNone, IsTrue, IfSome, length, refl, sym, ap, subst, ◌∙◌, inl, inr, arith}
+use Rattle.std.proofs.Common.{◌≡◌, ◌≢◌, ◌<◌, ◌≤◌, ℕ, Bool, true, false, List, Option, Some, None, IsSome, IsNone, IsTrue, IfSome, length, refl, sym, ap, subst, ◌∙◌, inl, inr, arith}
 use Rattle.std.specs.Prelude.{IsSomeAnd}
 use Rattle.mono_base.specs.declared.limits.TheConstants.{MAX_INPUT_BYTES, MAX_ANSWER_BYTES}
 use Rattle.mono_problem.specs.Instance.{Instance}
@@ -8,7 +8,6 @@ use Rattle.mono_answer.specs.declared.answer.Answer.{Answer}
 use Rattle.mono_answer.specs.declared.answer.Answer.TheVariants as answer
 use Rattle.mono_check.specs.declared.verdict.Verdict.{Verdict}
 use Rattle.mono_check.specs.declared.verdict.Verdict.TheVariants as verdict
-use Rattle.mono_io.specs.Reading.{IsNotRead, IsTooLong}
 use Rattle.mono_io.specs.Shelf.{Texts, ShelfView, text_named, told_text, Lacks}
 use Rattle.mono_cmd.specs.declared.command.Command.{Command}
 use Rattle.mono_cmd.specs.declared.command.Command.TheVariants as command
@@ -17,7 +16,7 @@ use Rattle.mono_cmd.specs.declared.status.Status.TheVariants as status
 use Rattle.mono_cmd.specs.declared.ending.Ending.{Ending}
 use Rattle.mono_cmd.specs.declared.ending.Ending.TheVariants as ending
 use Rattle.mono_cmd.specs.Endings.{status_of, answer_status, verdict_status}
-use Rattle.mono_cmd.specs.Runs.{ComesTo, Ends, Writes, HasProblem, HasNoFault, EachReached, IsHeld, IsHeldWithin, IsCarriedOut, IsSolved, IsGenerated, EndsAtFile}
+use Rattle.mono_cmd.specs.Runs.{ComesTo, Ends, Writes, HasProblem, HasNoFault, EachReached, IsHeld, IsHeldWithin, IsCarriedOut, IsGenerated}
 use Rattle.mono_cmd.proofs.Stages.{ends_else}
 
 -- ---- one file

@@ -1,5 +1,5 @@
 -- Over the same told texts one command comes to one ending, or to answers of `solve` that don't contradict each other.
-use Rattle.std.proofs.Common.{◌≡◌, ◌≢◌, ◌<◌, ◌≤◌, ◌⊎◌, ◌+◌, ℕ, Bool, true, false, List, Option, Some, None, IsNone, IsTrue, IfSome, length, refl, sym, ap, subst, ◌∙◌, inl, inr, arith}
+use Rattle.std.proofs.Common.{◌≡◌, ◌≢◌, ◌<◌, ◌≤◌, ◌⊎◌, ℕ, Bool, true, false, List, Option, Some, None, IsNone, IsTrue, IfSome, length, refl, sym, ap, subst, ◌∙◌, inl, inr, arith}
 use Rattle.std.specs.Prelude.{IsSomeAnd}
 use Rattle.mono_base.specs.declared.limits.TheConstants.{MAX_INPUT_BYTES, MAX_ANSWER_BYTES}
 use Rattle.mono_base.specs.Literal.{value_in}
@@ -15,7 +15,6 @@ use Rattle.mono_gnf.specs.Faults.{first_fault}
 use Rattle.mono_gnf.specs.Printed.{printed}
 use Rattle.mono_gnf.specs.Stands.{Stands}
 use Rattle.mono_gnf.specs.declared.fault.GnfFault.{GnfFault}
-use Rattle.mono_check.specs.Verdicts.{IsVerdict}
 use Rattle.mono_check.proofs.Accepted.{same_verdict}
 use Rattle.mono_io.specs.Reading.{IsRead, IsTooLong, IsNotRead}
 use Rattle.mono_io.specs.Shelf.{Texts, ShelfView, text_named, Lacks}
@@ -26,7 +25,7 @@ use Rattle.mono_cmd.specs.declared.summary.Summary.{Summary}
 use Rattle.mono_cmd.specs.declared.ending.Ending.{Ending}
 use Rattle.mono_cmd.specs.declared.ending.Ending.TheVariants as ending
 use Rattle.mono_cmd.specs.Runs.{EndsAtText, EndsAtFile, HasProblem, IsJudged, IsSolved, ComesTo, Ends, AreConsistent, AreAlike, IsGenerated, IsSolving}
-use Rattle.mono_cmd.specs.Solved.{IsAnswer, IsSolution}
+use Rattle.mono_cmd.specs.Solved.{IsAnswer}
 use Rattle.mono_cmd.proofs.Sound.{same_problem}
 use Rattle.mono_cmd.proofs.Stages.{ends_else}
 

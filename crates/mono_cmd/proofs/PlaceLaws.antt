@@ -1,5 +1,5 @@
 -- Where the shelf stands as a run ends, by its ending.
-use Rattle.std.proofs.Common.{true, false, ◌≡◌, ◌≢◌, ◌<◌, ◌≤◌, ◌⊎◌, ◌+◌, ◌^◌, ◌↔◌, ℕ, List, Option, Some, None, IfSome, length, refl, sym, ap, subst, ◌∙◌, inl, inr, arith, max, min}
+use Rattle.std.proofs.Common.{true, false, ◌≡◌, ◌≢◌, ◌<◌, ◌≤◌, ◌⊎◌, ◌+◌, ◌^◌, ◌↔◌, ℕ, List, Option, Some, None, IfSome, length, refl, sym, ap, subst, inl, inr, arith}
 use Rattle.mono_base.specs.declared.limits.TheConstants.{MAX_INPUT_BYTES, MAX_ANSWER_BYTES}
 use Rattle.mono_io.specs.Faults.{counted}
 use Rattle.mono_io.specs.Reading.{IsRead}

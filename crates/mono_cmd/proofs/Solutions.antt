@@ -18,7 +18,6 @@ use Rattle.mono_answer.specs.declared.answer.Answer.{Answer}
 use Rattle.mono_answer.specs.declared.answer.Answer.TheVariants as answer
 use Rattle.mono_answer.specs.Printed.{literals_from, with_zero, answer_text, answer_items, in_lines, is_within_format}
 use Rattle.mono_answer.proofs.RoundTrip.{printed_is_read}
-use Rattle.mono_check.specs.declared.verdict.Verdict.TheVariants as verdict
 use Rattle.mono_check.specs.StepLines.{chain_count as count_of_chains}
 use Rattle.mono_check.specs.Answers.{step_item, HasSteps, HasModel}
 use Rattle.mono_check.proofs.Accepted.{refutation_iff, progress_iff, model_iff}

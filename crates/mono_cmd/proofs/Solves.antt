@@ -1,11 +1,10 @@
 -- What a run of `solve` shows of the problem that FILE stands for.
-use Rattle.std.proofs.Common.{◌≡◌, ◌≢◌, ◌<◌, ◌⊎◌, ◌^◌, ℕ, Bool, true, false, List, [], ◌++◌, Option, Some, None, refl, sym, ap, subst, ◌∙◌, inl, inr}
+use Rattle.std.proofs.Common.{◌≡◌, ◌<◌, ◌⊎◌, ◌^◌, ℕ, Bool, true, false, List, ◌++◌, Option, Some, refl, sym, ap, subst, ◌∙◌, inl, inr}
 use Rattle.std.specs.Prelude.{IsTrue}
 use Rattle.std.specs.Io.KnownBytes.{append_known}
 use Rattle.mono_base.specs.Literal.{value_in}
 use Rattle.mono_problem.specs.Instance.{Instance}
 use Rattle.mono_problem.specs.Holds.{HasNoModel, Satisfies}
-use Rattle.mono_steps.specs.declared.step.Step.{Step}
 use Rattle.mono_steps.proofs.StepTruth.{refutation_excludes}
 use Rattle.mono_gnf.proofs.WellFormedReading.{stands_well_formed}
 use Rattle.mono_answer.specs.declared.answer.Answer.{Answer}

@@ -1,12 +1,11 @@
 -- What the texts that `check` writes show of the problem that FILE stands for.
-use Rattle.std.proofs.Common.{◌≡◌, ◌<◌, ◌≤◌, ◌⊎◌, ℕ, Bool, false, List, [], ◌++◌, Option, Some, None, IfSome, length, take, refl, sym, ap, subst, ◌∙◌, codes, inl, inr, arith}
+use Rattle.std.proofs.Common.{◌≡◌, ◌<◌, ℕ, Bool, false, List, [], ◌++◌, Option, Some, None, IfSome, length, take, refl, sym, ap, subst, ◌∙◌, codes, inl, inr, arith}
 use Rattle.std.specs.Prelude.{slice_index}
 use Rattle.std.proofs.Math.Dec.{eqb}
 use Rattle.std.proofs.Math.Seq.{take-length}
 use Rattle.std.proofs.lemmas.Bool.{eqb-false}
 use Rattle.std.proofs.lemmas.List.{append_cancel_left, append-nil, get_or-take, length-take}
 use Rattle.std.specs.Io.KnownBytes.{append_known}
-use Rattle.mono_base.specs.declared.limits.TheConstants.{MAX_INPUT_BYTES, MAX_ANSWER_BYTES}
 use Rattle.mono_problem.specs.Instance.{Instance}
 use Rattle.mono_problem.specs.Holds.{HasNoModel, Satisfies}
 use Rattle.mono_gnf.specs.Stands.{Stands}
@@ -24,9 +23,8 @@ use Rattle.mono_cmd.specs.declared.status.Status.TheVariants as status
 use Rattle.mono_cmd.specs.declared.summary.Summary.{Summary}
 use Rattle.mono_cmd.specs.declared.ending.Ending.{Ending}
 use Rattle.mono_cmd.specs.declared.ending.Ending.TheVariants as ending
-use Rattle.mono_cmd.specs.Endings.{status_of, text_of, verdict_text}
-use Rattle.mono_cmd.specs.Runs.{ComesTo, Ends, Writes, Runs, HasProblem, CheckWrote, IsJudged}
-use Rattle.mono_cmd.proofs.Stages.{ends_cases}
+use Rattle.mono_cmd.specs.Endings.{text_of, verdict_text}
+use Rattle.mono_cmd.specs.Runs.{ComesTo, Ends, Writes, Runs, HasProblem, CheckWrote}
 
 -- ---- the front of a text
 

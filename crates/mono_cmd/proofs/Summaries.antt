@@ -1,5 +1,5 @@
 -- What a run of `gen` with `--solve` shows of the problem that the generated input stands for.
-use Rattle.std.proofs.Common.{◌≡◌, ◌<◌, ◌^◌, ℕ, Bool, true, List, [], ◌++◌, length, Option, Some, refl, sym, ap, subst, ◌∙◌}
+use Rattle.std.proofs.Common.{◌≡◌, ◌<◌, ◌^◌, ℕ, Bool, true, List, ◌++◌, length, Option, Some, refl, sym, ap, subst, ◌∙◌}
 use Rattle.std.specs.Prelude.{IsTrue, codes}
 use Rattle.std.specs.Io.KnownBytes.{append_known}
 use Rattle.std.proofs.lemmas.List.{append-nil}
@@ -23,7 +23,6 @@ use Rattle.mono_cmd.specs.declared.status.Status.{Status}
 use Rattle.mono_cmd.specs.declared.status.Status.TheVariants as status
 use Rattle.mono_cmd.specs.declared.summary.Summary.{Summary}
 use Rattle.mono_cmd.specs.declared.ending.Ending.{Ending}
-use Rattle.mono_cmd.specs.declared.ending.Ending.TheVariants as ending
 use Rattle.mono_cmd.specs.Endings.{status_of, text_of, answer_status, result_word, verdict_text, progress_text, summary_lines, summary_text}
 use Rattle.mono_cmd.specs.Solved.{IsSolution, IsSummary, verdict_of}
 use Rattle.mono_cmd.specs.Runs.{ComesTo, Ends, Writes, Runs, SumsUp, SolvesGenerated, summary_of, IsSummaryBy}
@@ -61,11 +60,12 @@ text_with vars clauses edges predicates v a = summary_lines vars clauses edges p
 right_text : (p : Instance) (s : Summary) → IsSummary p DEFAULT_BUDGET s → summary_text s ≡ summary_of p (result_word s.answer) (verdict_text (verdict_of s.answer)) ++ progress_text s.answer
 right_text p s right =
     let judged = same_verdict p (answer_text s.answer) s.verdict (verdict_of s.answer) right.judged right.solves.accepted in
-    ap (λ (n : ℕ). text_with n s.clauses s.edges s.predicates s.verdict s.answer) right.vars
+    ap (λ (text : List ℕ). summary_lines s.vars s.clauses s.edges s.predicates (result_word s.answer) (verdict_text s.verdict) ++ text) right.progress
+    ∙ (ap (λ (n : ℕ). text_with n s.clauses s.edges s.predicates s.verdict s.answer) right.vars
     ∙ (ap (λ (n : ℕ). text_with p.vars n s.edges s.predicates s.verdict s.answer) right.clauses
     ∙ (ap (λ (n : ℕ). text_with p.vars (length p.clauses) n s.predicates s.verdict s.answer) right.edges
     ∙ (ap (λ (n : ℕ). text_with p.vars (length p.clauses) (edges_total p) n s.verdict s.answer) right.predicates
-    ∙ ap (λ (v : Verdict). text_with p.vars (length p.clauses) (edges_total p) (length p.atoms) v s.answer) judged)))
+    ∙ ap (λ (v : Verdict). text_with p.vars (length p.clauses) (edges_total p) (length p.atoms) v s.answer) judged))))
 
 -- ---- as clauses of a run
 

@@ -1,5 +1,5 @@
 -- The values of a printed model are read back as these values.
-use Rattle.std.proofs.Common.{◌≡◌, ℕ, zero, suc, ◌+◌, ◌-◌, ◌<◌, ◌≤◌, ◌==◌, ◌&&◌, ◌||◌, Bool, true, false, not, ℤ, pos, negsuc, List, [], ◌∷◌, length, get_or, map, refl, sym, ap, ◌∙◌, arith}
+use Rattle.std.proofs.Common.{◌≡◌, ℕ, zero, suc, ◌+◌, ◌<◌, ◌≤◌, ◌==◌, ◌&&◌, ◌||◌, Bool, true, false, not, ℤ, pos, negsuc, List, [], ◌∷◌, length, get_or, map, refl, sym, ap, ◌∙◌, arith}
 use Rattle.std.specs.Prelude.{IsTrue, nat_abs, nat_le}
 use Rattle.std.specs.List.{range_with_len}
 use Rattle.std.specs.Ordering.{int_eq}
@@ -9,9 +9,7 @@ use Rattle.mono_base.specs.Literal.{var_of, is_lit, has_lit}
 use Rattle.mono_base.specs.Partial.{has_var, is_partial}
 use Rattle.mono_problem.specs.Instance.{Instance}
 use Rattle.mono_steps.specs.ChainSteps.{names_vars}
-use Rattle.mono_answer.specs.declared.item.Item.TheVariants as says
 use Rattle.mono_answer.specs.Printed.{literal_of, literals_from}
-use Rattle.mono_check.specs.declared.reason.Reason.TheVariants as reason
 use Rattle.mono_check.specs.Values.{are_values, model_of}
 use Rattle.mono_check.specs.Answers.{AreValues}
 use Rattle.mono_check.proofs.ValueRows.{one_each}

@@ -1,5 +1,5 @@
 -- The command that a list of words is. Each word is the list of its bytes.
-use Rattle.std.specs.Prelude.{◌≡◌, ℕ, ◌-◌, ◌^◌, ◌≤◌, Bool, true, false, not, ◌&&◌, ◌==◌, nat_lt, if◌then◌else◌, List, [], ◌∷◌, Option, Some, None, option_map, option_and_then, IfSome, codes, bytes_eq}
+use Rattle.std.specs.Prelude.{ℕ, ◌-◌, ◌^◌, ◌≤◌, Bool, true, false, not, ◌&&◌, ◌==◌, nat_lt, if◌then◌else◌, List, [], ◌∷◌, Option, Some, None, option_map, option_and_then, codes, bytes_eq}
 use Rattle.std.specs.Result.{result_ok}
 use Rattle.mono_text.specs.Numbers.{natural, within}
 use Rattle.mono_gen.specs.declared.kind.GenKind.{GenKind}

@@ -71,14 +71,14 @@ result_word (answer.Model values) = codes "satisfiable"
 result_word (answer.Refutation steps) = codes "unsatisfiable"
 result_word (answer.Progress steps) = codes "unknown"
 
--- progress is printed behind the six lines
+-- what is printed behind the six lines: progress, whole
 abbrev pub progress_text : Answer → List ℕ
 progress_text (answer.Model values) = []
 progress_text (answer.Refutation steps) = []
 progress_text (answer.Progress steps) = answer_text (answer.Progress steps)
 
 abbrev pub summary_text : Summary → List ℕ
-summary_text s = summary_lines s.vars s.clauses s.edges s.predicates (result_word s.answer) (verdict_text s.verdict) ++ progress_text s.answer
+summary_text s = summary_lines s.vars s.clauses s.edges s.predicates (result_word s.answer) (verdict_text s.verdict) ++ s.progress
 
 abbrev pub text_of : Ending → List ℕ
 text_of ending.Words = codes "usage: solve FILE [--conflicts N] | check FILE ANSWER | print FILE | gen KIND SIZE SEED [--solve]\n"

@@ -14,6 +14,7 @@ use Rattle.mono_check.specs.declared.verdict.Verdict.{Verdict}
 use Rattle.mono_check.specs.declared.verdict.Verdict.TheVariants as verdict
 use Rattle.mono_check.specs.Verdicts.{IsVerdict}
 use Rattle.mono_cmd.specs.declared.summary.Summary.{Summary}
+use Rattle.mono_cmd.specs.Endings.{progress_text}
 
 -- a refutation of nothing but what its last step rests on
 pub record IsTrimRefutation (p : Instance) (steps : List Step) : Type 0 where
@@ -44,11 +45,12 @@ pub record IsSolution (p : Instance) (budget : ℕ) (a : Answer) : Type 0 where
   pub right : IsAnswer p budget a
   pub accepted : IsVerdict p (answer_text a) (verdict_of a)
 
--- the sizes of a problem, an answer to it, and the verdict of `check` on the answer's text
+-- the sizes of a problem, an answer to it, its text where it is progress, and the verdict of `check` on its text
 pub record IsSummary (p : Instance) (budget : ℕ) (s : Summary) : Type 0 where
   pub vars : s.vars ≡ p.vars
   pub clauses : s.clauses ≡ length p.clauses
   pub edges : s.edges ≡ edges_total p
   pub predicates : s.predicates ≡ length p.atoms
   pub solves : IsSolution p budget s.answer
+  pub progress : s.progress ≡ progress_text s.answer
   pub judged : IsVerdict p (answer_text s.answer) s.verdict

@@ -4,19 +4,23 @@ ghost use Rattle.std.specs.Prelude.{◌≡◌, ◌++◌, ◌∷◌, [], IfOk, On
 ghost use Rattle.mono_text.specs.Text.{spaced};
 ghost use Rattle.mono_problem.specs.WellFormed.{IsInstance};
 ghost use Rattle.mono_cmd.specs.declared.command.TheConstants.{DEFAULT_BUDGET};
-ghost use Rattle.mono_cmd.specs.Endings.{result_word as word_of, summary_text, verdict_text as text_of_verdict, progress_text as text_of_progress};
+ghost use Rattle.mono_answer.specs.Printed.{answer_text};
+ghost use Rattle.mono_cmd.specs.Endings.{result_word as word_of, summary_text, progress_text};
 ghost use Rattle.mono_cmd.specs.Solved.{IsSummary};
 
 use crate::command::DEFAULT_BUDGET;
 use crate::ending::verdict_text;
 use crate::solving::answer_to;
 use mono_answer::{Answer, print_answer};
+use mono_base::Row;
 use mono_check::Verdict;
 use mono_check::judge::verdict;
 use mono_problem::Problem;
 use std::alloc::{AllocError, Global};
 
 /// The sizes of a problem, an answer to it, and the checker's verdict on the answer's text.
+///
+/// The text is made once: the verdict is on it, and where the answer is progress it is kept to be printed.
 #[derive(Drop)]
 pub struct Summary {
     pub vars: u32,
@@ -24,6 +28,8 @@ pub struct Summary {
     pub edges: u32,
     pub predicates: u32,
     pub answer: Answer,
+    /// The text of an answer that is progress; empty for any other.
+    pub progress: Row<u8>,
     pub verdict: Verdict,
 }
 
@@ -35,18 +41,31 @@ pub fn sum_up(alloc: Global, problem: &Problem) -> Result<Summary, AllocError>
     let answer = answer_to(alloc, problem, DEFAULT_BUDGET)?;
     let text = print_answer(alloc, &answer)?;
     let verdict = verdict(alloc, problem, text.as_slice())?;
+    let progress = progress_of(alloc, &answer, text);
     Ok(Summary {
         vars: problem.vars(),
         clauses: problem.clause_count(),
         edges: problem.edge_count(),
         predicates: problem.atom_count(),
         answer,
+        progress,
         verdict,
     })
 }
 
+/// Of an answer's text what a summary prints: all of it where the answer is progress, and else nothing.
+fn progress_of(alloc: Global, answer: &Answer, text: Vec<u8>) -> Row<u8>
+    requires { text.items ≡ answer_text answer.now }
+    ensures { result ≡ progress_text answer.now }
+{
+    match answer {
+        Answer::Progress(_) => Row::from_vec(text),
+        Answer::Model(_) | Answer::Refutation(_) => Row::from_vec(Vec::new(alloc)),
+    }
+}
+
 impl Summary {
-    /// The six lines, and behind them the steps of progress.
+    /// The six lines, and behind them the text of progress.
     pub fn text(&self, alloc: Global) -> Result<Vec<u8>, AllocError>
         ensures { IfOk result (λ text. text.items ≡ summary_text self.now) }
     {
@@ -55,7 +74,7 @@ impl Summary {
         out.extend_from_slice(result_word(&self.answer))?;
         out.extend_from_slice(b"\nverdict ")?;
         out.extend_from_slice(verdict_text(alloc, self.verdict)?.as_slice())?;
-        push_progress(alloc, &mut out, &self.answer)?;
+        out.extend_from_slice(self.progress.as_slice())?;
         Ok(out)
     }
 
@@ -89,13 +108,4 @@ fn result_word(answer: &Answer) -> &'static [u8]
         Answer::Refutation(_) => b"unsatisfiable",
         Answer::Progress(_) => b"unknown",
     }
-}
-
-fn push_progress(alloc: Global, out: &mut Vec<u8>, answer: &Answer) -> Result<(), AllocError>
-    ensures { OnOk result (out.new.items ≡ out.old.items ++ text_of_progress answer.now) }
-{
-    if let Answer::Progress(_) = answer {
-        out.extend_from_slice(print_answer(alloc, answer)?.as_slice())?;
-    }
-    Ok(())
 }

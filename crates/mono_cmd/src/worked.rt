@@ -13,7 +13,7 @@ ghost use Rattle.mono_cmd.specs.declared.status.Status.TheVariants as status;
 ghost use Rattle.mono_cmd.specs.declared.ending.Ending.TheVariants as ending;
 ghost use Rattle.mono_cmd.specs.Commands.{command_of, files_of};
 ghost use Rattle.mono_cmd.specs.Statuses.{code_of};
-ghost use Rattle.mono_cmd.specs.Endings.{status_of, text_of, unread_ending, refused_ending};
+ghost use Rattle.mono_cmd.specs.Endings.{status_of, text_of, progress_text, unread_ending, refused_ending};
 ghost use Rattle.mono_cmd.specs.Runs.{Writes, CheckWrote, IsHeld, IsHeldWithin, HasNoFault, EachReached, IsCarriedOut, AreAlike, begun_for};
 ghost use Rattle.mono_cmd.specs.Worked.{empty_problem};
 
@@ -112,8 +112,8 @@ pub fn worked_texts()
     ensures rejected { text_of (ending.Judged (verdict.Rejected 2 reason.BadLine)) ≡ codes "rejected 2 BadLine\n" }
     ensures clause_false { text_of (ending.Judged (verdict.Rejected 2 (reason.ClauseFalse 5))) ≡ codes "rejected 2 ClauseFalse 5\n" }
     ensures printed { text_of (ending.Printed (codes "p gnf 0 0\n")) ≡ codes "p gnf 0 0\n" }
-    ensures summary { text_of (ending.Summed (record { vars = 9; clauses = 3; edges = 8; predicates = 1; answer = answer.Refutation []; verdict = verdict.Refutation })) ≡ codes "variables 9\nclauses 3\nedges 8\npredicates 1\nresult unsatisfiable\nverdict accepted refutation\n" }
-    ensures summary_of_progress { text_of (ending.Summed (record { vars = 9; clauses = 3; edges = 8; predicates = 1; answer = answer.Progress []; verdict = verdict.Progress 0 })) ≡ codes "variables 9\nclauses 3\nedges 8\npredicates 1\nresult unknown\nverdict accepted progress 0\ns UNKNOWN\n" }
+    ensures summary { text_of (ending.Summed (record { vars = 9; clauses = 3; edges = 8; predicates = 1; answer = answer.Refutation []; progress = progress_text (answer.Refutation []); verdict = verdict.Refutation })) ≡ codes "variables 9\nclauses 3\nedges 8\npredicates 1\nresult unsatisfiable\nverdict accepted refutation\n" }
+    ensures summary_of_progress { text_of (ending.Summed (record { vars = 9; clauses = 3; edges = 8; predicates = 1; answer = answer.Progress []; progress = progress_text (answer.Progress []); verdict = verdict.Progress 0 })) ≡ codes "variables 9\nclauses 3\nedges 8\npredicates 1\nresult unknown\nverdict accepted progress 0\ns UNKNOWN\n" }
 {}
 
 /// The text is written whole, a prefix of it where a write failed, and nothing where memory was wanting.

@@ -1,2 +1,4 @@
 pub mod LabelLaws
 pub mod DistanceEvidence
+pub mod SureLaws
+pub mod SourceLaws

@@ -11,6 +11,7 @@ ghost use Rattle.mono_theory.specs.Evidences.{IsEvidence};
 ghost use Rattle.mono_distance.specs.Distances.{is_distance, predicate_of, IsLabelEvidence};
 
 use crate::label_table::LabelTable;
+use crate::least_side::LeastSide;
 use mono_base::Row;
 use mono_base::limits::MAX_WITNESS_VALUE;
 use mono_graph::{Graph, Label, Limit, Part};
@@ -41,14 +42,14 @@ impl Model for Distance {
 
 /// The ends and the limit of a predicate.
 #[derive(Clone, Copy)]
-struct Asked {
-    from: u32,
-    to: u32,
-    limit: Limit,
+pub(crate) struct Asked {
+    pub(crate) from: u32,
+    pub(crate) to: u32,
+    pub(crate) limit: Limit,
 }
 
 /// What the predicate asks for.
-fn what_is_asked(predicate: Predicate) -> Asked
+pub(crate) fn what_is_asked(predicate: Predicate) -> Asked
     requires { IsTrue (is_distance predicate) }
     ensures { predicate ≡ predicate_of result.from result.to result.limit }
 {
@@ -91,11 +92,16 @@ fn label_evidence(
 }
 
 impl Kind for Distance {
+    ghost use Rattle.std.specs.Prelude.{true};
     ghost use Rattle.mono_distance.specs.Distances.{is_distance};
 
     ghost covers = { is_distance };
 
     ghost nodes = { λ d. d };
+
+    const IS_THOROUGH: bool = true;
+
+    ghost IS_THOROUGH = { true };
 
     fn with_nodes(alloc: Global, count: u32) -> Result<Self, AllocError> {
         let finder = WalkFinder::new(alloc, count)?;
@@ -125,4 +131,4 @@ impl Kind for Distance {
 }
 
 /// Predicates on walks within a limit over one graph.
-pub type DistanceTheory = GraphTheory<Distance>;
+pub type DistanceTheory = GraphTheory<Distance, LeastSide>;

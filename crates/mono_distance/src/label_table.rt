@@ -138,7 +138,7 @@ fn above(most: i64) -> u64
 }
 
 /// The label of the nodes that aren't listed: one more than the bound.
-fn others_of(limit: Limit) -> u64
+pub(crate) fn others_of(limit: Limit) -> u64
     requires { HasBound limit }
     ensures value { pos result ≡ bound_of limit +ℤ pos 1 }
     ensures small { result ≤ MAX_BOUND + 1 }

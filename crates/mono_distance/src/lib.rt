@@ -5,5 +5,10 @@
 mod distance;
 /// Labels by node.
 mod label_table;
+/// Labels along the surely present edges.
+mod least_side;
+/// The rows of labels for which atoms ask.
+mod sources;
 
 pub use distance::{Distance, DistanceTheory};
+pub use least_side::LeastSide;

@@ -2,11 +2,12 @@
 use Rattle.std.proofs.Common.{◌≡◌, ℕ, zero, suc, ◌+◌, ◌-◌, ◌<◌, ◌≤◌, ◌⊎◌, true, false, not, List, [], ◌∷◌, ◌++◌, length, set, take, drop, refl, sym, ap, subst, ◌∙◌, inl, inr, arith}
 use Rattle.std.specs.Prelude.{All, nat_le}
 use Rattle.std.proofs.lemmas.Bool.{le-leb, lt-leb, cases_lt, cases_eq}
-use Rattle.std.proofs.lemmas.List.{length-set, take-append-drop, append_assoc, get_or-set_same, get_or-set_other, get_or_past, set-set, set-get_or, append-nil, take_at, drop_at, get_or-take, get_or-drop, length-take, length-drop}
+use Rattle.std.proofs.lemmas.List.{length-set, take-append-drop, append_assoc, get_or-set_same, get_or-set_other, get_or_past, set-set, set-get_or, append-nil, take_at, drop_at, get_or-take, get_or-drop, length-take, length-drop, length-append, get_or_append_left}
+use Rattle.std.proofs.Math.Seq.{get_or-append_seam}
 use Rattle.std.proofs.lemmas.List.Elements.{filter-append, All-append, All-cons, All-nil}
 use Rattle.mono_graph.specs.declared.limit.Limit.{Limit}
 use Rattle.mono_dynamic.specs.declared.change.Change.{Change}
-use Rattle.mono_dynamic.specs.Costs.{Costs, no_change, change_at, label_of, unwound, made_by, made_after, labels_after, IsLater, AreKept}
+use Rattle.mono_dynamic.specs.Costs.{Costs, no_change, change_at, label_of, unwound, made_by, made_after, labels_after, IsLater, AreKept, AreLinked}
 
 pub unwound-append : (labels : List ℕ) (cs ds : List Change) → unwound labels (cs ++ ds) ≡ unwound (unwound labels ds) cs
 unwound-append labels [] ds = refl
@@ -17,8 +18,8 @@ length-unwound labels [] = refl
 length-unwound labels (c ∷ cs) = length-set (unwound labels cs) c.node c.old ∙ length-unwound labels cs
 
 -- a lowered label is raised again by its change
-pub unwound_one : (labels : List ℕ) (v l stamp : ℕ) → unwound (set labels v l) (record { node = v; old = label_of labels v; stamp = stamp } ∷ []) ≡ labels
-unwound_one labels v l stamp = set-set labels v l (label_of labels v) ∙ set-get_or labels v 0
+pub unwound_one : (labels : List ℕ) (c : Change) → c.old ≡ label_of labels c.node → unwound (set labels c.node c.label) (c ∷ []) ≡ labels
+unwound_one labels c old = set-set labels c.node c.label c.old ∙ (ap (λ (l : ℕ). set labels c.node l) old ∙ set-get_or labels c.node 0)
 
 set_most : (labels : List ℕ) (v l cap w : ℕ) → l ≤ cap → label_of labels w ≤ cap → label_of (set labels v l) w ≤ cap
 set_most labels v l cap w le most = elim (cases_eq w v) [
@@ -60,7 +61,7 @@ by_none m [] h = refl
 by_none m (c ∷ cs) h = by_past m c cs (h 0 (omega arith)) ∙ by_none m cs (λ i lt. h (suc i) (omega arith))
 
 -- the first n changes have stamps up to m, and the others later ones
-split_at : (m n : ℕ) (cs : List Change) → ((i : ℕ) → i < n → i < length cs → (change_at cs i).stamp ≤ m) → ((i : ℕ) → n ≤ i → i < length cs → m < (change_at cs i).stamp)
+pub split_at : (m n : ℕ) (cs : List Change) → ((i : ℕ) → i < n → i < length cs → (change_at cs i).stamp ≤ m) → ((i : ℕ) → n ≤ i → i < length cs → m < (change_at cs i).stamp)
     → (take n cs ≡ made_by m cs) × (drop n cs ≡ made_after m cs)
 split_at m zero cs low high = (sym (by_none m cs (λ i lt. high i (omega arith) lt)), sym (after_all m cs (λ i lt. high i (omega arith) lt)))
 split_at m (suc n) [] low high = (refl, refl)
@@ -105,15 +106,15 @@ by_latest m (c ∷ cs) = elim (cases_lt m c.stamp) [
 pub later_none : (stamp : ℕ) (t : Costs) → IsLater stamp t t
 later_none stamp t = record { limit = refl; cap = refl; len = refl; added = []; changes = sym (append-nil t.changes); stamps = λ i d lt. absurd (omega arith); back = refl }
 
-pub later_one : (stamp v l : ℕ) (t new : Costs) → new ≡ record t { labels = set t.labels v l; changes = t.changes ++ record { node = v; old = label_of t.labels v; stamp = stamp } ∷ [] } → IsLater stamp t new
-later_one stamp v l t new is = subst (λ (r : Costs). IsLater stamp t r) (sym is) (record {
+pub later_one : (stamp : ℕ) (c : Change) (t new : Costs) → c.stamp ≡ stamp → c.old ≡ label_of t.labels c.node → new ≡ record t { labels = set t.labels c.node c.label; changes = t.changes ++ c ∷ [] } → IsLater stamp t new
+later_one stamp c t new at old is = subst (λ (r : Costs). IsLater stamp t r) (sym is) (record {
   limit = refl;
   cap = refl;
-  len = length-set t.labels v l;
-  added = record { node = v; old = label_of t.labels v; stamp = stamp } ∷ [];
+  len = length-set t.labels c.node c.label;
+  added = c ∷ [];
   changes = refl;
-  stamps = All-cons (λ (c : Change). c.stamp ≡ stamp) (record { node = v; old = label_of t.labels v; stamp = stamp }) [] refl (All-nil (λ (c : Change). c.stamp ≡ stamp));
-  back = unwound_one t.labels v l stamp;
+  stamps = All-cons (λ (d : Change). d.stamp ≡ stamp) c [] at (All-nil (λ (d : Change). d.stamp ≡ stamp));
+  back = unwound_one t.labels c old;
 })
 
 pub later_same : (stamp : ℕ) (t new : Costs) → new ≡ t → IsLater stamp t new
@@ -160,8 +161,8 @@ later_undone stamp n a b new at x is =
 
 -- ---- what is kept
 
-pub kept_unwound : (most : ℕ) (labels : List ℕ) (cs : List Change) (n : ℕ) → AreKept most labels cs → AreKept most (unwound labels (drop n cs)) (take n cs)
-kept_unwound most labels cs n k =
+pub kept_unwound : (most : ℕ) (labels : List ℕ) (cs : List Change) (latest now : List ℕ) (n : ℕ) → AreKept most labels cs latest → AreLinked (unwound labels (drop n cs)) (take n cs) now → AreKept most (unwound labels (drop n cs)) (take n cs) now
+kept_unwound most labels cs latest now n k linked =
     let at : (i : ℕ) → i < length (take n cs) → (i < length cs) × (change_at (take n cs) i ≡ change_at cs i) = λ i lt.
     (omega (arith, length-take n cs, lt), get_or-take n cs i no_change (omega (arith, length-take n cs, lt))) in
     record {
@@ -177,4 +178,33 @@ kept_unwound most labels cs n k =
           let r = at j lt in
           let q = at i (omega arith) in
           subst (λ (c : Change). (change_at (take n cs) i).stamp ≤ c.stamp) (sym r.1) (subst (λ (c : Change). c.stamp ≤ (change_at cs j).stamp) (sym q.1) (k.rising i j le r.0));
+      linked = linked;
+    }
+
+pub kept_pushed : (most : ℕ) (labels : List ℕ) (cs : List Change) (latest now : List ℕ) (c : Change) → AreKept most labels cs latest → c.node < length labels → c.old ≡ label_of labels c.node → c.label < c.old → All (λ (d : Change). d.stamp ≤ c.stamp) cs
+    → AreLinked (set labels c.node c.label) (cs ++ c ∷ []) now → AreKept most (set labels c.node c.label) (cs ++ c ∷ []) now
+kept_pushed most labels cs latest now c k room old below stamps linked =
+    let n : ℕ = length cs in
+    let ds : List Change = cs ++ c ∷ [] in
+    let size : length ds ≡ suc n = omega (arith, length-append cs (c ∷ [])) in
+    let same : (i : ℕ) → i < n → change_at ds i ≡ change_at cs i = λ i lt. get_or_append_left cs (c ∷ []) no_change i lt in
+    let top : (i : ℕ) → n ≤ i → i < length ds → change_at ds i ≡ c = λ i le lt. (let e : i ≡ n = omega arith in ap (λ (j : ℕ). change_at ds j) e ∙ get_or-append_seam cs c [] no_change) in
+    let high : c.old ≤ most = (let top = k.most c.node in omega arith) in
+    record {
+      bounded = k.bounded;
+      most = λ v. set_most labels c.node c.label most v (omega arith) (k.most v);
+      known = λ i lt. elim (cases_lt i n) [
+        | inl low ↦
+            let was = k.known i low in
+            subst (λ (d : Change). (d.node < length (set labels c.node c.label)) × (d.old ≤ most)) (sym (same i low)) (let inside = was.0 in omega (arith, inside, length-set labels c.node c.label), was.1)
+        | inr last ↦ subst (λ (d : Change). (d.node < length (set labels c.node c.label)) × (d.old ≤ most)) (sym (top i last lt)) (omega (arith, room, length-set labels c.node c.label), high)
+      ];
+      rising = λ i j le lt. elim (cases_lt j n) [
+        | inl low ↦ subst (λ (d : Change). d.stamp ≤ (change_at ds j).stamp) (sym (same i (omega arith))) (subst (λ (d : Change). (change_at cs i).stamp ≤ d.stamp) (sym (same j low)) (k.rising i j le low))
+        | inr last ↦ subst (λ (d : Change). (change_at ds i).stamp ≤ d.stamp) (sym (top j last lt)) (elim (cases_lt i n) [
+          | inl low ↦ subst (λ (d : Change). d.stamp ≤ c.stamp) (sym (same i low)) (stamps i no_change low)
+          | inr here ↦ subst (λ (d : Change). d.stamp ≤ c.stamp) (sym (top i here (omega arith))) (omega arith)
+        ])
+      ];
+      linked = linked;
     }

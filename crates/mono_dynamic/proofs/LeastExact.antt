@@ -1,9 +1,9 @@
 -- Labels along which each present edge is tight are the least costs, after each number of steps.
-use Rattle.std.proofs.Common.{◌≡◌, ℕ, ◌+◌, ◌<◌, ◌≤◌, Bool, false, List, [], ◌∷◌, ◌++◌, length, set, take, drop, replicate, refl, sym, ap, subst, ◌∙◌, inl, inr, arith}
+use Rattle.std.proofs.Common.{◌≡◌, ℕ, ◌+◌, ◌-◌, ◌<◌, ◌≤◌, Bool, false, List, [], ◌∷◌, ◌++◌, length, set, take, drop, replicate, refl, sym, ap, subst, ◌∙◌, inl, inr, arith}
 use Rattle.std.specs.Prelude.{IsTrue, All, ◌==◌}
 use Rattle.std.specs.List.{list_all}
 use Rattle.std.proofs.lemmas.Bool.{cases_lt, cases_eq, or_cases, or_left, and_from, and_parts, eqb-true, both_ways, ltb-true}
-use Rattle.std.proofs.lemmas.List.{length-set, length-replicate, get_or-replicate, get_or-set_same, get_or-set_other, get_or_past}
+use Rattle.std.proofs.lemmas.List.{length-set, length-replicate, get_or-replicate, get_or-set_same, get_or-set_other, get_or_past, get_or-take, get_or_append_left, get_or-append_right, length-append, length-take, take-append-drop}
 use Rattle.std.proofs.lemmas.List.Sums.{sum_by_push, sum_by-cons}
 use Rattle.std.proofs.lemmas.List.Elements.{All-nil}
 use Rattle.mono_graph.specs.declared.limit.Limit.{Limit}
@@ -11,8 +11,9 @@ use Rattle.mono_graph.specs.Digraph.{Digraph, edge_at, present, has, is_place}
 use Rattle.mono_graph.specs.Walks.{is_walk, leads, cost_of}
 use Rattle.mono_dynamic.specs.declared.change.Change.{Change}
 use Rattle.mono_dynamic.specs.Arrivals.{IsGrown, GrowsAfter}
-use Rattle.mono_dynamic.specs.Costs.{Costs, label_of, cost_along, AreAttained, AreLeast, AreLeastAlong, IsTight, AreTight, AreRelaxed, IsLater, unwound, made_by, made_after, labels_after}
+use Rattle.mono_dynamic.specs.Costs.{Costs, label_of, cost_along, AreAttained, AreLeast, AreLeastAlong, IsTight, AreTight, AreRelaxed, IsLater, unwound, made_by, made_after, labels_after, no_change, change_at, IsLed, AreLed}
 use Rattle.mono_dynamic.proofs.Exact.{walks, is_walk_of, walk_push, walk_none}
+use Rattle.mono_dynamic.proofs.CostWalks.{led_same, led_grown}
 use Rattle.mono_dynamic.proofs.CostLists.{after_none, after_parts, by_latest, unwound-append, later_earlier}
 
 pub record EachTight (g : Digraph) (P : List Bool) (limit : Limit) (labels : List ℕ) : Type 0 where
@@ -106,11 +107,42 @@ least_relaxed g P Q u js old new ends len grown r l =
 whole_labels : (n : ℕ) (t : Costs) → All (λ (c : Change). c.stamp ≤ n) t.changes → labels_after n t ≡ t.labels
 whole_labels n t latest = ap (λ (cs : List Change). unwound t.labels cs) (after_none n t.changes latest)
 
+-- the edge of each change is present in the grown part
+led_start : (g : Digraph) (parts : ℕ → List Bool) (n u : ℕ) (t : Costs) (Q : List Bool) (ks : List ℕ) → AreLeastAlong g parts n u t → IsGrown (parts n) Q ks → AreLed g Q u t
+led_start g parts n u t Q ks r grown = record {
+  source = r.source;
+  each = λ i lt. led_grown g (parts n) Q t.limit u t.changes ks i grown (r.led n i (omega arith) lt (r.latest i no_change lt));
+}
+
+-- and as long as the part stays as it is
+led_still : (g : Digraph) (parts : ℕ → List Bool) (n m u : ℕ) (t : Costs) → AreLeastAlong g parts n u t → (n ≤ m → parts m ≡ parts n) → (i : ℕ) → i < length t.changes → (change_at t.changes i).stamp ≤ m → IsLed g (parts m) t.limit u t.changes i
+led_still g parts n m u t r still i lt early = elim (cases_lt n m) [
+  | inl past ↦ subst (λ (P : List Bool). IsLed g P t.limit u t.changes i) (sym (still (omega arith))) (r.led n i (omega arith) lt (r.latest i no_change lt))
+  | inr low ↦ r.led m i low lt early
+]
+
+-- an early change was there before
+later_old : (stamp m i : ℕ) (a b : Costs) → IsLater stamp a b → m < stamp → i < length b.changes → (change_at b.changes i).stamp ≤ m → (i < length a.changes) × ((j : ℕ) → j ≤ i → change_at b.changes j ≡ change_at a.changes j)
+later_old stamp m i a b x less lt early =
+    let low : i < length a.changes = elim (cases_lt i (length a.changes)) [
+      | inl low ↦ low
+      | inr high ↦
+          let size : length b.changes ≡ length a.changes + length x.added = ap (λ (cs : List Change). length cs) x.changes ∙ length-append a.changes x.added in
+          let at : change_at b.changes i ≡ change_at x.added (i - length a.changes) = ap (λ (cs : List Change). change_at cs i) x.changes ∙ get_or-append_right a.changes x.added (length a.changes) i no_change refl high in
+          let stamp : (change_at x.added (i - length a.changes)).stamp ≡ stamp = x.stamps (i - length a.changes) no_change (omega arith) in
+          let same : (change_at b.changes i).stamp ≡ (change_at x.added (i - length a.changes)).stamp = ap (λ (c : Change). c.stamp) at in
+          absurd (omega arith)
+    ] in
+    (low, λ j le. ap (λ (cs : List Change). change_at cs j) x.changes ∙ get_or_append_left a.changes x.added no_change j (omega arith))
+
 pub least_along_grown : (g : Digraph) (parts : ℕ → List Bool) (n last u : ℕ) (old new : Costs) (Q : List Bool) (ks : List ℕ) → AreLeastAlong g parts n u old → GrowsAfter parts n last Q ks
     → IsLater last old new → All (λ (c : Change). c.stamp ≤ last) new.changes
     → ((P : List Bool) → AreLeast g P old.limit u old.cap old.labels → IsGrown P Q ks → AreLeast g Q old.limit u old.cap new.labels)
+    → (label_of old.labels u ≡ 0 → AreLed g Q u old → AreLed g Q u new)
     → AreLeastAlong g parts last u new
-least_along_grown g parts n last u old new Q ks r grows later stamps grown =
+least_along_grown g parts n last u old new Q ks r grows later stamps grown led =
+    let source : label_of old.labels u ≡ 0 = (let low = (r.each n (omega arith)).least u [] (walk_none g (parts n) u) in omega (arith, low, ap (λ (ls : List ℕ). label_of ls u) (whole_labels n old r.latest))) in
+    let now : AreLed g Q u new = led source (led_start g parts n u old Q ks r grows.grown) in
     let whole : AreLeast g (parts n) old.limit u old.cap old.labels = subst (λ (ls : List ℕ). AreLeast g (parts n) old.limit u old.cap ls) (whole_labels n old r.latest) (r.each n (omega arith)) in
     record {
       each = λ m le.
@@ -130,6 +162,17 @@ least_along_grown g parts n last u old new Q ks r grows later stamps grown =
                 (subst (λ (ls : List ℕ). AreLeast g Q old.limit u old.cap ls) (sym (whole_labels last new stamps)) (grown (parts n) whole grows.grown)))
           ]));
       latest = stamps;
+      source = now.source;
+      led = λ m i le lt early. elim (cases_lt m last) [
+        | inl less ↦
+            let was = later_old last m i old new later less lt early in
+            led_same g (parts m) new.limit u old.changes new.changes i was.1
+            (subst (λ (l : Limit). IsLed g (parts m) l u old.changes i) (sym later.limit) (led_still g parts n m u old r (λ low. grows.still m low less) i was.0
+            (subst (λ (c : Change). c.stamp ≤ m) (was.1 i (omega arith)) early)))
+        | inr more ↦
+            let e : last ≡ m = omega arith in
+            subst (λ (j : ℕ). IsLed g (parts j) new.limit u new.changes i) e (subst (λ (P : List Bool). IsLed g P new.limit u new.changes i) (sym grows.is) (now.each i lt))
+      ];
     }
 
 pub least_along_undone : (g : Digraph) (parts : ℕ → List Bool) (kept n u k : ℕ) (old new : Costs) → kept ≤ n → take k old.changes ≡ made_by kept old.changes → drop k old.changes ≡ made_after kept old.changes
@@ -140,6 +183,19 @@ least_along_undone g parts kept n u k old new le front back is r = subst (λ (t 
       (ap (λ (cs : List Change). unwound old.labels cs) (after_parts m kept k old.changes low front back) ∙ unwound-append old.labels (made_after m (made_by kept old.changes)) (made_after kept old.changes))
       (r.each m (omega arith));
   latest = by_latest kept old.changes;
+  source = record {
+    alone = λ v lt low. r.source.alone v lt
+        (subst (λ (ls : List ℕ). label_of ls v < old.cap)
+        (sym (unwound-append old.labels (made_by kept old.changes) (made_after kept old.changes)) ∙ ap (λ (cs : List Change). unwound old.labels cs)
+        (ap (λ (ds : List Change). ds ++ made_after kept old.changes) (sym front) ∙ (ap (λ (ds : List Change). take k old.changes ++ ds) (sym back) ∙ take-append-drop k old.changes))) low);
+  };
+  led = λ m i low lt early.
+      subst (λ (cs : List Change). (i < length cs) → ((change_at cs i).stamp ≤ m) → IsLed g (parts m) old.limit u cs i) front
+      (λ ltk here.
+      let size = length-take k old.changes in
+      let same : (j : ℕ) → j ≤ i → change_at (take k old.changes) j ≡ change_at old.changes j = λ j le. get_or-take k old.changes j no_change (omega arith) in
+      led_same g (parts m) old.limit u old.changes (take k old.changes) i same
+      (r.led m i (omega arith) (omega arith) (subst (λ (c : Change). c.stamp ≤ m) (same i (omega arith)) here))) lt early;
 })
 
 -- ---- laws
@@ -176,12 +232,21 @@ least_first g parts limit u most inside none =
         };
       });
       latest = All-nil (λ (c : Change). c.stamp ≤ 0);
+      source = record {
+        alone = λ v lt below. elim (cases_eq v u) [
+          | inl at ↦ at
+          | inr other ↦ absurd (omega (arith, get_or-set_other (replicate g.nodes most) u v 0 0 other, get_or-replicate g.nodes v most 0 lt, below))
+        ];
+      };
+      led = λ m i le lt early. absurd (omega arith);
     }
 
 pub least_same : (g : Digraph) (parts others : ℕ → List Bool) (n u : ℕ) (t : Costs) → ((m : ℕ) → m ≤ n → others m ≡ parts m) → AreLeastAlong g parts n u t → AreLeastAlong g others n u t
 least_same g parts others n u t same r = record {
   each = λ m le. subst (λ (P : List Bool). AreLeast g P t.limit u t.cap (labels_after m t)) (sym (same m le)) (r.each m le);
   latest = r.latest;
+  source = r.source;
+  led = λ m i le lt early. subst (λ (P : List Bool). IsLed g P t.limit u t.changes i) (sym (same m le)) (r.led m i le lt early);
 }
 
 pub least_still : (g : Digraph) (parts : ℕ → List Bool) (n last u : ℕ) (t : Costs) → n ≤ last → ((m : ℕ) → n ≤ m → m ≤ last → parts m ≡ parts n) → AreLeastAlong g parts n u t → AreLeastAlong g parts last u t
@@ -193,4 +258,6 @@ least_still g parts n last u t le still r = record {
     | inr here ↦ r.each m here
   ];
   latest = λ i d lt. (let s = r.latest i d lt in omega arith);
+  source = r.source;
+  led = λ m i low lt early. led_still g parts n m u t r (λ le. still m le low) i lt early;
 }

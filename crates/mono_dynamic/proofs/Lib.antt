@@ -5,7 +5,10 @@ pub mod Exact
 pub mod WalkBack
 pub mod Rows
 pub mod CostLists
+pub mod CostLinks
+pub mod CostWalks
 pub mod Tight
 pub mod LeastExact
 pub mod CostRows
 pub mod RowLists
+pub mod LeastRowLists

@@ -1,5 +1,5 @@
 -- Labels that are lowered along edges until each is tight.
-use Rattle.std.proofs.Common.{◌≡◌, ℕ, suc, ◌+◌, ◌-◌, ◌<◌, ◌≤◌, Bool, ◌&&◌, List, [], ◌∷◌, ◌++◌, length, set, refl, sym, ap, subst, ◌∙◌, inl, inr, arith}
+use Rattle.std.proofs.Common.{◌≡◌, ℕ, suc, sum, ◌+◌, ◌-◌, ◌<◌, ◌≤◌, Bool, ◌&&◌, List, [], ◌∷◌, ◌++◌, length, set, refl, sym, ap, subst, ◌∙◌, inl, inr, arith}
 use Rattle.std.specs.Prelude.{IsTrue, ◌==◌}
 use Rattle.std.specs.List.Sorted.{IsPermutation}
 use Rattle.std.proofs.lemmas.Bool.{cases_eq, or_cases, or_left, or_right, and_from, and_parts, eq-eqb, eqb-true}
@@ -14,7 +14,8 @@ use Rattle.mono_graph.specs.Walks.{is_walk, cost_of}
 use Rattle.mono_graph.proofs.Membership.{has_cons, at_places}
 use Rattle.mono_dynamic.specs.declared.change.Change.{Change}
 use Rattle.mono_dynamic.specs.declared.waiting.Waiting.{Waiting}
-use Rattle.mono_dynamic.specs.Costs.{Costs, label_of, cost_along, AreAttained, is_waiting, IsTight, AreTight, AreRelaxed}
+use Rattle.mono_dynamic.specs.Costs.{Costs, label_of, cost_along, AreAttained, is_waiting, IsTight, AreTight, AreRelaxed, IsLast, AreLed}
+use Rattle.mono_dynamic.proofs.CostWalks.{led_lowered}
 use Rattle.mono_dynamic.proofs.Exact.{walk_push}
 
 set_same : (labels : List ℕ) (v l : ℕ) → v < length labels → label_of (set labels v l) v ≡ l
@@ -100,32 +101,40 @@ relaxed_pass g P k ks t es ok = record {
   lower = λ v. omega arith;
   work = omega arith;
   attained = λ u a. a;
+  led = λ u none a. a;
   tight = λ a. tight_passed g P t.limit t.cap t.labels es k ks ok a;
 }
 
-pub relaxed_lower : (g : Digraph) (P : List Bool) (k l cost : ℕ) (ks : List ℕ) (x : Edge) (t new : Costs) (more : List Change) (es fs : List Waiting) (left : ℕ) → k < length g.edges → x ≡ edge_at g k → IsTrue (present P k)
-    → x.from < g.nodes → x.to < g.nodes → length t.labels ≡ g.nodes → cost ≡ cost_of t.limit x → l ≡ label_of t.labels x.from + cost → l < label_of t.labels x.to → label_of t.labels x.to ≤ t.cap
-    → new ≡ record t { labels = set t.labels x.to l; changes = more } → left ≡ new.cap - label_of new.labels x.to → IsPermutation (record { left = left; node = x.to } ∷ es) fs
+pub relaxed_lower : (g : Digraph) (P : List Bool) (k cost : ℕ) (ks : List ℕ) (x : Edge) (c : Change) (t new : Costs) (es fs : List Waiting) (left : ℕ) → k < length g.edges → x ≡ edge_at g k → IsTrue (present P k)
+    → x.from < g.nodes → x.to < g.nodes → length t.labels ≡ g.nodes → cost ≡ cost_of t.limit x → c.node ≡ x.to → c.place ≡ k → c.old ≡ label_of t.labels c.node → c.label ≡ label_of t.labels x.from + cost → c.label < label_of t.labels x.to → label_of t.labels x.to ≤ t.cap
+    → IsLast t.changes (length t.changes) x.from (label_of t.labels x.from) c.before → new ≡ record t { labels = set t.labels c.node c.label; changes = t.changes ++ c ∷ [] } → left ≡ new.cap - label_of new.labels x.to → IsPermutation (record { left = left; node = x.to } ∷ es) fs
     → AreRelaxed g P (k ∷ ks) ks t new es es fs
-relaxed_lower g P k l cost ks x t new more es fs left lt read here from to len costs is below most new-is left-is p =
+relaxed_lower g P k cost ks x c t new es fs left lt read here from to len costs node place old is below most last new-is left-is p =
     let room : x.to < length t.labels = omega arith in
     let fewer : length fs ≡ suc (length es) = length_permutation (record { left = left; node = x.to } ∷ es) fs p in
-    let full : l ≡ label_of t.labels x.from + cost_of t.limit x = omega arith in
-    subst (λ (r : Costs). (left ≡ r.cap - label_of r.labels x.to) → AreRelaxed g P (k ∷ ks) ks t r es es fs) (sym new-is)
-    (λ left-at. record {
+    let full : c.label ≡ label_of t.labels x.from + cost_of t.limit x = omega arith in
+    let after : Costs = record t { labels = set t.labels c.node c.label; changes = t.changes ++ c ∷ [] } in
+    let labels : set t.labels c.node c.label ≡ set t.labels x.to c.label = ap (λ (v : ℕ). set t.labels v c.label) node in
+    let left-at : left ≡ t.cap - label_of (set t.labels x.to c.label) x.to = subst (λ (r : Costs). left ≡ r.cap - label_of r.labels x.to) new-is left-is ∙ ap (λ (ls : List ℕ). t.cap - label_of ls x.to) labels in
+    subst (λ (r : Costs). AreRelaxed g P (k ∷ ks) ks t r es es fs) (sym new-is) (record {
       inside = λ h. All-permutation (λ (e : Waiting). e.node < g.nodes) (record { left = left; node = x.to } ∷ es) fs p (All-cons (λ (e : Waiting). e.node < g.nodes) (record { left = left; node = x.to }) es to h);
-      lower = λ v. set_lower t.labels x.to v l room below;
-      work = omega (arith, fewer, sum_by-set (λ (n : ℕ). n) t.labels x.to l 0 room, below);
-      attained = λ u a. subst (λ (y : Edge). (y.from < g.nodes) → (l ≡ label_of t.labels y.from + cost_of t.limit y) → (y.to < length t.labels) → (l < label_of t.labels y.to) → (label_of t.labels y.to ≤ t.cap) → AreAttained g P t.limit u t.cap (set t.labels y.to l)) (sym read)
-          (λ p1 p2 p3 p4 p5. attained_lowered g P t.limit u t.cap t.labels k l lt here p1 p2 p3 p4 p5 a) from full room below most;
-      tight = λ a. subst (λ (y : Edge). (l ≡ label_of t.labels y.from + cost_of t.limit y) → (y.to < length t.labels) → (l < label_of t.labels y.to) → IsPermutation (record { left = left; node = y.to } ∷ es) fs → (left ≡ t.cap - label_of (set t.labels y.to l) y.to) → AreTight g P t.limit t.cap (set t.labels y.to l) fs ks) (sym read)
-          (λ p2 p3 p4 p5 p6. tight_lowered g P t.limit t.cap t.labels es fs (record { left = left; node = (edge_at g k).to }) k l ks p2 p3 p4 p5 refl p6 a) full room below p left-at;
-    }) left-is
+      lower = λ v. subst (λ (ls : List ℕ). label_of ls v ≤ label_of t.labels v) (sym labels) (set_lower t.labels x.to v c.label room below);
+      work = subst (λ (ls : List ℕ). sum ls + length fs ≤ sum t.labels + length es) (sym labels) (omega (arith, fewer, sum_by-set (λ (n : ℕ). n) t.labels x.to c.label 0 room, below));
+      attained = λ u a. subst (λ (ls : List ℕ). AreAttained g P t.limit u t.cap ls) (sym labels)
+          (subst (λ (y : Edge). (y.from < g.nodes) → (c.label ≡ label_of t.labels y.from + cost_of t.limit y) → (y.to < length t.labels) → (c.label < label_of t.labels y.to) → (label_of t.labels y.to ≤ t.cap) → AreAttained g P t.limit u t.cap (set t.labels y.to c.label)) (sym read)
+          (λ p1 p2 p3 p4 p5. attained_lowered g P t.limit u t.cap t.labels k c.label lt here p1 p2 p3 p4 p5 a) from full room below most);
+      led = λ u none a.
+          subst (λ (y : Edge). (y.from < g.nodes) → (label_of t.labels y.from < t.cap) → IsLast t.changes (length t.changes) y.from (label_of t.labels y.from) c.before → (c.node ≡ y.to) → (c.label ≡ label_of t.labels y.from + cost_of t.limit y) → AreLed g P u after) (sym read)
+          (λ p1 p2 p3 p4 p5. led_lowered g P u k t c lt here p1 p2 p3 place p4 old p5 none a) from (omega arith) last node full;
+      tight = λ a. subst (λ (ls : List ℕ). AreTight g P t.limit t.cap ls fs ks) (sym labels)
+          (subst (λ (y : Edge). (c.label ≡ label_of t.labels y.from + cost_of t.limit y) → (y.to < length t.labels) → (c.label < label_of t.labels y.to) → IsPermutation (record { left = left; node = y.to } ∷ es) fs → (left ≡ t.cap - label_of (set t.labels y.to c.label) y.to) → AreTight g P t.limit t.cap (set t.labels y.to c.label) fs ks) (sym read)
+          (λ p2 p3 p4 p5 p6. tight_lowered g P t.limit t.cap t.labels es fs (record { left = left; node = (edge_at g k).to }) k c.label ks p2 p3 p4 p5 refl p6 a) full room below p left-at);
+    })
 
 -- ---- one list of edges after another
 
 pub relaxed_none : (g : Digraph) (P : List Bool) (ks : List ℕ) (t : Costs) (es : List Waiting) → AreRelaxed g P ks ks t t es es es
-relaxed_none g P ks t es = record { inside = λ h. h; lower = λ v. omega arith; work = omega arith; attained = λ u a. a; tight = λ a. a }
+relaxed_none g P ks t es = record { inside = λ h. h; lower = λ v. omega arith; work = omega arith; attained = λ u a. a; led = λ u none a. a; tight = λ a. a }
 
 pub relaxed_trans : (g : Digraph) (P : List Bool) (js ks ls : List ℕ) (a b c : Costs) (waited es fs hs : List Waiting) → b.limit ≡ a.limit → b.cap ≡ a.cap
     → AreRelaxed g P js ks a b waited es fs → AreRelaxed g P ks ls b c fs fs hs → AreRelaxed g P js ls a c waited es hs
@@ -135,6 +144,7 @@ relaxed_trans g P js ks ls a b c waited es fs hs limit cap x y = record {
   work = let p = x.work in let q = y.work in omega arith;
   attained = λ u h. subst (λ (l : Limit). AreAttained g P l u a.cap c.labels) limit (subst (λ (n : ℕ). AreAttained g P b.limit u n c.labels) cap
       (y.attained u (subst (λ (l : Limit). AreAttained g P l u b.cap b.labels) (sym limit) (subst (λ (n : ℕ). AreAttained g P a.limit u n b.labels) (sym cap) (x.attained u h)))));
+  led = λ u none h. y.led u (let p = x.lower u in omega arith) (x.led u none h);
   tight = λ h. subst (λ (l : Limit). AreTight g P l a.cap c.labels hs ls) limit (subst (λ (n : ℕ). AreTight g P b.limit n c.labels hs ls) cap
       (y.tight (subst (λ (l : Limit). AreTight g P l b.cap b.labels fs ks) (sym limit) (subst (λ (n : ℕ). AreTight g P a.limit n b.labels fs ks) (sym cap) (x.tight h)))));
 }
@@ -148,6 +158,7 @@ relaxed_stale g P t new e es same old = subst (λ (r : Costs). AreRelaxed g P []
   lower = λ v. omega arith;
   work = omega arith;
   attained = λ u a. a;
+  led = λ u none a. a;
   tight = λ a. record {
     each = λ k lt here. elim (a.each k lt here) [
       | inl done ↦ elim done [
@@ -170,6 +181,7 @@ relaxed_node g P t new e es fs ks are r = record {
   lower = r.lower;
   work = r.work;
   attained = r.attained;
+  led = r.led;
   tight = λ a. r.tight (record {
     each = λ k lt here. elim (a.each k lt here) [
       | inl done ↦ elim done [
@@ -207,6 +219,7 @@ relaxed_popped g P js a b c e waited es fs hs ls limit cap x p y =
       work = let q = x.work in let r = y.work in omega arith;
       attained = λ u h. subst (λ (l : Limit). AreAttained g P l u a.cap c.labels) limit (subst (λ (n : ℕ). AreAttained g P b.limit u n c.labels) cap
           (y.attained u (subst (λ (l : Limit). AreAttained g P l u b.cap b.labels) (sym limit) (subst (λ (n : ℕ). AreAttained g P a.limit u n b.labels) (sym cap) (x.attained u h)))));
+      led = λ u none h. y.led u (let q = x.lower u in omega arith) (x.led u none h);
       tight = λ h. subst (λ (l : Limit). AreTight g P l a.cap c.labels ls []) limit (subst (λ (n : ℕ). AreTight g P b.limit n c.labels ls []) cap
           (y.tight (tight_permuted g P b.limit b.cap b.labels fs (e ∷ hs) [] p (subst (λ (l : Limit). AreTight g P l b.cap b.labels fs []) (sym limit) (subst (λ (n : ℕ). AreTight g P a.limit n b.labels fs []) (sym cap) (x.tight h))))));
     }

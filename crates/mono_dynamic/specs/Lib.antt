@@ -3,3 +3,4 @@ pub mod Reached
 pub mod Worked
 pub mod Costs
 pub mod Rows
+pub mod LeastRows

@@ -23,5 +23,6 @@ last_first zero = neither
 last_first (suc zero) = last_alone
 last_first (suc (suc n)) = both
 
-abbrev pub change : ℕ → ℕ → ℕ → Change
-change v old stamp = record { node = v; old = old; stamp = stamp }
+-- a change by an edge that leaves the source
+abbrev pub change : ℕ → ℕ → ℕ → ℕ → ℕ → ℕ → Change
+change v k previous old l stamp = record { node = v; place = k; before = 0; previous = previous; old = old; label = l; stamp = stamp }

@@ -1,8 +1,10 @@
 //! Labels by node that are lowered, and raised again to what they were.
 
-ghost use Rattle.std.specs.Prelude.{◌≡◌, ◌+◌, ◌-◌, ◌<◌, ◌≤◌, ◌++◌, ◌∷◌, [], ℕ, All, IfOk, OnOk, OnErr, length, take, drop, replicate, slice_set, vec_len};
-ghost use Rattle.mono_graph.specs.Walks.{cost_of as cost_by};
-ghost use Rattle.mono_dynamic.specs.Costs.{label_of, unwound, made_by, made_after};
+ghost use Rattle.std.specs.Prelude.{◌≡◌, ◌+◌, ◌-◌, ◌<◌, ◌≤◌, ◌++◌, ◌∷◌, [], ℕ, Bool, List, All, IfOk, IsTrue, OnOk, OnErr, length, take, drop, replicate, slice_set, vec_len};
+ghost use Rattle.mono_graph.specs.Digraph.{Digraph};
+ghost use Rattle.mono_graph.specs.Walks.{cost_of as cost_by, is_walk};
+ghost use Rattle.mono_graph.specs.declared.limit.Limit.{Limit};
+ghost use Rattle.mono_dynamic.specs.Costs.{change_at, cost_along, label_by, label_of, labels_after, node_by, unwound, made_by, made_after, AreLeastAlong, AreLinked, IsGiven, IsLast, IsLed};
 
 use crate::change::Change;
 use mono_base::limits::{MAX_BOUND, MAX_WEIGHT};
@@ -16,7 +18,16 @@ pub struct CostTable {
     limit: Limit,
     cap: u64,
     labels: Vec<u64>,
+    /// By node: which change gave it its label, counted from 1.
+    latest: Vec<usize>,
     changes: Vec<Change>,
+}
+
+/// The label of a node after some steps, and which change gave it, counted from 1.
+#[derive(Clone, Copy)]
+struct Given {
+    label: u64,
+    last: usize,
 }
 
 impl Model for CostTable {
@@ -26,21 +37,46 @@ impl Model for CostTable {
 
     ghost view = { λ t. record { limit = t.limit; cap = t.cap; labels = t.labels.items; changes = t.changes.items } };
 
-    ghost invariant = { λ t. AreKept t.cap t.labels.items t.changes.items };
+    ghost invariant = { λ t. AreKept t.cap t.labels.items t.changes.items t.latest.items };
 }
 
 /// Takes back all but the first changes.
-fn unwind_to(labels: &mut Vec<u64>, changes: &mut Vec<Change>, count: usize)
+fn unwind_to(
+    labels: &mut Vec<u64>,
+    latest: &mut Vec<usize>,
+    changes: &mut Vec<Change>,
+    count: usize,
+)
     requires known { All (λ c. c.node < vec_len labels.old) changes.old.items }
     requires count { count ≤ vec_len changes.old }
+    requires linked { AreLinked labels.old.items changes.old.items latest.old.items }
     ensures labels { labels.new.items ≡ unwound labels.old.items (drop count changes.old.items) }
     ensures changes { changes.new.items ≡ take count changes.old.items }
+    ensures linked { AreLinked labels.new.items changes.new.items latest.new.items }
 {
     while changes.len() > count {
         let change = changes[changes.len() - 1];
         labels[change.node as usize] = change.old;
+        latest[change.node as usize] = change.previous;
         changes.truncate(changes.len() - 1);
     }
+}
+
+/// The walk that led to a change, by going back from change to change.
+fn walk_back(alloc: Global, changes: &[Change], last: usize) -> Result<Vec<u32>, AllocError>
+    requires before { (i : ℕ) → i < length changes.now → (change_at changes.now i).before ≤ i }
+    requires last { last ≤ length changes.now }
+    ensures { IfOk result (λ walk. (g : Digraph) (P : List Bool) (limit : Limit) (u : ℕ) → ((i : ℕ) → i < last → IsLed g P limit u changes.now i) → IsTrue (is_walk g P u (node_by u changes.now last) walk.items) × (cost_along limit g walk.items ≡ label_by changes.now last)) }
+{
+    let mut walk = Vec::new(alloc);
+    let mut at = last;
+    while at > 0 {
+        let change = changes[at - 1];
+        walk.push(change.place)?;
+        at = change.before;
+    }
+    walk.reverse();
+    Ok(walk)
 }
 
 impl CostTable {
@@ -58,10 +94,12 @@ impl CostTable {
     {
         let mut labels = vec![in alloc; cap; nodes as usize]?;
         labels[source as usize] = 0;
+        let latest = vec![in alloc; 0; nodes as usize]?;
         Ok(CostTable {
             limit,
             cap,
             labels,
+            latest,
             changes: Vec::new(alloc),
         })
     }
@@ -97,17 +135,28 @@ impl CostTable {
         }
     }
 
-    /// Lowers the label of a node in the step of this number.
-    pub fn lower(&mut self, node: u32, label: u64, stamp: u32) -> Result<(), AllocError>
-        requires node { node < length self.old.labels }
-        requires below { label < label_of self.old.labels node }
-        requires stamps { All (λ c. c.stamp ≤ stamp) self.old.changes }
-        ensures lowered { OnOk result (self.new ≡ record self.old { labels = slice_set self.old.labels node label; changes = self.old.changes ++ record { node = node; old = label_of self.old.labels node; stamp = stamp } ∷ [] }) }
+    /// Which change gave a node its label, counted from 1; 0 if none did.
+    pub fn last(&self, node: u32) -> usize
+        requires { node < length self.now.labels }
+        ensures { IsLast self.now.changes (length self.now.changes) node (label_of self.now.labels node) result }
+    {
+        self.latest[node as usize]
+    }
+
+    /// Lowers the label of a node.
+    pub fn lower(&mut self, change: Change) -> Result<(), AllocError>
+        requires node { change.node < length self.old.labels }
+        requires old { change.old ≡ label_of self.old.labels change.node }
+        requires below { change.label < change.old }
+        requires before { change.before ≤ length self.old.changes }
+        requires previous { IsLast self.old.changes (length self.old.changes) change.node change.old change.previous }
+        requires stamps { All (λ c. c.stamp ≤ change.stamp) self.old.changes }
+        ensures lowered { OnOk result (self.new ≡ record self.old { labels = slice_set self.old.labels change.node change.label; changes = self.old.changes ++ change ∷ [] }) }
         ensures unchanged { OnErr result (self.new ≡ self.old) }
     {
-        let old = self.labels[node as usize];
-        self.changes.push(Change { node, old, stamp })?;
-        self.labels[node as usize] = label;
+        self.changes.push(change)?;
+        self.labels[change.node as usize] = change.label;
+        self.latest[change.node as usize] = self.changes.len();
         Ok(())
     }
 
@@ -144,6 +193,40 @@ impl CostTable {
         requires { count ≤ length self.old.changes }
         ensures { self.new ≡ record self.old { labels = unwound self.old.labels (drop count self.old.changes); changes = take count self.old.changes } }
     {
-        unwind_to(&mut self.labels, &mut self.changes, count);
+        unwind_to(&mut self.labels, &mut self.latest, &mut self.changes, count);
+    }
+
+    /// What a node's label was after so many steps, by going back over its own changes.
+    fn given_after(&self, node: u32, kept: u32) -> Given
+        requires { node < length self.now.labels }
+        ensures { IsGiven self.now kept node result.label result.last }
+    {
+        let mut label = self.labels[node as usize];
+        let mut last = self.latest[node as usize];
+        while last > 0 && self.changes[last - 1].stamp > kept {
+            let change = self.changes[last - 1];
+            label = change.old;
+            last = change.previous;
+        }
+        Given { label, last }
+    }
+
+    /// The label of a node after so many steps. It costs the later changes of this node.
+    pub fn label_after(&self, node: u32, kept: u32) -> u64
+        requires { node < length self.now.labels }
+        ensures { result ≡ label_of (labels_after kept self.now) node }
+    {
+        self.given_after(node, kept).label
+    }
+
+    /// A walk that costs what the label of a node was after so many steps.
+    pub fn walk_to(&self, alloc: Global, node: u32, kept: u32) -> Result<Vec<u32>, AllocError>
+        requires node { node < length self.now.labels }
+        requires below { label_of (labels_after kept self.now) node < self.now.cap }
+        ensures { IfOk result (λ walk. (g : Digraph) (parts : ℕ → List Bool) (n u : ℕ) → kept ≤ n → AreLeastAlong g parts n u self.now → IsTrue (is_walk g (parts kept) u node walk.items) × (cost_along self.now.limit g walk.items ≡ label_of (labels_after kept self.now) node)) }
+    {
+        let given = self.given_after(node, kept);
+        let walk = walk_back(alloc, &self.changes, given.last)?;
+        Ok(walk)
     }
 }

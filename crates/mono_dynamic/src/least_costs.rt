@@ -2,12 +2,14 @@
 //!
 //! A label is the cost of the cheapest walk, or the cap. A new edge lowers the label of the node to which it leads, and
 //! from there Dijkstra's method goes on as far as labels fall. What each label was before is kept with the number of the
-//! step, so going back puts it there again, the last change first.
+//! step, so going back puts it there again, the last change first. Each change names its edge and the change that gave the
+//! start of the edge its label, so a walk that costs what the label says is read off by going back over them.
 
-ghost use Rattle.std.specs.Prelude.{◌≡◌, ◌+◌, ◌<◌, ◌≤◌, ◌∷◌, [], ℕ, Bool, List, All, IfOk, OnOk, OnErr, length, replicate, slice_set};
+ghost use Rattle.std.specs.Prelude.{◌≡◌, ◌+◌, ◌<◌, ◌≤◌, ◌∷◌, [], ℕ, Bool, List, All, IfOk, IsTrue, OnOk, OnErr, length, replicate, slice_set};
 ghost use Rattle.mono_graph.specs.Digraph.{Digraph, IsPartOf};
+ghost use Rattle.mono_graph.specs.Walks.{is_walk};
 ghost use Rattle.mono_dynamic.specs.Arrivals.{IsGrown, GrowsAfter};
-ghost use Rattle.mono_dynamic.specs.Costs.{label_of, labels_after, made_by, AreLeast, AreLeastAlong};
+ghost use Rattle.mono_dynamic.specs.Costs.{cost_along, label_of, labels_after, made_by, AreLeast, AreLeastAlong, IsLater};
 
 use crate::change::Change;
 use crate::cost_table::CostTable;
@@ -21,8 +23,8 @@ use std::marker::Model;
 
 /// The least costs of walks from one source, after each number of steps by which the part grew.
 ///
-/// Contracts see what walks cost, the cap, the labels by node, and the changes that led to them. `new` and `grow` take
-/// memory.
+/// Contracts see what walks cost, the cap, the labels by node, and the changes that led to them. `new`, `grow`
+/// and `walk_to` take memory.
 #[derive(Drop)]
 pub struct LeastCosts {
     table: CostTable,
@@ -68,6 +70,24 @@ impl LeastCosts {
         self.table.label(node)
     }
 
+    /// The label that a node had after so many steps. It costs the later changes of this node.
+    pub fn label_after(&self, node: u32, kept: u32) -> u64
+        requires { node < length self.now.labels }
+        ensures { result ≡ label_of (labels_after kept self.now) node }
+    {
+        self.table.label_after(node, kept)
+    }
+
+    /// A walk to a node that costs what its label was after so many steps, where that is below the cap. It is a walk in
+    /// the part as it was then.
+    pub fn walk_to(&self, alloc: Global, node: u32, kept: u32) -> Result<Vec<u32>, AllocError>
+        requires node { node < length self.now.labels }
+        requires below { label_of (labels_after kept self.now) node < self.now.cap }
+        ensures { IfOk result (λ walk. (g : Digraph) (parts : ℕ → List Bool) (n u : ℕ) → kept ≤ n → AreLeastAlong g parts n u self.now → IsTrue (is_walk g (parts kept) u node walk.items) × (cost_along self.now.limit g walk.items ≡ label_of (labels_after kept self.now) node)) }
+    {
+        self.table.walk_to(alloc, node, kept)
+    }
+
     /// The changes of labels, in order: what a step lowered stands at the end.
     pub fn changes(&self) -> &[Change]
         ensures changes { result.now ≡ self.now.changes }
@@ -91,9 +111,7 @@ impl LeastCosts {
         requires part { IsPartOf part.now graph.now }
         requires places { All (λ k. k < length graph.now.edges) places.now }
         requires stamps { All (λ c. c.stamp ≤ stamp) self.old.changes }
-        ensures limit { self.new.limit ≡ self.old.limit }
-        ensures cap { self.new.cap ≡ self.old.cap }
-        ensures len { length self.new.labels ≡ length self.old.labels }
+        ensures later { IsLater stamp self.old self.new }
         ensures unchanged { OnErr result (self.new ≡ self.old) }
         ensures stamps { All (λ c. c.stamp ≤ stamp) self.new.changes }
         ensures earlier { (m : ℕ) → m < stamp → labels_after m self.new ≡ labels_after m self.old }

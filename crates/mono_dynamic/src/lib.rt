@@ -6,10 +6,14 @@
 mod arrival;
 /// How labels were lowered.
 mod change;
+/// From where walks are measured, and how.
+mod cost_source;
 /// Labels by node.
 mod cost_table;
 /// What follows from the definitions alone.
 pub mod laws;
+/// What walks from each of several sources cost at least.
+mod least_by_source;
 /// What walks from one source cost at least.
 mod least_costs;
 /// Nodes that are reached from each of several sources.
@@ -26,6 +30,8 @@ pub mod worked;
 
 pub use arrival::Arrival;
 pub use change::Change;
+pub use cost_source::CostSource;
+pub use least_by_source::LeastBySource;
 pub use least_costs::LeastCosts;
 pub use reached_by_source::ReachedBySource;
 pub use reached_nodes::ReachedNodes;

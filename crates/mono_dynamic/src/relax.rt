@@ -5,6 +5,7 @@ ghost use Rattle.std.specs.BinaryHeap.{heap_items, heap_len};
 ghost use Rattle.mono_graph.specs.Digraph.{IsPartOf};
 ghost use Rattle.mono_dynamic.specs.Costs.{IsLater, AreRelaxed};
 
+use crate::change::Change;
 use crate::cost_table::CostTable;
 use crate::waiting::Waiting;
 use mono_graph::{Graph, Part};
@@ -33,10 +34,20 @@ fn relax(
     }
     let edge = graph.edge(place);
     let label = table.label(edge.from) + table.cost_of(edge);
-    if label >= table.label(edge.to) {
+    let old = table.label(edge.to);
+    if label >= old {
         return Ok(());
     }
-    table.lower(edge.to, label, stamp)?;
+    let change = Change {
+        node: edge.to,
+        place,
+        before: table.last(edge.from),
+        previous: table.last(edge.to),
+        old,
+        label,
+        stamp,
+    };
+    table.lower(change)?;
     queue.push(Waiting {
         left: table.left(edge.to),
         node: edge.to,

@@ -65,9 +65,10 @@ pub fn least_costs_over_parallel_edges()
 
 /// Where the dearer of two parallel edges comes first, the label falls twice, and going back raises it twice.
 pub fn least_costs_step_by_step()
-    ensures falls { AreLeastAlong (parallel 1 4) last_first 2 0 (record { limit = Limit.Weight (pos 9); cap = 10; labels = 0 ∷ 1 ∷ []; changes = change 1 10 1 ∷ change 1 4 2 ∷ [] }) }
-    ensures too_late { AreLeastAlong (parallel 1 4) last_first 2 0 (record { limit = Limit.Weight (pos 9); cap = 10; labels = 0 ∷ 1 ∷ []; changes = change 1 10 2 ∷ change 1 4 2 ∷ [] }) → ⊥ }
-    ensures after_none { labels_after 0 (record { limit = Limit.Weight (pos 9); cap = 10; labels = 0 ∷ 1 ∷ []; changes = change 1 10 1 ∷ change 1 4 2 ∷ [] }) ≡ 0 ∷ 10 ∷ [] }
-    ensures after_one { labels_after 1 (record { limit = Limit.Weight (pos 9); cap = 10; labels = 0 ∷ 1 ∷ []; changes = change 1 10 1 ∷ change 1 4 2 ∷ [] }) ≡ 0 ∷ 4 ∷ [] }
-    ensures after_both { labels_after 2 (record { limit = Limit.Weight (pos 9); cap = 10; labels = 0 ∷ 1 ∷ []; changes = change 1 10 1 ∷ change 1 4 2 ∷ [] }) ≡ 0 ∷ 1 ∷ [] }
+    ensures falls { AreLeastAlong (parallel 1 4) last_first 2 0 (record { limit = Limit.Weight (pos 9); cap = 10; labels = 0 ∷ 1 ∷ []; changes = change 1 1 0 10 4 1 ∷ change 1 0 1 4 1 2 ∷ [] }) }
+    ensures too_late { AreLeastAlong (parallel 1 4) last_first 2 0 (record { limit = Limit.Weight (pos 9); cap = 10; labels = 0 ∷ 1 ∷ []; changes = change 1 1 0 10 4 2 ∷ change 1 0 1 4 1 2 ∷ [] }) → ⊥ }
+    ensures by_another_edge { AreLeastAlong (parallel 1 4) last_first 2 0 (record { limit = Limit.Weight (pos 9); cap = 10; labels = 0 ∷ 1 ∷ []; changes = change 1 0 0 10 4 1 ∷ change 1 0 1 4 1 2 ∷ [] }) → ⊥ }
+    ensures after_none { labels_after 0 (record { limit = Limit.Weight (pos 9); cap = 10; labels = 0 ∷ 1 ∷ []; changes = change 1 1 0 10 4 1 ∷ change 1 0 1 4 1 2 ∷ [] }) ≡ 0 ∷ 10 ∷ [] }
+    ensures after_one { labels_after 1 (record { limit = Limit.Weight (pos 9); cap = 10; labels = 0 ∷ 1 ∷ []; changes = change 1 1 0 10 4 1 ∷ change 1 0 1 4 1 2 ∷ [] }) ≡ 0 ∷ 4 ∷ [] }
+    ensures after_both { labels_after 2 (record { limit = Limit.Weight (pos 9); cap = 10; labels = 0 ∷ 1 ∷ []; changes = change 1 1 0 10 4 1 ∷ change 1 0 1 4 1 2 ∷ [] }) ≡ 0 ∷ 1 ∷ [] }
 {}

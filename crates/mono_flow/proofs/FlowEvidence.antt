@@ -1,26 +1,22 @@
--- Flows and sets of nodes show whether a predicate on flows holds.
-use Rattle.std.proofs.Common.{◌≡◌, ℕ, zero, suc, ◌<◌, ◌≤◌, Bool, true, false, not, ◌&&◌, cond, List, [], ◌∷◌, map, length, eqb, ltb, leb, refl, sym, ap, subst, ◌∙◌, ◌⊎◌, inl, inr, arith, ℤ, pos, All, le-leb, lt-ltb}
-use Rattle.std.specs.Prelude.{IsTrue, filter, is_some, unwrap_or, int_le, int_lt}
+-- A flow shows that a predicate on flows holds.
+use Rattle.std.proofs.Common.{◌≡◌, ℕ, zero, suc, ◌<◌, ◌≤◌, Bool, true, false, not, ◌&&◌, cond, List, [], ◌∷◌, map, length, eqb, ltb, leb, refl, sym, ap, subst, ◌∙◌, ◌⊎◌, inl, inr, arith, ℤ, All, le-leb, lt-ltb}
+use Rattle.std.specs.Prelude.{IsTrue, filter, is_some, unwrap_or, int_le}
 use Rattle.std.specs.List.{list_all}
 use Rattle.std.proofs.lemmas.Bool.{and_parts, and_from, both_ways, not-true, false_from_ne_true, eqb-true, leb-true, ltb-true, eq-eqb}
 use Rattle.std.proofs.lemmas.Bool.Decides.{eqb_tells}
 use Rattle.std.proofs.lemmas.List.Elements.{All-tail}
 use Rattle.mono_base.specs.declared.limits.TheConstants.{MAX_WITNESS_VALUE}
 use Rattle.mono_graph.specs.declared.amount.Amount.{Amount}
-use Rattle.mono_graph.specs.Digraph.{Digraph, IsGraph, edge_at, place_of, present, present_by, leads_out, weight_of, has, is_distinct}
-use Rattle.mono_graph.specs.Flows.{amount_at, is_flow, is_flow_of, is_flow_cut, is_within, is_conserved, value_of}
+use Rattle.mono_graph.specs.Digraph.{Digraph, IsGraph, edge_at, place_of, present, has, is_distinct}
+use Rattle.mono_graph.specs.Flows.{amount_at, is_flow, is_flow_of, is_within, is_conserved, value_of}
 use Rattle.mono_graph.proofs.Membership.{has_here, has_there, has_cons}
-use Rattle.mono_graph.proofs.NodeLists.{filter_same}
 use Rattle.mono_graph.proofs.Places.{all_below, all_of}
 use Rattle.mono_problem.specs.declared.atom.Predicate.TheVariants as kind
-use Rattle.mono_steps.specs.declared.lemma.Witness.TheVariants as by
 use Rattle.mono_steps.specs.Witnesses.{placed_amounts, place_or_end}
 use Rattle.mono_theory.specs.Evidences.{only, IsEvidence}
-use Rattle.mono_theory.specs.Resting.{AreAlike, absent_out}
 use Rattle.mono_theory.proofs.EvidenceLaws.{in_only}
-use Rattle.mono_theory.proofs.RestingLaws.{leaving_are_absent, resting_evidence}
-use Rattle.mono_theory.proofs.WalkedLaws.{own_place, nodes-known, all_by}
-use Rattle.mono_flow.specs.Flowing.{numbered, carrying, flow_evidence, cut_evidence}
+use Rattle.mono_theory.proofs.WalkedLaws.{own_place, all_by}
+use Rattle.mono_flow.specs.Flowing.{numbered, carrying, flow_evidence}
 
 -- ---- edges by their numbers
 
@@ -160,21 +156,3 @@ flow_shows g P s t least amounts ok known small h =
           (lt, (present_within (amount_at amounts k) (edge_at g k).weight (present P k) (within_at g P (amount_at amounts) k a.within lt) (carries_amount amounts k a.distinct c)).0));
       passes = ap (is_flow_of g (only g (carrying amounts)) s t least) (placed-numbered g amounts ok known) ∙ own_flow g P s t least amounts h;
     }
-
--- what leaves a set is the same in two parts that agree on the edges that leave it
-same_leaving : (set : List ℕ) {g : Digraph} {P Q : List Bool} → AreAlike (leads_out set) g P Q → present_by (leads_out set) g P ≡ present_by (leads_out set) g Q
-same_leaving set {g = g} {P = P} {Q = Q} h =
-    filter_same (λ k. present P k && leads_out set (edge_at g k)) (λ k. present Q k && leads_out set (edge_at g k)) 0 (length g.edges) (λ k lo hi.
-    same_and (present P k) (present Q k) (leads_out set (edge_at g k)) (λ out. h.each k (omega (arith, hi)) out))
-  where
-    same_and : (p q o : Bool) → (IsTrue o → p ≡ q) → (p && o) ≡ (q && o)
-    same_and p q true e = ap (λ b. b && true) (e refl)
-    same_and true true false e = refl
-    same_and true false false e = refl
-    same_and false true false e = refl
-    same_and false false false e = refl
-
-pub cut_shows : (g : Digraph) (P : List Bool) (s t : ℕ) (least : ℤ) (set : List ℕ) → All (λ u. u < g.nodes) set → IsTrue (is_flow_cut g P s t least set) → IsEvidence g P (kind.Flow s t least) (cut_evidence g P set)
-cut_shows g P s t least set known h =
-    resting_evidence (leads_out set) g P (kind.Flow s t least) (by.FlowCut set) (absent_out g P set) refl (nodes-known g set known) refl
-    (λ Q same. ap (λ ks. has set s && not (has set t) && int_lt (pos (weight_of g ks)) least) (same_leaving set same)) (leaving_are_absent g P set) h

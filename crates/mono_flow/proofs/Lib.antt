@@ -1,1 +1,3 @@
 pub mod FlowEvidence
+pub mod Needed
+pub mod CutEvidence

@@ -1,7 +1,7 @@
 -- Predicates on flows, and flows and sets of nodes as evidence.
-use Rattle.std.specs.Prelude.{ℕ, Bool, true, false, nat_lt, List, map, filter}
+use Rattle.std.specs.Prelude.{◌≡◌, ℕ, ◌≤◌, Bool, true, false, not, IsTrue, nat_lt, List, map, filter}
 use Rattle.mono_graph.specs.declared.amount.Amount.{Amount}
-use Rattle.mono_graph.specs.Digraph.{Digraph, edge_at}
+use Rattle.mono_graph.specs.Digraph.{Digraph, edge_at, has, weight_of}
 use Rattle.mono_problem.specs.declared.atom.Predicate.{Predicate}
 use Rattle.mono_problem.specs.declared.atom.Predicate.TheVariants as kind
 use Rattle.mono_steps.specs.declared.lemma.Witness.TheVariants as by
@@ -24,6 +24,12 @@ carrying amounts = map (λ a. a.edge) (filter (λ a. nat_lt 0 a.amount) amounts)
 abbrev pub flow_evidence : Digraph → List Amount → Evidence
 flow_evidence g amounts = record { witness = by.Flow (numbered g amounts); edges = carrying amounts }
 
--- a set of nodes rests on the absent edges that leave it
-abbrev pub cut_evidence : Digraph → List Bool → List ℕ → Evidence
-cut_evidence g P s = record { witness = by.FlowCut s; edges = absent_out g P s }
+-- edges that have to stay absent: those of the absent edges that aren't named weigh at most this in sum
+pub record AreNeeded (g : Digraph) (spare : ℕ) (absent named : List ℕ) : Type 0 where
+  pub listed : (k : ℕ) → IsTrue (has named k) → IsTrue (has absent k)
+  pub others : weight_of g (filter (λ k. not (has named k)) absent) ≤ spare
+
+-- a set of nodes rests on the absent edges that leave it, but for some that weigh at most this in sum
+pub record IsCutEvidence (g : Digraph) (P : List Bool) (spare : ℕ) (set : List ℕ) (e : Evidence) : Type 0 where
+  pub witness : e.witness ≡ by.FlowCut set
+  pub edges : AreNeeded g spare (absent_out g P set) e.edges

@@ -1,16 +1,19 @@
 //! Predicates on flows: a flow shows that one holds, a set of nodes that it fails.
 //!
-//! Both come from one search. A flow rests on the edges that carry something. A set rests on the absent edges that leave
-//! it, since the present ones weigh too little.
+//! Both come from one search. A flow rests on the edges that carry something. A set rests on absent edges that leave it,
+//! since the present ones weigh too little. It needn't rest on those that could be present as well: as long as all others
+//! together weigh less than is asked for, they may come.
 
-ghost use Rattle.std.specs.Prelude.{◌≡◌, ◌<◌, All, IfOk, length};
+ghost use Rattle.std.specs.Prelude.{◌≡◌, ◌<◌, ◌+◌, All, IfOk, IsTrue, int_lt, length, pos};
+ghost use Rattle.mono_flows.specs.Answers.{HasValue, IsKnown, IsSmall, Passes};
 ghost use Rattle.mono_graph.specs.Digraph.{IsPartOf};
 ghost use Rattle.mono_problem.specs.WellFormed.{IsOver};
 ghost use Rattle.mono_theory.specs.Evidences.{IsEvidence};
-ghost use Rattle.mono_flow.specs.Flowing.{numbered as numbered_by, carrying as carrying_of, flow_evidence as flow_evidence_of, cut_evidence as cut_evidence_of};
+ghost use Rattle.mono_flow.specs.Flowing.{numbered as numbered_by, carrying as carrying_of, flow_evidence as flow_evidence_of, AreNeeded, IsCutEvidence};
 
+use crate::kept_flows::KeptFlows;
 use mono_base::Row;
-use mono_flows::{FlowFinder, FlowOrCut};
+use mono_flows::{FlowFinder, FlowOrCut, Found};
 use mono_graph::{Amount, Graph, Part};
 use mono_problem::Predicate;
 use mono_steps::Witness;
@@ -18,11 +21,12 @@ use mono_theory::{Evidence, GraphTheory, Kind, NodeMarks};
 use std::alloc::{AllocError, Global};
 use std::marker::Model;
 
-/// Predicates on flows, with room to search graphs with one number of nodes.
+/// Predicates on flows, with room to search graphs with one number of nodes, and flows with which searches begin.
 #[derive(Drop)]
 pub struct Flow {
     finder: FlowFinder,
     marks: NodeMarks,
+    kept: KeptFlows,
 }
 
 impl Model for Flow {
@@ -77,64 +81,136 @@ fn flow_evidence(alloc: Global, graph: &Graph, amounts: &[Amount]) -> Result<Evi
     })
 }
 
-/// The evidence that a set of nodes is. It rests on each absent edge that leaves it.
+/// Those of the edges that have to stay absent, where the others may weigh `spare` in sum.
+fn needed(alloc: Global, graph: &Graph, absent: &[u32], spare: u64) -> Result<Vec<u32>, AllocError>
+    requires { All (λ k. k < length graph.now.edges) absent.now }
+    ensures { IfOk result (λ named. AreNeeded graph.now spare absent.now named.items) }
+{
+    let mut left = spare;
+    let mut named = Vec::new(alloc);
+    for place in absent {
+        let edge = graph.edge(*place);
+        if edge.weight <= left {
+            left -= edge.weight;
+            continue;
+        }
+        named.push(*place)?;
+    }
+    Ok(named)
+}
+
+/// The evidence that a set of nodes is, where absent edges that weigh `spare` in sum may come. It rests on the other
+/// absent edges that leave it.
 fn cut_evidence(
     alloc: Global,
     marks: &mut NodeMarks,
     graph: &Graph,
     part: &Part,
     nodes: Vec<u32>,
+    spare: u64,
 ) -> Result<Evidence, AllocError>
     requires size { marks.old ≡ graph.now.nodes }
     requires part { IsPartOf part.now graph.now }
     requires nodes { All (λ u. u < graph.now.nodes) nodes.items }
     ensures size { marks.new ≡ marks.old }
-    ensures evidence { IfOk result (λ e. e ≡ cut_evidence_of graph.now part.now nodes.items) }
+    ensures evidence { IfOk result (IsCutEvidence graph.now part.now spare nodes.items) }
 {
-    let edges = marks.absent_leaving(alloc, graph, part, nodes.as_slice())?;
+    let absent = marks.absent_leaving(alloc, graph, part, nodes.as_slice())?;
+    let edges = needed(alloc, graph, absent.as_slice(), spare)?;
     Ok(Evidence {
         witness: Witness::FlowCut(Row::from_vec(nodes)),
         edges: Row::from_vec(edges),
     })
 }
 
-/// What shows that a flow of at least so much leads from the source to the sink, or that none does.
-fn show(
-    alloc: Global,
-    finder: &mut FlowFinder,
-    marks: &mut NodeMarks,
-    graph: &Graph,
-    part: &Part,
-    source: u32,
-    sink: u32,
-    least: i64,
-) -> Result<Evidence, AllocError>
-    requires size { finder.old ≡ graph.now.nodes }
-    requires marks { marks.old ≡ graph.now.nodes }
-    requires part { IsPartOf part.now graph.now }
-    requires over { IsOver graph.now (Predicate.Flow source sink least) }
-    ensures size { finder.new ≡ finder.old }
-    ensures marks { marks.new ≡ marks.old }
-    ensures evidence { IfOk result (IsEvidence graph.now part.now (Predicate.Flow source sink least)) }
+/// How much more than `weight` is still less than `least`.
+fn spare_of(least: i64, weight: u64) -> u64
+    requires { IsTrue (int_lt (pos weight) least) }
+    ensures { least ≡ pos (weight + result + 1) }
 {
-    let _ = graph.nodes();
-    match finder.find_flow(alloc, graph, part, source, sink, least)? {
-        FlowOrCut::Flow(amounts) => flow_evidence(alloc, graph, amounts.as_slice()),
-        FlowOrCut::Cut(nodes) => cut_evidence(alloc, marks, graph, part, nodes),
+    least as u64 - weight - 1
+}
+
+impl Flow {
+    /// A flow of at least so much, or a cut, found from the flow that is kept of these nodes. The flow that the search came
+    /// to is kept.
+    fn search(
+        &mut self,
+        alloc: Global,
+        graph: &Graph,
+        part: &Part,
+        source: u32,
+        sink: u32,
+        least: i64,
+    ) -> Result<Found, AllocError>
+        requires size { self.old ≡ graph.now.nodes }
+        requires part { IsPartOf part.now graph.now }
+        requires over { IsOver graph.now (Predicate.Flow source sink least) }
+        ensures size { self.new ≡ self.old }
+        ensures passes { IfOk result (λ found. Passes graph.now part.now source sink least found.answer) }
+        ensures known { IfOk result (λ found. IsKnown graph.now found.answer) }
+        ensures small { IfOk result (λ found. IsSmall found.answer) }
+        ensures value { IfOk result (λ found. HasValue graph.now part.now source found.value found.answer) }
+    {
+        let mut flow = self.kept.take(alloc, graph, part, source, sink);
+        let found = self
+            .finder
+            .find_flow_from(alloc, graph, part, source, sink, least, &mut flow)?;
+        let is_enough = matches!(found.answer, FlowOrCut::Flow(_));
+        self.kept.put(source, sink, is_enough, flow)?;
+        Ok(found)
+    }
+
+    /// What shows that a flow of at least so much leads from the source to the sink, or that none does.
+    fn show(
+        &mut self,
+        alloc: Global,
+        graph: &Graph,
+        part: &Part,
+        source: u32,
+        sink: u32,
+        least: i64,
+    ) -> Result<Evidence, AllocError>
+        requires size { self.old ≡ graph.now.nodes }
+        requires part { IsPartOf part.now graph.now }
+        requires over { IsOver graph.now (Predicate.Flow source sink least) }
+        ensures size { self.new ≡ self.old }
+        ensures evidence { IfOk result (IsEvidence graph.now part.now (Predicate.Flow source sink least)) }
+    {
+        let _ = graph.nodes();
+        let found = self.search(alloc, graph, part, source, sink, least)?;
+        let Found { answer, value } = found;
+        match answer {
+            FlowOrCut::Flow(amounts) => flow_evidence(alloc, graph, amounts.as_slice()),
+            FlowOrCut::Cut(nodes) => {
+                let spare = spare_of(least, value);
+                cut_evidence(alloc, &mut self.marks, graph, part, nodes, spare)
+            }
+        }
     }
 }
 
 impl Kind for Flow {
+    ghost use Rattle.std.specs.Prelude.{true};
     ghost use Rattle.mono_flow.specs.Flowing.{is_flow_predicate};
 
     ghost covers = { is_flow_predicate };
 
     ghost nodes = { λ f. f };
 
+    const IS_THOROUGH: bool = true;
+
+    ghost IS_THOROUGH = { true };
+
     fn with_nodes(alloc: Global, count: u32) -> Result<Self, AllocError> {
         let finder = FlowFinder::new(alloc, count)?;
         let marks = NodeMarks::new(alloc, count)?;
-        Ok(Flow { finder, marks })
+        let kept = KeptFlows::new(alloc);
+        Ok(Flow {
+            finder,
+            marks,
+            kept,
+        })
     }
 
     fn evidence(
@@ -149,16 +225,7 @@ impl Kind for Flow {
                 source,
                 sink,
                 least,
-            } => show(
-                alloc,
-                &mut self.finder,
-                &mut self.marks,
-                graph,
-                part,
-                source,
-                sink,
-                least,
-            ),
+            } => self.show(alloc, graph, part, source, sink, least),
             _ => unreachable!(),
         }
     }

@@ -3,5 +3,7 @@
 
 /// Predicates on flows.
 mod flow;
+/// Flows of earlier searches.
+mod kept_flows;
 
 pub use flow::{Flow, FlowTheory};

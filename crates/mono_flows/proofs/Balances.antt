@@ -52,15 +52,15 @@ listed_total end g u (a ∷ xs) known d =
     zero_flag true n e = e
     zero_flag false n e = refl
 
-out_is : (g : Digraph) (xs : List Amount) (u : ℕ) → All (λ a. a.edge < length g.edges) xs → IsTrue (is_distinct (edges_of xs)) → outflow g (amount_at xs) u ≡ listed_out g xs u
+pub out_is : (g : Digraph) (xs : List Amount) (u : ℕ) → All (λ a. a.edge < length g.edges) xs → IsTrue (is_distinct (edges_of xs)) → outflow g (amount_at xs) u ≡ listed_out g xs u
 out_is g xs u known d = total_is (amount_at xs) (λ k. (edge_at g k).from == u) (places g) ∙ listed_total (λ e. e.from) g u xs known d
 
-in_is : (g : Digraph) (xs : List Amount) (u : ℕ) → All (λ a. a.edge < length g.edges) xs → IsTrue (is_distinct (edges_of xs)) → inflow g (amount_at xs) u ≡ listed_in g xs u
+pub in_is : (g : Digraph) (xs : List Amount) (u : ℕ) → All (λ a. a.edge < length g.edges) xs → IsTrue (is_distinct (edges_of xs)) → inflow g (amount_at xs) u ≡ listed_in g xs u
 in_is g xs u known d = total_is (amount_at xs) (λ k. (edge_at g k).to == u) (places g) ∙ listed_total (λ e. e.to) g u xs known d
 
 -- ---- within
 
-carried_at : (g : Digraph) (P : List Bool) (xs : List Amount) → IsTrue (list_all (can_carry g P) xs) → (k : ℕ) → amount_at xs k ≤ capacity g P k
+pub carried_at : (g : Digraph) (P : List Bool) (xs : List Amount) → IsTrue (list_all (can_carry g P) xs) → (k : ℕ) → amount_at xs k ≤ capacity g P k
 carried_at g P [] h k = omega arith
 carried_at g P (a ∷ xs) h k =
     let parts = and_parts (can_carry g P a) (list_all (can_carry g P) xs) h in
@@ -119,7 +119,7 @@ unnamed g out into s t u xs w no-from no-to =
     or_right (u == s || u == t) (get_or into u 0 == get_or out u 0) (eq-eqb (get_or into u 0) (get_or out u 0)
     (w.entering u ∙ (not_ended (λ e. e.to) g xs u no-to ∙ sym (w.leaving u ∙ not_ended (λ e. e.from) g xs u no-from))))
 
-balanced_all : (g : Digraph) (out into : List ℕ) (s t : ℕ) (xs : List Amount) → Tallied g xs out into → IsTrue (list_all (has_balanced_ends g out into s t) xs) → (u : ℕ) → IsTrue (is_balanced_at out into s t u)
+pub balanced_all : (g : Digraph) (out into : List ℕ) (s t : ℕ) (xs : List Amount) → Tallied g xs out into → IsTrue (list_all (has_balanced_ends g out into s t) xs) → (u : ℕ) → IsTrue (is_balanced_at out into s t u)
 balanced_all g out into s t xs w h u =
     elim (cases_Bool (has (map (λ a. (edge_at g a.edge).from) xs) u)) [
       | inl there ↦ balanced_from g out into s t u xs h there

@@ -8,3 +8,4 @@ pub mod CutWeights
 pub mod LevelPaths
 pub mod Balances
 pub mod Decides
+pub mod KeptFlows

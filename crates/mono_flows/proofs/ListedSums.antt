@@ -25,7 +25,7 @@ ends_more f xs i a lt is =
     ∙ (map-append f (take i xs) (get_or xs i no_amount ∷ [])
     ∙ ap (λ (b : Amount). map f (take i xs) ++ f b ∷ []) (sym is))
 
-map_take : (f : Amount → ℕ) (xs : List Amount) (n : ℕ) → map f (take n xs) ≡ take n (map f xs)
+pub map_take : (f : Amount → ℕ) (xs : List Amount) (n : ℕ) → map f (take n xs) ≡ take n (map f xs)
 map_take f xs zero = refl
 map_take f [] (suc n) = refl
 map_take f (x ∷ xs) (suc n) = ap (λ (ks : List ℕ). f x ∷ ks) (map_take f xs n)

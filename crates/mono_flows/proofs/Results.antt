@@ -1,5 +1,5 @@
 -- A flow of the value that is sought passes, and so does the set of marked nodes where no more can be carried.
-use Rattle.std.proofs.Common.{◌≡◌, ℕ, zero, suc, ◌+◌, ◌<◌, ◌≤◌, Bool, true, false, not, ◌&&◌, ◌||◌, ◌==◌, cond, List, [], ◌∷◌, length, map, filter, replicate, refl, sym, ap, subst, ◌∙◌, inl, inr, arith, ℤ, pos, ◌-ℤ◌, int_lt, int_le}
+use Rattle.std.proofs.Common.{◌≡◌, ◌≢◌, ℕ, zero, suc, ◌+◌, ◌<◌, ◌≤◌, Bool, true, false, not, ◌&&◌, ◌||◌, ◌==◌, cond, List, [], ◌∷◌, length, map, filter, replicate, refl, sym, ap, subst, ◌∙◌, inl, inr, arith, ℤ, pos, ◌-ℤ◌, int_lt, int_le}
 use Rattle.std.specs.Prelude.{IsTrue, All, nat_lt, nat_le, if◌then◌else◌}
 use Rattle.std.specs.List.{range_with_len}
 use Rattle.std.proofs.lemmas.Bool.{and_from, and_parts, or_left, or_right, cases_eq, cases_lt, lt-ltb, le-leb, eq-eqb, ne_eqb, not-true, not_from_false, false_from_ne_true, both_ways}
@@ -11,7 +11,7 @@ use Rattle.mono_graph.specs.Digraph.{Digraph, present, present_by, places, edge_
 use Rattle.mono_graph.specs.Flows.{is_flow, is_within, is_conserved, inflow, outflow, value_of, is_flow_of, is_flow_cut, amount_at}
 use Rattle.mono_graph.proofs.Places.{all_of}
 use Rattle.mono_graph.proofs.Membership.{has_filter, filter_has, has_range, range_has}
-use Rattle.mono_graph.proofs.FlowLaws.{total_is}
+use Rattle.mono_graph.proofs.FlowLaws.{total_is, flow_value_bounded}
 use Rattle.mono_flows.proofs.OneEdge.{none, same_inflow, same_outflow, flow_value_reached}
 use Rattle.mono_graph.specs.declared.amount.Amount.{Amount}
 use Rattle.mono_flows.specs.Flowing.{IsFlowing}
@@ -38,6 +38,23 @@ nothing g P s t n =
       small = λ k. omega (arith, zero_at n k);
     }
 
+-- ---- a flow passes
+
+conserved_at : (s t u into out : ℕ) → ((u ≢ s) → (u ≢ t) → into ≡ out) → IsTrue (u == s || u == t || into == out)
+conserved_at s t u into out same = elim (cases_eq u s) [
+  | inl e ↦ or_left (u == s || u == t) (into == out) (or_left (u == s) (u == t) (eq-eqb u s e))
+  | inr not-s ↦ elim (cases_eq u t) [
+    | inl e ↦ or_left (u == s || u == t) (into == out) (or_right (u == s) (u == t) (eq-eqb u t e))
+    | inr not-t ↦ or_right (u == s || u == t) (into == out) (eq-eqb into out (same not-s not-t))
+  ]
+]
+
+flowing_passes : {g : Digraph} {P : List Bool} {s t : ℕ} {f : ℕ → ℕ} {value : ℕ} → IsFlowing g P s t f value → IsTrue (is_flow g P s t f)
+flowing_passes {g = g} {P = P} {s = s} {t = t} {f = f} flow =
+    and_from (is_within g P f) (is_conserved g s t f)
+    (all_of (λ k. nat_le (f k) (if present P k then (edge_at g k).weight else 0)) 0 (length g.edges) (λ k low high. le-leb (f k) (capacity g P k) (flow.within k (omega arith))))
+    (all_of (λ u. u == s || u == t || inflow g f u == outflow g f u) 0 g.nodes (λ u low high. conserved_at s t u (inflow g f u) (outflow g f u) (λ not-s not-t. flow.balanced u not-s not-t)))
+
 -- ---- the cut
 
 abbrev pub marked_nodes : List Bool → ℕ → List ℕ
@@ -52,9 +69,14 @@ has_marked marks n u h = (filter_has (is_marked marks) (range_with_len 0 n) u h)
 below_least : (w v n : ℕ) (least : ℤ) → least ≡ pos n → w ≤ v → v < n → IsTrue (int_lt (pos w) least)
 below_least w v n least e le lt = grind (arith, ints)
 
-pub blocked_cut : (g : Digraph) (P : List Bool) (s t : ℕ) (f : ℕ → ℕ) (value n : ℕ) (least : ℤ) (marks : List Bool) → HasEnds g → s < g.nodes → IsFlowing g P s t f value → least ≡ pos n → value < n
-    → IsBlocked g P f s t marks → IsTrue (is_flow_cut g P s t least (marked_nodes marks g.nodes))
-blocked_cut g P s t f value n least marks graph s-in flow least-is lt b =
+-- the edges that leave a set are full, so a flow's value is at least what they weigh
+record IsFilled (g : Digraph) (P : List Bool) (s t : ℕ) (f : ℕ → ℕ) (set : List ℕ) : Type 0 where
+  pub inside : IsTrue (has set s)
+  pub outside : has set t ≡ false
+  pub reached : inflow g f s + weight_of g (present_by (leads_out set) g P) ≤ outflow g f s
+
+blocked_filled : {g : Digraph} {P : List Bool} {s t : ℕ} {f : ℕ → ℕ} {value : ℕ} (marks : List Bool) → HasEnds g → s < g.nodes → IsFlowing g P s t f value → IsBlocked g P f s t marks → IsFilled g P s t f (marked_nodes marks g.nodes)
+blocked_filled {g = g} {P = P} {s = s} {t = t} {f = f} marks graph s-in flow b =
     let set : List ℕ = marked_nodes marks g.nodes in
     let inside : IsTrue (has set s) = marked_has marks g.nodes s s-in b.from in
     let outside : has set t ≡ false = false_from_ne_true (has set t) (λ h. both_ways (is_marked marks t) b.to (has_marked marks g.nodes t h)) in
@@ -77,11 +99,29 @@ blocked_cut g P s t f value n least marks graph s-in flow least-is lt b =
           let from-marked : IsTrue (is_marked marks (edge_at g k).from) = b.closed k true low more (has_marked marks g.nodes (edge_at g k).to parts.0) in
           absurd (both_ways (has set (edge_at g k).from) (not-true (has set (edge_at g k).from) parts.1) (marked_has marks g.nodes (edge_at g k).from (graph k _ low).0 from-marked))
     ] in
-    let reached = flow_value_reached g P s t f set graph s-in (λ u u-in not-s not-t. flow.balanced u not-s not-t) inside outside full empty in
+    record { inside = inside; outside = outside; reached = flow_value_reached g P s t f set graph s-in (λ u u-in not-s not-t. flow.balanced u not-s not-t) inside outside full empty }
+
+pub blocked_cut : (g : Digraph) (P : List Bool) (s t : ℕ) (f : ℕ → ℕ) (value n : ℕ) (least : ℤ) (marks : List Bool) → HasEnds g → s < g.nodes → IsFlowing g P s t f value → least ≡ pos n → value < n
+    → IsBlocked g P f s t marks → IsTrue (is_flow_cut g P s t least (marked_nodes marks g.nodes))
+blocked_cut g P s t f value n least marks graph s-in flow least-is lt b =
+    let set : List ℕ = marked_nodes marks g.nodes in
+    let filled : IsFilled g P s t f set = blocked_filled marks graph s-in flow b in
+    let reached = filled.reached in
     let source = flow.source in
     and_from (has set s && not (has set t)) (int_lt (pos (weight_of g (present_by (leads_out set) g P))) least)
-    (and_from (has set s) (not (has set t)) inside (not_from_false (has set t) outside))
+    (and_from (has set s) (not (has set t)) filled.inside (not_from_false (has set t) filled.outside))
     (below_least (weight_of g (present_by (leads_out set) g P)) value n least least-is (omega (arith, reached, source)) lt)
+
+-- it is exactly that
+pub blocked_weight : (g : Digraph) (P : List Bool) (s t : ℕ) (f : ℕ → ℕ) (value : ℕ) (marks : List Bool) → HasEnds g → s < g.nodes → IsFlowing g P s t f value → IsBlocked g P f s t marks
+    → value ≡ weight_of g (present_by (leads_out (marked_nodes marks g.nodes)) g P)
+blocked_weight g P s t f value marks graph s-in flow b =
+    let set : List ℕ = marked_nodes marks g.nodes in
+    let filled : IsFilled g P s t f set = blocked_filled marks graph s-in flow b in
+    let reached = filled.reached in
+    let source = flow.source in
+    let bounded = flow_value_bounded g P s t f set graph s-in (flowing_passes flow) filled.inside filled.outside in
+    omega (arith, reached, source, bounded)
 
 range_below : (a m : ℕ) → All (λ u. u < a + m) (range_with_len a m)
 range_below a zero = All-nil (λ u. u < a + 0)
@@ -107,7 +147,7 @@ firsts : (fs ks : List ℕ) → map (λ (a : Amount). a.edge) (listed fs ks) ≡
 firsts fs [] = refl
 firsts fs (k ∷ ks) = ap (λ (js : List ℕ). k ∷ js) (firsts fs ks)
 
-range_distinct : (p : ℕ → Bool) (a n : ℕ) → IsTrue (is_distinct (filter p (range_with_len a n)))
+pub range_distinct : (p : ℕ → Bool) (a n : ℕ) → IsTrue (is_distinct (filter p (range_with_len a n)))
 range_distinct p a zero = refl
 range_distinct p a (suc n) = by_test (p a) (range_distinct p (a + 1) n)
   where
@@ -165,18 +205,18 @@ flow_passes g P s t fs value n least flow least-is enough =
     (and_from (is_within g P f') (is_conserved g s t f')
     (all_of (λ k. nat_le (f' k) (if present P k then (edge_at g k).weight else 0)) 0 (length g.edges) (λ k low high.
     le-leb (f' k) (capacity g P k) (let w = flow.within k (omega arith) in omega (arith, w, same k (omega arith)))))
-    (all_of (λ u. u == s || u == t || inflow g f' u == outflow g f' u) 0 g.nodes (λ u low high. conserved u (into u) (out u)))))
+    (all_of (λ u. u == s || u == t || inflow g f' u == outflow g f' u) 0 g.nodes (λ u low high. conserved_at s t u (inflow g f' u) (outflow g f' u) (λ not-s not-t. into u ∙ (flow.balanced u not-s not-t ∙ sym (out u)))))))
     (at_least (inflow g f' s) (outflow g f' s) value n least least-is enough (let source = flow.source in omega (arith, source, into s, out s)))
-  where
-    conserved : (u : ℕ) → inflow g (amount_at (listed fs (carrying fs (length g.edges)))) u ≡ inflow g (amount_of fs) u → outflow g (amount_at (listed fs (carrying fs (length g.edges)))) u ≡ outflow g (amount_of fs) u
-        → IsTrue (u == s || u == t || inflow g (amount_at (listed fs (carrying fs (length g.edges)))) u == outflow g (amount_at (listed fs (carrying fs (length g.edges)))) u)
-    conserved u into out = elim (cases_eq u s) [
-      | inl e ↦ or_left (u == s || u == t) _ (or_left (u == s) (u == t) (eq-eqb u s e))
-      | inr not-s ↦ elim (cases_eq u t) [
-        | inl e ↦ or_left (u == s || u == t) _ (or_right (u == s) (u == t) (eq-eqb u t e))
-        | inr not-t ↦ or_right (u == s || u == t) _ (eq-eqb _ _ (into ∙ (flow.balanced u not-s not-t ∙ sym out)))
-      ]
-    ]
+
+value_exact : (i o v : ℕ) → o ≡ i + v → (pos o -ℤ pos i) ≡ pos v
+value_exact i o v sum = grind (arith, ints)
+
+pub flow_value : (g : Digraph) (P : List Bool) (s t : ℕ) (fs : List ℕ) (value : ℕ) → IsFlowing g P s t (amount_of fs) value → value_of g s (amount_at (listed fs (carrying fs (length g.edges)))) ≡ pos value
+flow_value g P s t fs value flow =
+    let f : ℕ → ℕ = amount_of fs in
+    let f' : ℕ → ℕ = amount_at (listed fs (carrying fs (length g.edges))) in
+    let same : (k : ℕ) → k < length g.edges → f' k ≡ f k = λ k lt. amount_is fs 0 (length g.edges) k (omega arith) (omega arith) in
+    value_exact (inflow g f' s) (outflow g f' s) value (let source = flow.source in omega (arith, source, same_inflow g f f' s same, same_outflow g f f' s same))
 
 pub carried_known : (fs : List ℕ) (n : ℕ) → All (λ (a : Amount). a.edge < n) (map (carried_by fs) (carrying fs n))
 carried_known fs n = All-map (λ (a : Amount). a.edge < n) (carried_by fs) (carrying fs n)

@@ -1,8 +1,8 @@
 -- What a search for a flow finds.
-use Rattle.std.specs.Prelude.{ℕ, ℤ, ◌<◌, ◌≤◌, Bool, true, false, List, All, IsTrue, length}
+use Rattle.std.specs.Prelude.{◌≡◌, ℕ, ℤ, pos, ◌<◌, ◌≤◌, Bool, true, false, List, All, IsTrue, length}
 use Rattle.mono_base.specs.declared.limits.TheConstants.{MAX_WITNESS_VALUE}
-use Rattle.mono_graph.specs.Digraph.{Digraph}
-use Rattle.mono_graph.specs.Flows.{is_flow_of, is_flow_cut}
+use Rattle.mono_graph.specs.Digraph.{Digraph, leads_out, present_by, weight_of}
+use Rattle.mono_graph.specs.Flows.{amount_at, is_flow_of, is_flow_cut, value_of}
 use Rattle.mono_flows.specs.declared.found.FlowOrCut.{FlowOrCut}
 use Rattle.mono_flows.specs.declared.found.FlowOrCut.TheVariants as found
 
@@ -25,3 +25,8 @@ IsKnown g (found.Cut set) = All (λ u. u < g.nodes) set.items
 abbrev pub IsSmall : FlowOrCut → Type 0
 IsSmall (found.Flow amounts) = All (λ a. a.amount ≤ MAX_WITNESS_VALUE) amounts.items
 IsSmall (found.Cut set) = Unit
+
+-- the flow has this value, or the present edges that leave the cut weigh it
+abbrev pub HasValue : Digraph → List Bool → ℕ → ℕ → FlowOrCut → Type 0
+HasValue g P s value (found.Flow amounts) = value_of g s (amount_at amounts.items) ≡ pos value
+HasValue g P s value (found.Cut set) = value ≡ weight_of g (present_by (leads_out set.items) g P)

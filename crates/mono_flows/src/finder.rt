@@ -3,26 +3,31 @@
 //! As long as less is carried than is asked for, a breadth-first search looks for an augmenting path. Where it finds
 //! one, more is carried along it and along all others that rise by one level at each step (Dinic, 1970). Where there is
 //! none, the visited nodes are a cut: each present edge that leaves them is full, and each edge that enters them
-//! carries nothing, so what leaves them weighs exactly as much as is carried (Ford and Fulkerson, 1956).
+//! carries nothing, so what leaves them weighs exactly as much as is carried (Ford and Fulkerson, 1956). A search may
+//! begin with what an earlier one found.
 
-ghost use Rattle.std.specs.Prelude.{◌≡◌, ◌≢◌, ◌<◌, ◌≤◌, ◌+◌, ◌^◌, ◌≤ℤ◌, pos, false, IfOk, IsTrue, length};
+ghost use Rattle.std.specs.Prelude.{◌≡◌, ◌≢◌, ◌<◌, ◌≤◌, ◌+◌, ◌^◌, ◌≤ℤ◌, pos, false, All, IfOk, IsTrue, length};
 ghost use Rattle.mono_graph.specs.Digraph.{IsPartOf};
 ghost use Rattle.mono_flows.specs.Residual.{amount_of};
 ghost use Rattle.mono_flows.specs.Visits.{IsSearch, IsBlocked};
 ghost use Rattle.mono_flows.specs.Flowing.{IsFlow};
 ghost use Rattle.mono_flows.specs.Levels.{AreLevels};
-ghost use Rattle.mono_flows.specs.Answers.{Passes, IsKnown, IsSmall};
+ghost use Rattle.mono_flows.specs.Sums.{AreSums, AreZero};
+ghost use Rattle.mono_flows.specs.Answers.{Passes, IsKnown, IsSmall, HasValue};
 
-use crate::FlowOrCut;
 use crate::blocking_flow::add_blocking_flow;
 use crate::flow::Flow;
+use crate::kept_flow::kept_flow;
 use crate::level_graph::LevelGraph;
-use crate::listing::{marked_nodes, positive_amounts};
+use crate::listing::marked_nodes;
+use crate::mend::mend;
 use crate::network::Network;
+use crate::node_sums::NodeSums;
 use crate::search::Search;
 use crate::visit::Visit;
+use crate::{FlowOrCut, Found};
 use mono_base::limits::MAX_BOUND;
-use mono_graph::{Graph, Part};
+use mono_graph::{Amount, Graph, Part};
 use std::alloc::{AllocError, Global};
 use std::marker::Model;
 
@@ -34,6 +39,7 @@ pub struct FlowFinder {
     search: Search,
     levels: LevelGraph,
     path: Vec<Visit>,
+    sums: NodeSums,
 }
 
 impl Model for FlowFinder {
@@ -56,6 +62,7 @@ impl FlowFinder {
             search: Search::new(alloc, nodes)?,
             levels: LevelGraph::new(alloc, nodes)?,
             path: Vec::new(alloc),
+            sums: NodeSums::new(alloc, nodes)?,
         })
     }
 
@@ -85,27 +92,96 @@ impl FlowFinder {
         ensures small { IfOk result IsSmall }
         ensures finder { self.new ≡ self.old }
     {
+        let mut kept = Vec::new(alloc);
+        let found = self.find_flow_from(alloc, graph, part, source, sink, least, &mut kept)?;
+        Ok(found.answer)
+    }
+
+    /// What `find_flow` answers, and the value that it came to.
+    ///
+    /// The search begins with the amounts `kept`, without what they carry through edges that aren't present, where that
+    /// is a flow with a value of at most `least`, else with nothing; and it leaves there the flow that it came to. So it
+    /// costs less where an earlier flow in much the same part is given.
+    pub fn find_flow_from(
+        &mut self,
+        alloc: Global,
+        graph: &Graph,
+        part: &Part,
+        source: u32,
+        sink: u32,
+        least: i64,
+        kept: &mut Vec<Amount>,
+    ) -> Result<Found, AllocError>
+        requires finder { self.old ≡ graph.now.nodes }
+        requires part { IsPartOf part.now graph.now }
+        requires source { source < graph.now.nodes }
+        requires sink { sink < graph.now.nodes }
+        requires apart { source ≢ sink }
+        requires low { pos 0 ≤ℤ least }
+        requires high { least ≤ℤ pos (MAX_BOUND + 1) }
+        requires kept { All (λ a. a.edge < length graph.now.edges) kept.old.items }
+        ensures passes { IfOk result (λ found. Passes graph.now part.now source sink least found.answer) }
+        ensures known { IfOk result (λ found. IsKnown graph.now found.answer) }
+        ensures small { IfOk result (λ found. IsSmall found.answer) }
+        ensures value { IfOk result (λ found. HasValue graph.now part.now source found.value found.answer) }
+        ensures kept { All (λ a. a.edge < length graph.now.edges) kept.new.items }
+        ensures finder { self.new ≡ self.old }
+    {
         let network = Network {
             graph,
             part,
             source,
             sink,
         };
-        let mut flow = Flow::none(alloc, &network)?;
+        let goal = unsigned(least);
+        let mut flow = begin(alloc, &network, &mut self.sums, kept.as_slice(), goal)?;
         let is_enough = grow(
             &network,
             &mut flow,
             &mut self.search,
             &mut self.levels,
             &mut self.path,
-            unsigned(least),
+            goal,
         )?;
+        *kept = flow.listed(alloc, &network)?;
         if is_enough {
-            let amounts = positive_amounts(alloc, &flow.amounts, graph.edge_count())?;
-            return Ok(FlowOrCut::Flow(amounts));
+            let amounts = Vec::from_slice(alloc, kept.as_slice())?;
+            return Ok(Found {
+                answer: FlowOrCut::Flow(amounts),
+                value: flow.value,
+            });
         }
         let nodes = marked_nodes(alloc, &self.search.marks, graph.nodes())?;
-        Ok(FlowOrCut::Cut(nodes))
+        Ok(Found {
+            answer: FlowOrCut::Cut(nodes),
+            value: flow.value,
+        })
+    }
+}
+
+/// The flow with which a search begins: what is left of the kept amounts, if it is a flow, or nothing.
+fn begin(
+    alloc: Global,
+    network: &Network,
+    sums: &mut NodeSums,
+    kept: &[Amount],
+    goal: u64,
+) -> Result<Flow, AllocError>
+    requires kept { All (λ a. a.edge < length network.now.graph.now.edges) kept.now }
+    requires sums { AreSums network.now.graph.now.nodes sums.old }
+    requires clear { AreZero sums.old }
+    ensures flow { IfOk result (IsFlow network.now) }
+    ensures most { IfOk result (λ flow. flow.value ≤ goal) }
+    ensures sums { AreSums network.now.graph.now.nodes sums.new }
+    ensures clear { AreZero sums.new }
+{
+    if kept.is_empty() {
+        return Flow::none(alloc, network);
+    }
+    let left = mend(alloc, network, kept)?;
+    match kept_flow(alloc, network, sums, left.as_slice(), goal)? {
+        Some(flow) => Ok(flow),
+        None => Flow::none(alloc, network),
     }
 }
 

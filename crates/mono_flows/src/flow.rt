@@ -4,14 +4,17 @@
 //! source and the sink are balanced. No amount exceeds the value, and no value exceeds what is asked for, which is at
 //! most 2^53 + 1, so no sum overflows.
 
-ghost use Rattle.std.specs.Prelude.{◌≡◌, ◌≢◌, ◌<◌, ◌≤◌, ◌+◌, ◌-◌, IfOk};
+ghost use Rattle.std.specs.Prelude.{◌≡◌, ◌≢◌, ◌<◌, ◌≤◌, ◌+◌, ◌-◌, All, IfOk, filter, length, map, nat_lt};
+ghost use Rattle.std.specs.List.{range_with_len};
 ghost use Rattle.mono_flows.specs.Flowing.{IsFlow};
 ghost use Rattle.mono_flows.specs.Visits.{IsAugmentingPath};
 ghost use Rattle.mono_flows.specs.Residual.{amount_of};
 
+use crate::listing::positive_amounts;
 use crate::network::Network;
 use crate::visit::Visit;
 use mono_base::limits::MAX_BOUND;
+use mono_graph::Amount;
 use std::alloc::{AllocError, Global};
 
 /// What each edge carries, by place, and how much that brings from the source to the sink.
@@ -32,6 +35,15 @@ impl Flow {
             amounts: vec![in alloc; 0; edges]?,
             value: 0,
         })
+    }
+
+    /// The edges that carry something, by rising place, and what they carry.
+    pub fn listed(&self, alloc: Global, network: &Network) -> Result<Vec<Amount>, AllocError>
+        requires { IsFlow network.now self.now }
+        ensures amounts { IfOk result (λ listed. listed.items ≡ map (λ k. record { edge = k; amount = amount_of self.now.amounts.items k }) (filter (λ k. nat_lt 0 (amount_of self.now.amounts.items k)) (range_with_len 0 (length network.now.graph.now.edges)))) }
+        ensures known { IfOk result (λ listed. All (λ a. a.edge < length network.now.graph.now.edges) listed.items) }
+    {
+        positive_amounts(alloc, &self.amounts, network.graph.edge_count())
     }
 
     /// Carries more along an augmenting path: as much as its last visit says.

@@ -10,3 +10,11 @@ pub enum FlowOrCut {
     /// Nodes with the source and without the sink, which present edges leave that weigh less in sum than is asked for.
     Cut(Vec<u32>),
 }
+
+/// What a search found, and the value of the flow that it came to: the flow's own, or else what the present edges that
+/// leave the cut weigh, since no flow carries more.
+#[derive(Drop)]
+pub struct Found {
+    pub answer: FlowOrCut,
+    pub value: u64,
+}

@@ -13,6 +13,8 @@ mod finder;
 mod flow;
 /// What a search finds.
 mod found;
+/// A flow that begins with given amounts.
+mod kept_flow;
 /// Levels of the nodes.
 mod level_graph;
 /// What follows from the definitions of flows for lists of amounts.
@@ -21,6 +23,8 @@ pub mod laws;
 mod listed_edges;
 /// Lists of marked nodes and of amounts.
 mod listing;
+/// A flow without the edges that are lost.
+mod mend;
 /// A part with a source and a sink.
 mod network;
 /// What leaves and enters each node.
@@ -36,5 +40,5 @@ pub mod worked;
 
 pub use checker::{FlowChecker, is_flow, is_flow_cut};
 pub use finder::{FlowFinder, find_flow};
-pub use found::FlowOrCut;
+pub use found::{FlowOrCut, Found};
 pub use mono_graph::Amount;

@@ -4,7 +4,7 @@
 //! it is balanced. Amounts are at most the weights of their edges, and there are at most as many as edges, so no sum
 //! exceeds 10^6 times 2^32, which 64 bits hold.
 
-ghost use Rattle.std.specs.Prelude.{◌≡◌, ◌<◌, ◌≤◌, ◌⊎◌, ◌-ℤ◌, ℕ, pos, All, IfOk, length, slice_index_or, int_le};
+ghost use Rattle.std.specs.Prelude.{◌≡◌, ◌<◌, ◌≤◌, ◌⊎◌, ◌+◌, ◌-ℤ◌, ℕ, pos, All, IfOk, IfSome, length, slice_index_or, int_le};
 ghost use Rattle.std.specs.List.{list_all};
 ghost use Rattle.mono_flows.specs.Listed.{listed_out, listed_in, has_balanced_ends, is_balanced_at as is_balanced_node};
 ghost use Rattle.mono_flows.specs.Sums.{AreSums, AreZero, AreSumsOf, MayBeSumsOf};
@@ -85,6 +85,20 @@ impl NodeSums {
         let leaving = i128::from(self.leaving[node as usize]);
         let entering = i128::from(self.entering[node as usize]);
         leaving - entering >= i128::from(least)
+    }
+
+    /// How much more leaves the node than enters it, if not less does.
+    pub fn surplus_at(&self, node: u32) -> Option<u64>
+        requires leaving { node < length self.now.leaving.items }
+        requires entering { node < length self.now.entering.items }
+        ensures { IfSome result (λ value. slice_index_or self.now.leaving.items node 0 ≡ slice_index_or self.now.entering.items node 0 + value) }
+    {
+        let leaving = self.leaving[node as usize];
+        let entering = self.entering[node as usize];
+        if leaving < entering {
+            return None;
+        }
+        Some(leaving - entering)
     }
 
     /// Sets the sums at the ends of the listed edges back to 0.

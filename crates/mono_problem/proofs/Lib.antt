@@ -11,3 +11,4 @@ pub mod Monotone
 pub mod QuietAtoms
 pub mod EdgeUses
 pub mod Homes
+mod WorkedLaws

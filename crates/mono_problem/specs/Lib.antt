@@ -7,3 +7,4 @@ pub mod Quiet
 pub mod Flat
 pub mod Read
 pub mod Kept
+pub mod Worked

@@ -14,6 +14,8 @@ mod problem;
 mod tests;
 mod totals;
 mod uses;
+/// Worked rows of the definitions.
+pub mod worked;
 
 pub use atom::{Atom, Predicate};
 pub use draft::Draft;

@@ -1,7 +1,15 @@
 //! Reachability as a theory (Bayless et al. 2015).
 #![tactic(auto)]
 
+/// What is known of a node.
+mod marks;
 /// Predicates of reachability.
 mod reach;
+/// What is reached along the surely present edges.
+mod reached_side;
+/// The first nodes of atoms.
+mod sources;
 
+pub use marks::{HasMarks, Marks};
 pub use reach::{Reach, ReachTheory};
+pub use reached_side::ReachedSide;

@@ -7,6 +7,7 @@ ghost use Rattle.std.specs.Prelude.{◌≡◌, ◌<◌, All, IfOk};
 ghost use Rattle.mono_graph.specs.Digraph.{IsPartOf};
 ghost use Rattle.mono_reach.specs.Reaches.{cut_evidence as cut_evidence_of};
 
+use crate::reached_side::ReachedSide;
 use mono_base::Row;
 use mono_graph::{Graph, Part};
 use mono_paths::{PathOrCut, WalkFinder};
@@ -56,11 +57,16 @@ fn cut_evidence(
 }
 
 impl Kind for Reach {
+    ghost use Rattle.std.specs.Prelude.{true};
     ghost use Rattle.mono_reach.specs.Reaches.{is_reach};
 
     ghost covers = { is_reach };
 
     ghost nodes = { λ r. r };
+
+    const IS_THOROUGH: bool = true;
+
+    ghost IS_THOROUGH = { true };
 
     fn with_nodes(alloc: Global, count: u32) -> Result<Self, AllocError> {
         let finder = WalkFinder::new(alloc, count)?;
@@ -87,4 +93,4 @@ impl Kind for Reach {
 }
 
 /// Predicates of reachability over one graph.
-pub type ReachTheory = GraphTheory<Reach>;
+pub type ReachTheory = GraphTheory<Reach, ReachedSide>;

@@ -1,6 +1,6 @@
 -- Decisions, the variables that wait for one, and the model once there is none left.
 use Rattle.std.proofs.Common.{zero, suc, ◌≡◌, ◌≢◌, ℕ, ◌+◌, ◌-◌, ◌<◌, ◌≤◌, Bool, true, false, not, List, [], ◌∷◌, ◌++◌, length, take, drop, set, arith, refl, sym, ◌∙◌, ap, get_or, subst, ◌⊎◌, inl, inr, ℤ, pos, negsuc, neg_ℤ, nat_abs, All, length-append, get_or-set_same, get_or-set_other, length-set}
-use Rattle.std.specs.Prelude.{IsTrue, ◌↔◌, Result, Ok, Err, IfOk}
+use Rattle.std.specs.Prelude.{IsTrue, ◌↔◌, Result, Ok, Err, IfOk, int_lt}
 use Rattle.mono_base.specs.declared.value.Value.{Value}
 use Rattle.mono_base.specs.declared.value.Value.TheVariants as value
 use Rattle.std.specs.List.{list_all}
@@ -22,10 +22,11 @@ use Rattle.mono_trail.specs.TrailView.{TrailView, IsSound}
 use Rattle.mono_trail.specs.Moves.{IsVar, joined}
 use Rattle.mono_clauses.specs.Store.{StoreView}
 use Rattle.mono_steps.specs.Journals.{known_clauses, chain_clauses}
+use Rattle.mono_steps.specs.Switching.{literal_of}
 use Rattle.mono_trail.specs.Order.{OrderView, AllOpenWait, Leaves, NoneOpen}
 use Rattle.mono_search.specs.Theories.{TheoriesView}
 use Rattle.mono_search.specs.State.{QuietAt}
-use Rattle.mono_search.specs.Runs.{IsQuietState, HasAdvanced, IsComplete, Releases}
+use Rattle.mono_search.specs.Runs.{IsQuietState, HasAdvanced, DecidesBySign, IsComplete, Releases, saved}
 use Rattle.mono_search.specs.Outcomes.{HasModel}
 use Rattle.mono_search.proofs.Lists.{has_there, has_left, found_at, open_parts, open_from, open-neg, open-neg_back, open-fewer}
 use Rattle.mono_base.proofs.Partials.{one_sign, true_from_yes, yes_from_true}
@@ -88,6 +89,15 @@ decided_moved b t u s steps o r l v q leaves var e sound = subst (λ (w : TrailV
       more = omega (arith, length-append t.lits (l ∷ []));
     }
 
+pub decided_by_sign : (b : TheoriesView) (t u : TrailView) (s : StoreView) (steps : List Step) (o r : OrderView) (l : ℤ) (v : ℕ) (sign : Bool) → Leaves o r t.lits v → sign ≡ value_in r.phases v → l ≡ literal_of sign v → u ≡ joined t l Decided
+    → DecidesBySign (state b t s steps o) (state b u s steps r)
+decided_by_sign b t u s steps o r l v sign leaves is lit e = record {
+  var = v;
+  is_open = leaves.is_open;
+  decided = e ∙ ap (λ (m : ℤ). joined t m Decided) (lit ∙ ap (λ (x : Bool). literal_of x v) (is ∙ ap (λ (ps : List Bool). value_in ps v) leaves.phases));
+  phases = leaves.phases;
+}
+
 -- ---- dropped literals
 
 value-set : (w : List Bool) (v u : ℕ) → 1 ≤ v → v ≤ length w → (u ≡ v) ⊎ IsTrue (value_in w u) → IsTrue (value_in (set w (v - 1) true) u)
@@ -104,10 +114,16 @@ value-set w (suc v) (suc u) one few c =
     by (inr n) (inr h) = get_or-set_other w v u true false n ∙ h
 
 pub none_released : (o : OrderView) (t : List ℤ) → Releases o o (take 0 t)
-none_released o t = record { as_many = refl; stay = λ v h. h; back = λ l h. absurd cc }
+none_released o t = record { as_many = refl; stay = λ v h. h; back = λ l h. absurd cc; phases = refl }
 
-pub released_more : (o r q : OrderView) (t : List ℤ) (i : ℕ) (l : ℤ) → Releases o r (take i t) → i < length t → l ≡ get_or t i l → 1 ≤ var_of l → var_of l ≤ length o.waits → q.waits ≡ set r.waits (var_of l - 1) true → Releases o q (take (i + 1) t)
-released_more o r q t i l h lt at low high e =
+-- one sign more is saved
+saved_more : (phases : List Bool) (t : List ℤ) (l : ℤ) → saved phases (t ++ l ∷ []) ≡ set (saved phases t) (var_of l - 1) (int_lt (pos 0) l)
+saved_more phases [] l = refl
+saved_more phases (x ∷ t) l = saved_more (set phases (var_of x - 1) (int_lt (pos 0) x)) t l
+
+pub released_more : (o r q : OrderView) (t : List ℤ) (i : ℕ) (l : ℤ) → Releases o r (take i t) → i < length t → l ≡ get_or t i l → 1 ≤ var_of l → var_of l ≤ length o.waits → q.waits ≡ set r.waits (var_of l - 1) true
+    → q.phases ≡ set r.phases (var_of l - 1) (int_lt (pos 0) l) → Releases o q (take (i + 1) t)
+released_more o r q t i l h lt at low high e signs =
     let few : var_of l ≤ length r.waits = omega (arith, high, h.as_many) in
     record {
       as_many = ap length e ∙ length-set r.waits (var_of l - 1) true ∙ h.as_many;
@@ -119,6 +135,9 @@ released_more o r q t i l h lt at low high e =
             | inl before ↦ subst (λ (w : List Bool). IsTrue (value_in w (var_of m))) (sym e) (value-set r.waits (var_of l) (var_of m) low few (inr (h.back m before)))
             | inr here ↦ subst (λ (w : List Bool). IsTrue (value_in w (var_of m))) (sym e) (value-set r.waits (var_of l) (var_of m) low few (inl (ap var_of (one_of here))))
           ];
+      phases =
+          let next : take (i + 1) t ≡ take i t ++ l ∷ [] = take_more t i l lt ∙ ap (λ (x : ℤ). take i t ++ x ∷ []) (sym at) in
+          signs ∙ ap (λ (ps : List Bool). set ps (var_of l - 1) (int_lt (pos 0) l)) h.phases ∙ sym (saved_more o.phases (take i t) l) ∙ sym (ap (saved o.phases) next);
     }
   where
     first : (k : ℕ) → k < length (l ∷ []) → lit_at (l ∷ []) k ≡ l

@@ -1,6 +1,6 @@
 -- Going back: after a restart, and after a clause was learned.
 use Rattle.std.proofs.Common.{zero, suc, ◌≡◌, ◌≢◌, ℕ, ◌+◌, ◌-◌, ◌<◌, ◌≤◌, true, not, List, [], ◌∷◌, ◌++◌, length, take, drop, min, map, arith, refl, sym, ◌∙◌, ap, get_or, subst, ◌⊎◌, inl, inr, ℤ, pos, negsuc, neg_ℤ, nat_abs, append_assoc, All, length-append, add-one}
-use Rattle.std.specs.Prelude.{IsTrue, Result, Ok, Err, OnOk, ◌&&◌, ◌==◌}
+use Rattle.std.specs.Prelude.{Bool, IsTrue, Result, Ok, Err, OnOk, ◌&&◌, ◌==◌, if◌then◌else◌}
 use Rattle.std.proofs.lemmas.List.{take-take, length-take, get_or-take}
 use Rattle.std.proofs.lemmas.List.Folds.{list_all-append, list_any_at}
 use Rattle.std.specs.Ordering.{int_eq}
@@ -32,7 +32,7 @@ use Rattle.mono_search.specs.Theories.{TheoriesView, HaveSeen, having_seen}
 use Rattle.mono_search.specs.declared.search.Outcome.TheVariants as outcome
 use Rattle.mono_steps.proofs.FewNew.{enough}
 use Rattle.mono_search.specs.State.{StateView, QuietBelow, KeepsReasons, IsJournal, IsOpenJournal, HoldsKnown, IsConsistent, IsReady, IsInConflict}
-use Rattle.mono_search.specs.Runs.{Releases, IsEnd}
+use Rattle.mono_search.specs.Runs.{Releases, GoesBack, IsEnd}
 use Rattle.mono_search.proofs.Lists.{has_before, open_before, open-neg_back, quiet_by_two, others_false_by, same_or_not}
 use Rattle.mono_search.proofs.Trails.{count-le, low_before, before_low, not_before, decision_rises}
 use Rattle.mono_steps.proofs.NewSteps.{fresh-lemmas, fresh-chain}
@@ -262,6 +262,18 @@ module _ (b : TheoriesView) (t u : TrailView) (s : StoreView) (steps new : List 
   added (Ok y) level q v z le ok e released held follows = learned_ready level q v z le ok e released held follows
   added (Err y) level q v z le ok e released held follows = held
 
+-- where the search is once the clause was learned
+pub went_back : (b d : TheoriesView) (t u v : TrailView) (s z : StoreView) (steps new : List Step) (o q : OrderView) (r : Learnt) (restarts : Bool) (level : ℕ) → Learns b.problem t steps new r → Settles (clauses_after b.problem new) t u
+    → level ≡ (if restarts then 0 else r.back_to) → v ≡ lowered level u → Releases o q (drop (count_to level u.marks) u.lits) → GoesBack (state b t s steps o) (state d v z new q) restarts
+went_back b d t u v s z steps new o q r restarts level learns settles is e released = record {
+  learnt = r;
+  learns = learns;
+  settled = u;
+  settles = settles;
+  trail = e ∙ ap (λ (n : ℕ). lowered n u) is;
+  order = subst (λ (n : ℕ). Releases o q (drop (count_to n u.marks) u.lits)) is released;
+}
+
 pub on_ok : {U E : Type 0} (x : Result U E) (P : Type 0) → P → OnOk x P
 on_ok (Ok y) P h = h
 on_ok (Err y) P h = tt
@@ -292,6 +304,6 @@ spent v w budget n conflict ready problem steps le =
     let new : AreNew w.theories.problem w.steps = record { chains = open_journal.journal.fresh; none_empty = open_journal.none_empty } in
     let same : chain_count w.steps ≡ chain_count v.steps = ap chain_count steps in
     record {
-      ends = record { chains = omega (arith, same, le); new = new; short_seen = enough w.theories.problem w.steps budget open_journal.journal.justified new (omega (arith, same, le)) };
+      ends = record { chains = omega (arith, same, le); new = new; few = enough w.theories.problem w.steps budget open_journal.journal.justified new (omega (arith, same, le)) };
       ready = λ u. ready;
     }

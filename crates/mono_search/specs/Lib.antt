@@ -6,3 +6,5 @@ pub mod State
 pub mod Outcomes
 pub mod Search
 pub mod Runs
+pub mod Restarts
+pub mod Worked

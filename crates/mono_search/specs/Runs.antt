@@ -1,15 +1,23 @@
 -- What the calls of a state answer, and leave.
-use Rattle.std.specs.Prelude.{◌≡◌, ℕ, ◌+◌, ◌<◌, ◌≤◌, false, max, ℤ, List, [], length, Option, Some, None, IsTrue}
+use Rattle.std.specs.Prelude.{◌≡◌, ℕ, ◌+◌, ◌-◌, ◌<◌, ◌≤◌, Bool, false, max, ℤ, pos, int_lt, if◌then◌else◌, List, [], ◌∷◌, length, drop, slice_set, Option, Some, None, IsTrue}
 use Rattle.mono_base.specs.Literal.{value_in, has_lit, var_of, IsLitWithin}
-use Rattle.mono_base.specs.Partial.{is_true_in, unit_quiet}
+use Rattle.mono_base.specs.Partial.{is_true_in, is_open_in, unit_quiet}
 use Rattle.mono_problem.specs.Instance.{Instance}
 use Rattle.mono_steps.specs.Journals.{known_clauses, chain_count}
-use Rattle.mono_trail.specs.TrailView.{TrailView, IsSound}
+use Rattle.mono_steps.specs.Steps.{clauses_after}
+use Rattle.mono_steps.specs.Switching.{literal_of}
+use Rattle.mono_trail.specs.declared.reason.Reason.TheVariants.{Decided}
+use Rattle.mono_trail.specs.TrailView.{TrailView, IsSound, count_to}
+use Rattle.mono_trail.specs.Moves.{joined, lowered}
 use Rattle.mono_trail.specs.Order.{OrderView, NoneOpen}
 use Rattle.mono_clauses.specs.Store.{StoreView, Follows}
 use Rattle.mono_clauses.specs.declared.found.Found.{Found}
 use Rattle.mono_clauses.specs.declared.found.Found.TheVariants as found
 use Rattle.mono_learn.specs.Explain.{AtomForces}
+use Rattle.mono_learn.specs.declared.learn.Learnt.{Learnt}
+use Rattle.mono_learn.specs.Learned.{Learns}
+use Rattle.mono_learn.specs.Settled.{Settles}
+use Rattle.mono_search.specs.Restarts.{Counted, Counts}
 use Rattle.mono_search.specs.Stored.{inputs_from}
 use Rattle.mono_search.specs.TheoryLists.{shown_of}
 use Rattle.mono_search.specs.declared.theories.Forced.{Forced}
@@ -92,6 +100,13 @@ PropagatedAs v w (propagated.Conflict n) = IsInConflictAfter v w n
 
 -- ---- a decision
 
+-- the literal of an open variable is decided, by the sign that was saved for the variable
+pub record DecidesBySign (v w : StateView) : Type 0 where
+  pub var : ℕ
+  pub is_open : IsTrue (is_open_in v.trail.lits (pos var))
+  pub decided : w.trail ≡ joined v.trail (literal_of (value_in v.order.phases var) var) Decided
+  pub phases : w.order.phases ≡ v.order.phases
+
 -- every variable has a value, and nothing is left to do
 pub record IsComplete (v : StateView) : Type 0 where
   pub journal : IsJournal v.theories.problem v.steps
@@ -102,11 +117,32 @@ pub record IsComplete (v : StateView) : Type 0 where
 
 -- ---- a conflict
 
--- the variables of the literals stand in the order, and so do those that did before
+-- the saved signs, once those of the literals are saved, one after the other
+abbrev pub saved : List Bool → List ℤ → List Bool
+saved phases [] = phases
+saved phases (l ∷ ls) = saved (slice_set phases (var_of l - 1) (int_lt (pos 0) l)) ls
+
+-- the variables of the literals stand in the order, and so do those that did before; the signs of the literals are saved
 pub record Releases (o r : OrderView) (lits : List ℤ) : Type 0 where
   pub as_many : length r.waits ≡ length o.waits
   pub stay : (v : ℕ) → IsTrue (value_in o.waits v) → IsTrue (value_in r.waits v)
   pub back : (l : ℤ) → IsTrue (has_lit lits l) → IsTrue (value_in r.waits (var_of l))
+  pub phases : r.phases ≡ saved o.phases lits
+
+-- a clause was learned, and the search went back: to the level at which the clause is unit, or to the beginning where it restarts. What was dropped from the trail stands in the order again
+pub record GoesBack (v w : StateView) (restarts : Bool) : Type 0 where
+  pub learnt : Learnt
+  pub learns : Learns v.theories.problem v.trail v.steps w.steps learnt
+  pub settled : TrailView
+  pub settles : Settles (clauses_after v.theories.problem w.steps) v.trail settled
+  pub trail : w.trail ≡ lowered (if restarts then 0 else learnt.back_to) settled
+  pub order : Releases v.order w.order (drop (count_to (if restarts then 0 else learnt.back_to) settled.marks) settled.lits)
+
+-- and that is counted: whether it restarts is as the counts say
+pub record CountsAndGoesBack (m n : Counted) (v w : StateView) : Type 0 where
+  pub restarts : Bool
+  pub counts : Counts m n restarts
+  pub back : GoesBack v w restarts
 
 -- one clause more was learned, within the budget
 pub record HasLearned (budget : ℕ) (v w : StateView) : Type 0 where

@@ -6,7 +6,8 @@ ghost use Rattle.mono_base.specs.Literal.{var_of, value_in};
 ghost use Rattle.mono_base.specs.Partial.{is_true_in};
 ghost use Rattle.mono_trail.specs.Moves.{IsVar};
 ghost use Rattle.mono_search.specs.Outcomes.{HasModel};
-ghost use Rattle.mono_search.specs.Runs.{IsQuietState, HasAdvanced, IsComplete};
+ghost use Rattle.mono_steps.specs.Switching.{literal_of};
+ghost use Rattle.mono_search.specs.Runs.{IsQuietState, HasAdvanced, DecidesBySign, IsComplete};
 
 use crate::state::State;
 use mono_base::{Lit, Row, Value};
@@ -21,6 +22,7 @@ impl<'p, T: Theory> State<'p, T> {
         ensures problem { self.new.theories.problem ≡ self.old.theories.problem }
         ensures steps { self.new.steps ≡ self.old.steps }
         ensures decided { IsTrue result → HasAdvanced self.old self.new }
+        ensures signed { IsTrue result → DecidesBySign self.old self.new }
         ensures complete { result ≡ false → IsComplete self.new }
     {
         let _ = self.trail.level();
@@ -60,7 +62,8 @@ fn positive(var: u32) -> Lit
 fn literal(var: u32, sign: bool) -> Lit
     requires low { 1 ≤ var }
     requires high { var ≤ MAX_VARS }
-    ensures { var_of result ≡ var }
+    ensures value { result ≡ literal_of sign var }
+    ensures var { var_of result ≡ var }
 {
     let lit = positive(var);
     if sign { lit } else { lit.negated() }

@@ -1,11 +1,11 @@
 //! What a conflict leads to: the end, or one clause more.
 
-ghost use Rattle.std.specs.Prelude.{◌≡◌, ◌≤◌, ◌+◌, length, All, IfOk, OnOk, IsTrue};
+ghost use Rattle.std.specs.Prelude.{◌≡◌, ◌≤◌, ◌+◌, length, All, IfOk, IfNone, OnOk, IsTrue, if◌then◌else◌};
 ghost use Rattle.mono_base.specs.Literal.{IsLitWithin};
 ghost use Rattle.mono_steps.specs.Steps.{are_justified, clauses_after, is_refutation};
 ghost use Rattle.mono_steps.specs.Journals.{chain_count};
 ghost use Rattle.mono_search.specs.State.{IsJournal, IsConsistent, IsReady, IsInConflict};
-ghost use Rattle.mono_search.specs.Runs.{ResolvedAs};
+ghost use Rattle.mono_search.specs.Runs.{ResolvedAs, GoesBack, CountsAndGoesBack};
 
 use crate::backjumping::backjump;
 use crate::restarts::Restarts;
@@ -32,6 +32,7 @@ impl<'p, T: Theory> State<'p, T> {
         ensures problem { self.new.theories.problem ≡ self.old.theories.problem }
         ensures journal { IsJournal self.new.theories.problem self.new.steps }
         ensures ends { IfOk result (ResolvedAs budget self.old self.new) }
+        ensures back { IfOk result (λ end. IfNone end (CountsAndGoesBack restarts.old restarts.new self.old self.new)) }
     {
         if self.trail.level() == 0 {
             self.refute(alloc, conflict)?;
@@ -62,6 +63,7 @@ impl<'p, T: Theory> State<'p, T> {
         ensures journal { IsJournal self.new.theories.problem self.new.steps }
         ensures ready { OnOk result (IsReady self.new) }
         ensures chains { OnOk result (chain_count self.new.steps ≡ chain_count self.old.steps + 1) }
+        ensures back { OnOk result (GoesBack self.old self.new restarts) }
     {
         let problem = self.theories.problem();
         let learnt = analyse(
@@ -138,7 +140,8 @@ fn bump(order: &mut Order, lits: &[Lit])
 
 /// The level to go back to: the lowest where a restart comes.
 fn level_after(restarts: bool, back_to: u32) -> u32
-    ensures { result ≤ back_to }
+    ensures level { result ≡ (if restarts then 0 else back_to) }
+    ensures within { result ≤ back_to }
 {
     if restarts { 0 } else { back_to }
 }

@@ -30,5 +30,7 @@ mod search;
 mod state;
 /// A problem and the theories that own its atoms.
 mod theories;
+/// Worked rows of the definitions.
+pub mod worked;
 
 pub use search::{Outcome, Search};

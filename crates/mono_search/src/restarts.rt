@@ -1,7 +1,11 @@
 //! When the search begins anew: restart r comes when 100 times the r-th term of Luby's sequence clauses were learned since
 //! the restart before (Luby, Sinclair and Zuckerman, 1993).
 
+ghost use Rattle.std.specs.Prelude.{◌≡◌};
+ghost use Rattle.mono_search.specs.Restarts.{Counts};
+
 use mono_trail::luby;
+use std::marker::Model;
 
 /// So many clauses are learned before the first restart.
 const UNIT: u64 = 100;
@@ -15,9 +19,19 @@ pub struct Restarts {
     count: u64,
 }
 
+impl Model for Restarts {
+    ghost use Rattle.mono_search.specs.Restarts.{Counted};
+
+    ghost Value = { Counted };
+
+    ghost view = { λ r. record { learned = r.learned; restarts = r.count } };
+}
+
 impl Restarts {
     /// No clause was learned.
-    pub fn new() -> Restarts {
+    pub fn new() -> Restarts
+        ensures { result ≡ record { learned = 0; restarts = 0 } }
+    {
         Restarts {
             learned: 0,
             count: 0,
@@ -25,7 +39,11 @@ impl Restarts {
     }
 
     /// One more clause is learned. The answer is whether a restart comes with it.
-    pub fn count_clause(&mut self) -> bool {
+    ///
+    /// The contract says so while both counts stay below 2^64 - 2: at the end of their range they stand still.
+    pub fn count_clause(&mut self) -> bool
+        ensures { Counts self.old self.new result }
+    {
         self.learned = self.learned.saturating_add(1);
         let next = self.count.saturating_add(1);
         if self.learned < luby(next).saturating_mul(UNIT) {

@@ -1,6 +1,6 @@
 -- Evidence decides its predicate, and the lemma that it makes is shown by the graph and the atom alone.
 use Rattle.std.proofs.Common.{◌≡◌, ℕ, zero, suc, ◌<◌, ◌≤◌, Bool, true, false, not, ◌&&◌, cond, List, [], ◌∷◌, length, map, get_or, eqb, eq-eqb, refl, sym, ap, subst, ◌∙◌, inl, inr, arith, ℤ, pos, neg_ℤ, nat_abs, int_lt, All}
-use Rattle.std.specs.Prelude.{IsTrue, Option, Some, MatchOption}
+use Rattle.std.specs.Prelude.{IsTrue, Option, Some, IfSome, MatchOption}
 use Rattle.std.specs.List.{list_any}
 use Rattle.std.specs.Ordering.{int_eq}
 use Rattle.std.proofs.lemmas.Int.{ints}
@@ -71,10 +71,10 @@ not_in_all_but g ks k lt h = at_place (λ j. not (has ks j)) g k lt ∙ ap not h
 pub in_all_but : (g : Digraph) (ks : List ℕ) (k : ℕ) → k < length g.edges → has ks k ≡ false → present (all_but g ks) k ≡ true
 in_all_but g ks k lt h = at_place (λ j. not (has ks j)) g k lt ∙ ap not h
 
-only-within : (g : Digraph) (ks : List ℕ) (P : List Bool) → ((k : ℕ) → IsTrue (has ks k) → IsTrue (present P k)) → IsSubpart (only g ks) P
+pub only-within : (g : Digraph) (ks : List ℕ) (P : List Bool) → ((k : ℕ) → IsTrue (has ks k) → IsTrue (present P k)) → IsSubpart (only g ks) P
 only-within g ks P h = record { keeps = λ k here. h k (sym (at_place (has ks) g k (below (has ks) g k here)) ∙ here) }
 
-within-all_but : (g : Digraph) (ks : List ℕ) (P : List Bool) → length P ≡ length g.edges → ((k : ℕ) → IsTrue (has ks k) → present P k ≡ false) → IsSubpart P (all_but g ks)
+pub within-all_but : (g : Digraph) (ks : List ℕ) (P : List Bool) → length P ≡ length g.edges → ((k : ℕ) → IsTrue (has ks k) → present P k ≡ false) → IsSubpart P (all_but g ks)
 within-all_but g ks P len h = record {
   keeps = λ k here.
       let lt = present_below P k here in
@@ -234,6 +234,10 @@ not_above (suc n) = refl
 
 above : (x : ℕ) → 1 ≤ x → int_lt (pos 0) (pos x) ≡ true
 above x h = grind (arith, ints)
+
+-- what is kept for the surely present edges, beside a positive literal
+pub kept_beside : (g : Digraph) (t : List ℤ) (q : Predicate) (l : ℤ) (o : Option Evidence) → int_lt (pos 0) l ≡ true → IfSome o (IsEvidence g (under g t) q) → IfSome o (IsEvidence g (side g t l) q)
+kept_beside g t q l o e h = subst (λ (P : List Bool). IfSome o (IsEvidence g P q)) (sym (ap (λ b. cond b (under g t) (over g t)) e)) h
 
 pub explains : (g : Digraph) (atoms : List Atom) (t : List ℤ) (n : ℕ) (x : Atom) (l : ℤ) (e : Evidence) → IsGraph g → IsVar x.var → IsOver g x.predicate
     → atom_of atoms n ≡ Some x → x.number ≡ n → IsTrue (list_any (λ (y : Atom). eqb y.var x.var) atoms)

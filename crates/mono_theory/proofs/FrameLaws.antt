@@ -1,5 +1,5 @@
 -- One more literal, and fewer.
-use Rattle.std.proofs.Common.{◌≡◌, ℕ, zero, suc, ◌+◌, ◌<◌, ◌≤◌, Bool, true, false, not, ◌||◌, cond, List, [], ◌∷◌, ◌++◌, map, length, take, get_or, eqb, eq-eqb, le-leb, refl, sym, ap, subst, ◌∙◌, inl, inr, arith, ℤ, pos, nat_abs, All, length-append}
+use Rattle.std.proofs.Common.{◌≡◌, ℕ, zero, suc, ◌+◌, ◌^◌, ◌<◌, ◌≤◌, Bool, true, false, not, ◌||◌, cond, List, [], ◌∷◌, ◌++◌, map, length, take, get_or, eqb, eq-eqb, le-leb, refl, sym, ap, subst, ◌∙◌, inl, inr, arith, ℤ, pos, nat_abs, All, length-append}
 use Rattle.std.specs.Prelude.{IsTrue, IsSome, Some}
 use Rattle.std.specs.List.{list_any}
 use Rattle.std.proofs.lemmas.Bool.{or_cases, or_left, or_right, and_from, both_ways, eqb-true}
@@ -91,6 +91,14 @@ concerned-push g atoms t l h c v m =
       | inl e ↦ h v e
       | inr e ↦ elim (or_cases (eqb (var_of l) v) false e) [ inl s ↦ subst (λ (w : ℕ). IsTrue (concerns_of g atoms w)) (eqb-true (var_of l) v s) c | inr f ↦ absurd cc ]
     ]
+
+pub seen_few : {g : Digraph} {atoms : List Atom} {t : List ℤ} {b o : Bound} {ns : List ℕ} {cells : ℕ} → IsFrame g atoms t b o ns cells → length t < 2 ^ 31
+seen_few {g = g} {atoms = atoms} {t = t} s =
+    let few : length t ≤ length (vars_of g atoms) = few_vars t (vars_of g atoms) s.partial
+    (λ v m. list_any-append (λ e. eqb e v) (edge_vars g) (atom_vars atoms) ∙ has-both g atoms v ∙ s.concerned v m) in
+    let edges = s.graph.few_edges in
+    let atoms_few = s.few in
+    omega (arith, few, length-append (edge_vars g) (atom_vars atoms), length-map g.edges (λ e. e.var), length-map atoms (λ x. x.var), edges, atoms_few)
 
 pub room_for_one : {g : Digraph} {atoms : List Atom} {t : List ℤ} {b o : Bound} {ns : List ℕ} {cells : ℕ} (l : ℤ) → IsFrame g atoms t b o ns cells → IsTrue (concerns_of g atoms (var_of l)) → IsTrue (is_open_in t l) → length t + 1 ≤ cells
 room_for_one {g = g} {atoms = atoms} {t = t} l s c f =

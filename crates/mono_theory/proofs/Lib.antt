@@ -10,7 +10,12 @@ pub mod NumberLaws
 pub mod WalkedLaws
 pub mod RestingLaws
 pub mod JustifiedLaws
-pub mod StandingLaws
+pub mod StageLaws
 pub mod WatchingLaws
+pub mod InvalidationLaws
+pub mod PartLaws
+pub mod SoundLaws
 pub mod SideLaws
+pub mod SeenLaws
+pub mod QuietLaws
 pub mod KeptLaws

@@ -1,11 +1,14 @@
 -- Switching all the places that the index lists for a key.
-use Rattle.std.proofs.Common.{◌≡◌, ◌≢◌, ℕ, zero, suc, ◌<◌, ◌≤◌, Bool, true, false, cond, List, [], ◌∷◌, length, get_or, eqb, ◌⊎◌, refl, sym, ap, ◌∙◌, inl, inr, arith}
+use Rattle.std.proofs.Common.{◌≡◌, ◌≢◌, ℕ, zero, suc, ◌+◌, ◌-◌, ◌<◌, ◌≤◌, Bool, true, false, cond, List, [], ◌∷◌, length, take, drop, get_or, eqb, ◌⊎◌, refl, sym, ap, subst, ◌∙◌, inl, inr, arith}
+use Rattle.std.specs.Prelude.{IsTrue}
 use Rattle.std.specs.List.{AllWithin}
 use Rattle.std.proofs.lemmas.Bool.{cases_lt}
-use Rattle.std.proofs.lemmas.List.{ext_get_or}
+use Rattle.std.proofs.lemmas.List.{ext_get_or, get_or-take, get_or-drop, get_or-map, length-take-le, length-drop, length-map}
+use Rattle.mono_graph.specs.Digraph.{has}
+use Rattle.mono_graph.proofs.Membership.{has_cons, has_get_or}
 use Rattle.std.proofs.lemmas.Bool.Decides.{eqb_tells}
 use Rattle.mono_theory.specs.declared.index.Entry.{Entry}
-use Rattle.mono_theory.specs.Index.{IsIndex, no_entry, entry_at, switched}
+use Rattle.mono_theory.specs.Index.{IsIndex, IsIndexed, IsPlaceOf, ArePlacesOf, no_entry, entry_at, switched}
 
 pub length-switched : (keys : List ℕ) (v : ℕ) (on : Bool) (P : List Bool) → length P ≡ length keys → length (switched keys v on P) ≡ length keys
 length-switched [] v on P e = refl
@@ -78,3 +81,52 @@ switched_by keys es v start end on P Q ix r lenP lenQ done others =
         ap (λ j. get_or Q j false) (sym p) ∙ done i w.0 w.1 ∙ sym (ap (λ b. cond b on (get_or P k false)) e.0)
     at k lt (inr ne) =
         others k (λ i lo hi p. ne.1 (sym (ap (λ j. get_or keys j 0) p) ∙ sym (var_of_entry i (within i hi)) ∙ between i lo hi)) ∙ sym (ap (λ b. cond b on (get_or P k false)) ne.0)
+
+-- ---- the places of a key
+
+pub index_of : (ks : List ℕ) (v : ℕ) → IsTrue (has ks v) → (i : ℕ) × (i < length ks) × (get_or ks i 0 ≡ v)
+index_of [] v h = absurd cc
+index_of (k ∷ ks) v h = elim (has_cons k v ks h) [
+  | inl e ↦ (0, omega arith, e)
+  | inr t ↦ let r = index_of ks v t in (suc r.0, omega (arith, r.1), r.2)
+]
+
+pub places_are : (keys : List ℕ) (es : List Entry) (ks : List ℕ) (v start end : ℕ) → IsIndexed keys es ks → IsRange es v start end → ArePlacesOf keys v (take (end - start) (drop start ks))
+places_are keys es ks v start end ix r = record {
+  held = λ i d lt. subst (λ (j : ℕ). j < length keys) (sym (at i d (inside i lt))) (is_place i (inside i lt)).held;
+  each = λ k h.
+      let w = index_of (take (end - start) (drop start ks)) k h in
+      subst (IsPlaceOf keys v) (sym (at w.0 0 (inside w.0 w.1)) ∙ w.2) (is_place w.0 (inside w.0 w.1));
+  all = λ k lt e.
+      let w = place_in_range keys es v start end k ix.index r lt e in
+      let low = w.low in
+      let high = w.high in
+      let i : ℕ = w.entry - start in
+      let few : i < end - start = omega (arith, low, high) in
+      let there : start + i ≡ w.entry = omega (arith, low) in
+      subst (λ (j : ℕ). IsTrue (has (take (end - start) (drop start ks)) j)) (at i 0 few ∙ ap (λ j. (entry_at es j).place) there ∙ w.is)
+      (has_get_or (take (end - start) (drop start ks)) i 0 (omega (arith, few, len)));
+}
+  where
+    as_many : length ks ≡ length es
+    as_many = ap length ix.places ∙ length-map es (λ (e : Entry). e.place)
+
+    len : length (take (end - start) (drop start ks)) ≡ end - start
+    len = let fits = r.end_fits in length-take-le (end - start) (drop start ks) (omega (arith, length-drop start ks, as_many, fits))
+
+    inside : (i : ℕ) → i < length (take (end - start) (drop start ks)) → i < end - start
+    inside i lt = omega (arith, lt, len)
+
+    fits : (i : ℕ) → i < end - start → start + i < length es
+    fits i lt = let f = r.end_fits in omega (arith, lt, f)
+
+    at : (i d : ℕ) → i < end - start → get_or (take (end - start) (drop start ks)) i d ≡ (entry_at es (start + i)).place
+    at i d lt = get_or-take (end - start) (drop start ks) i d lt ∙ get_or-drop start ks i d ∙ ap (λ xs. get_or xs (start + i) d) ix.places ∙ get_or-map (λ (e : Entry). e.place) es (start + i) no_entry d (fits i lt)
+
+    is_place : (i : ℕ) → i < end - start → IsPlaceOf keys v (entry_at es (start + i)).place
+    is_place i lt =
+        let known = ix.index.known (start + i) no_entry (fits i lt) in
+        let a = r.from (start + i) no_entry (omega arith) (fits i lt) in
+        let b = r.up_to (start + i) no_entry (omega arith) (omega (arith, lt)) in
+        let key : (entry_at es (start + i)).key ≡ v = omega (arith, a, b) in
+        record { held = known.0; is = sym known.1 ∙ key }

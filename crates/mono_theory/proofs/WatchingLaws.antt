@@ -1,12 +1,14 @@
 -- More atoms watch, edge after edge.
 use Rattle.std.proofs.Common.{◌≡◌, ℕ, ◌+◌, ◌<◌, List, [], ◌∷◌, ◌++◌, length, take, get_or, sym, subst, ◌∙◌, inl, inr, arith, All}
-use Rattle.std.specs.Prelude.{IsTrue, Option, Some, None, IfSome, slice_set}
+use Rattle.std.specs.Prelude.{IsTrue, Option, Some, None, slice_set}
 use Rattle.std.proofs.lemmas.Bool.{cases_eq, cases_lt}
 use Rattle.std.proofs.lemmas.List.{get_or-set_same, get_or-set_other, length-set, take_more}
 use Rattle.std.proofs.lemmas.List.Elements.{All-push}
+use Rattle.mono_theory.specs.declared.evidence.Evidence.{Evidence}
 use Rattle.mono_graph.specs.Digraph.{has}
 use Rattle.mono_graph.proofs.Membership.{has_append_left, has_append_right, has_append_cases, has_cons, has_here}
-use Rattle.mono_theory.specs.Watching.{watching, support_at, AreBelow, AreWatched, AllWatch, IsGrown}
+use Rattle.mono_theory.specs.Sound.{evidence_at}
+use Rattle.mono_theory.specs.Watching.{watching, AreBelow, AreWatched, AllWatch, IsGrown, WatchesIts}
 
 pub grown_more : {ws vs us : List (List ℕ)} → IsGrown ws vs → IsGrown vs us → IsGrown ws us
 grown_more h g = record { len = g.len ∙ h.len; each = λ k a t. g.each k a (h.each k a t) }
@@ -50,14 +52,17 @@ watched_more ws vs a ks i lt g this h =
       ];
     }
 
-pub all_watch_more : (ws vs : List (List ℕ)) (ss : List (Option (List ℕ))) (n : ℕ) → IsGrown ws vs → AllWatch ws ss n → IfSome (support_at ss n) (AreWatched vs n) → AllWatch vs ss (n + 1)
+pub watches_still : {ws vs : List (List ℕ)} (a : ℕ) (o : Option Evidence) → IsGrown ws vs → WatchesIts ws a o → WatchesIts vs a o
+watches_still a None g s = s
+watches_still a (Some e) g s = watched_still g s
+
+pub all_watch_still : {ws vs : List (List ℕ)} {ss : List (Option Evidence)} {n : ℕ} → IsGrown ws vs → AllWatch ws ss n → AllWatch vs ss n
+all_watch_still {ss = ss} g h = record { each = λ a lt. watches_still a (evidence_at ss a) g (h.each a lt) }
+
+pub all_watch_more : (ws vs : List (List ℕ)) (ss : List (Option Evidence)) (n : ℕ) → IsGrown ws vs → AllWatch ws ss n → WatchesIts vs n (evidence_at ss n) → AllWatch vs ss (n + 1)
 all_watch_more ws vs ss n g h this = record {
   each = λ a lt. elim (cases_lt a n) [
-    | inl early ↦ still a (support_at ss a) (h.each a early)
-    | inr ge ↦ (let same : n ≡ a = omega (arith, ge, lt) in subst (λ (j : ℕ). IfSome (support_at ss j) (AreWatched vs j)) same this)
+    | inl early ↦ watches_still a (evidence_at ss a) g (h.each a early)
+    | inr ge ↦ (let same : n ≡ a = omega (arith, ge, lt) in subst (λ (j : ℕ). WatchesIts vs j (evidence_at ss j)) same this)
   ];
 }
-  where
-    still : (a : ℕ) (o : Option (List ℕ)) → IfSome o (AreWatched ws a) → IfSome o (AreWatched vs a)
-    still a None s = s
-    still a (Some ks) s = watched_still g s

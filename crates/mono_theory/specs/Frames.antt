@@ -1,6 +1,6 @@
 -- A graph, atoms over it, and the literals that were seen.
-use Rattle.std.specs.Prelude.{◌≡◌, ℕ, ◌+◌, ◌<◌, ◌≤◌, ◌^◌, Bool, ℤ, List, map, Some, length, IsTrue, All}
-use Rattle.mono_base.specs.declared.limits.TheConstants.{MAX_VARS}
+use Rattle.std.specs.Prelude.{◌≡◌, ℕ, ◌+◌, ◌<◌, ◌≤◌, Bool, ℤ, List, map, Some, length, IsTrue, All}
+use Rattle.mono_base.specs.declared.limits.TheConstants.{MAX_VARS, MAX_ATOMS}
 use Rattle.mono_base.specs.Partial.{has_var, is_partial}
 use Rattle.mono_graph.specs.Digraph.{Digraph, IsGraph, is_distinct}
 use Rattle.mono_problem.specs.declared.atom.Atom.{Atom}
@@ -43,4 +43,4 @@ pub record IsFrame (g : Digraph) (atoms : List Atom) (t : List ℤ) (its_edges i
   pub own : IsBoundOf its_atoms (atom_vars atoms) t
   pub numbered : numbers ≡ atom_numbers atoms
   pub room : length g.edges + length atoms ≤ cells
-  pub few : length atoms < 2 ^ 32
+  pub few : length atoms ≤ MAX_ATOMS

@@ -1,6 +1,7 @@
 -- The places of each key, found by a binary search.
-use Rattle.std.specs.Prelude.{◌≡◌, ℕ, ◌<◌, ◌==◌, Bool, List, [], ◌∷◌, length, slice_index_or, slice_index, All, if◌then◌else◌}
+use Rattle.std.specs.Prelude.{◌≡◌, ℕ, ◌<◌, ◌==◌, Bool, List, [], ◌∷◌, length, map, slice_index_or, slice_index, All, IsTrue, if◌then◌else◌}
 use Rattle.std.specs.List.Sorted.{IsNonDecreasingBy}
+use Rattle.mono_graph.specs.Digraph.{has}
 use Rattle.mono_theory.specs.declared.index.Entry.{Entry}
 
 abbrev pub no_entry : Entry
@@ -15,10 +16,21 @@ pub record IsIndex (keys : List ℕ) (es : List Entry) : Type 0 where
   pub each : (k : ℕ) → k < length keys → (i : ℕ) × (i < length es) × ((entry_at es i).place ≡ k)
   pub sorted : IsNonDecreasingBy (λ e. e.key) es
 
+-- and beside them their places, in their order
+pub record IsIndexed (keys : List ℕ) (es : List Entry) (ks : List ℕ) : Type 0 where
+  pub index : IsIndex keys es
+  pub places : ks ≡ map (λ e. e.place) es
+
 -- the place has the key
 pub record IsPlaceOf (keys : List ℕ) (key place : ℕ) : Type 0 where
   pub held : place < length keys
   pub is : slice_index keys place ≡ key
+
+-- these are the places that have the key
+pub record ArePlacesOf (keys : List ℕ) (key : ℕ) (ks : List ℕ) : Type 0 where
+  pub held : All (λ k. k < length keys) ks
+  pub each : (k : ℕ) → IsTrue (has ks k) → IsPlaceOf keys key k
+  pub all : (k : ℕ) → k < length keys → slice_index keys k ≡ key → IsTrue (has ks k)
 
 -- the part with all places of the key in it, or none
 abbrev pub switched : List ℕ → ℕ → Bool → List Bool → List Bool

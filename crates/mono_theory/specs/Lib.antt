@@ -6,6 +6,7 @@ pub mod Frames
 pub mod Walked
 pub mod Resting
 pub mod Owners
-pub mod Standings
+pub mod Stages
+pub mod Sound
 pub mod Watching
 pub mod Supports

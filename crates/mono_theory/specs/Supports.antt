@@ -1,101 +1,142 @@
--- What is kept of the atoms on one side. On the side of the possibly present edges, the support of a predicate is a list of
--- edges by which it holds while all of them are present. On the side of the surely present ones it is a list of edges by which
--- the predicate fails while all of them are absent. So literals that change none of these edges leave the answer as it is.
-use Rattle.std.specs.Prelude.{◌≡◌, ℕ, ◌+◌, ◌<◌, ◌≤◌, ◌⊎◌, Bool, true, false, not, ℤ, List, Option, IfSome, MatchOption, take, length, slice_index_or, IsTrue, All, if◌then◌else◌}
+-- What is kept of the atoms on one side. On the side of the possibly present edges, the support of a predicate is evidence
+-- that it holds, and on the side of the surely present ones that it fails. While it is right, the atom owes nothing there.
+-- What is shown of an atom is evidence of the other sign: while that is right, the atom forces its literal.
+use Rattle.std.specs.Prelude.{◌≡◌, ℕ, ◌+◌, ◌<◌, ◌≤◌, ◌⊎◌, Bool, true, not, ℤ, pos, int_lt, List, Option, map, take, length, IsTrue, All, if◌then◌else◌}
+use Rattle.mono_base.specs.Literal.{var_of}
 use Rattle.mono_base.specs.Partial.{is_true_in}
-use Rattle.mono_graph.specs.Digraph.{Digraph, present}
+use Rattle.mono_graph.specs.Digraph.{Digraph, edge_at}
 use Rattle.mono_problem.specs.declared.atom.Atom.{Atom}
 use Rattle.mono_problem.specs.declared.atom.Predicate.{Predicate}
 use Rattle.mono_problem.specs.Quiet.{under, over}
-use Rattle.mono_problem.specs.Read.{no_atom}
 use Rattle.mono_steps.specs.Switching.{literal_of}
-use Rattle.mono_theory.specs.Evidences.{Decides}
-use Rattle.mono_theory.specs.Standings.{StandingView, stands_at, waiting_at}
+use Rattle.mono_theory.specs.declared.evidence.Evidence.{Evidence}
+use Rattle.mono_theory.specs.declared.stage.Stage.{Stage}
+use Rattle.mono_theory.specs.declared.stage.Stage.TheVariants as stage
 use Rattle.mono_theory.specs.declared.theory.Force.{Force}
 use Rattle.mono_theory.specs.declared.theory.Force.TheVariants as force
+use Rattle.mono_theory.specs.Evidences.{Decides}
+pub use Rattle.mono_theory.specs.Sound.{AllHave, atom_at}
+use Rattle.mono_theory.specs.Sound.{AreSound, IsRightIn, RestsOn, evidence_at}
+use Rattle.mono_theory.specs.Stages.{stage_at, undone, waiting_count}
 use Rattle.mono_theory.specs.Theories.{Facts, IsForced}
-use Rattle.mono_theory.specs.Watching.{support_at, AreBelow, AllWatch}
+use Rattle.mono_theory.specs.Watching.{AreBelow, AllWatch}
 
 -- the part of a side: the possibly present edges, or the surely present ones
 abbrev pub part_of : Digraph → List ℤ → Bool → List Bool
 part_of g t possible = if possible then over g t else under g t
 
--- the edges all have the value in the part
-abbrev pub AllHave : List Bool → Bool → List ℕ → Type 0
-AllHave P value ks = All (λ k. present P k ≡ value) ks
-
--- the predicate is decided, as the value says, in each part in which these edges all have it
-pub record IsSupport (g : Digraph) (q : Predicate) (value : Bool) (ks : List ℕ) : Type 0 where
-  pub held : All (λ k. k < length g.edges) ks
-  pub decides : (P : List Bool) → length P ≡ length g.edges → AllHave P value ks → Decides g P q value
-
 -- the atom's variable has the value that the side would force
 abbrev pub IsSettled : List ℤ → Bool → Atom → Type 0
 IsSettled t possible x = IsTrue (is_true_in t (literal_of (not possible) x.var))
 
-abbrev pub atom_at : List Atom → ℕ → Atom
-atom_at atoms a = slice_index_or atoms a no_atom
-
--- what is kept on a side: a support or nothing for each atom, the atoms that watch each edge, which atoms stand on their
--- support, how many first literals were looked at for that, and how many first atoms of those that wait are settled
+-- What is kept on a side, by atom: its support, what is shown of it, the atoms that watch each edge, the stages, and whether
+-- the predicates of settled atoms are decided too.
 pub record SideView : Type 0 where
-  pub supports : List (Option (List ℕ))
+  pub supports : List (Option Evidence)
+  pub shown : List (Option Evidence)
   pub watchers : List (List ℕ)
-  pub standing : StandingView
-  pub looked : ℕ
-  pub settled : ℕ
+  pub stages : List Stage
+  pub thorough : Bool
 
--- Each support is one, and its edges are watched. The supports of the atoms that stand are right under the literals looked at.
+-- the first m literals settle the atom, and what is shown of it is right by them, if predicates of settled atoms are decided
+pub record IsShown (f : Facts) (possible thorough : Bool) (shown : Option Evidence) (x : Atom) (m : ℕ) : Type 0 where
+  pub within : m ≤ length f.seen
+  pub settled : IsSettled (take m f.seen) possible x
+  pub right : thorough ≡ true → IsRightIn (part_of f.graph (take m f.seen) possible) (not possible) shown
+
+-- what the stage of an atom says
+abbrev pub StageIs : Facts → Bool → SideView → ℕ → Stage → Type 0
+StageIs f possible s a stage.Waits = Unit {0}
+StageIs f possible s a stage.Stands = IsRightIn (part_of f.graph f.seen possible) possible (evidence_at s.supports a)
+StageIs f possible s a (stage.Shows m) = IsShown f possible s.thorough (evidence_at s.shown a) (atom_at f.atoms a) m
+
+-- Supports and what is shown are sound evidence, the edges of supports are watched, and it is as the stages say.
 pub record IsSide (f : Facts) (possible : Bool) (s : SideView) : Type 0 where
-  pub supports_len : length s.supports ≡ length f.atoms
+  pub supports : AreSound f.graph f.atoms possible s.supports
+  pub shown : AreSound f.graph f.atoms (not possible) s.shown
   pub watchers_len : length s.watchers ≡ length f.graph.edges
-  pub standing_len : length s.standing.stands ≡ length f.atoms
-  pub looked_len : s.looked ≤ length f.seen
-  pub settled_len : s.settled ≤ length s.standing.waiting
+  pub stages_len : length s.stages ≡ length f.atoms
   pub known : AreBelow (length f.atoms) s.watchers
-  pub supported : (a : ℕ) → a < length f.atoms → IfSome (support_at s.supports a) (IsSupport f.graph (atom_at f.atoms a).predicate possible)
   pub watched : AllWatch s.watchers s.supports (length f.atoms)
-  pub right : (a : ℕ) → a < length f.atoms → stands_at s.standing.stands a ≡ true → MatchOption (support_at s.supports a) ⊥ (AllHave (part_of f.graph (take s.looked f.seen) possible) possible)
-  pub settled : (i : ℕ) → i < s.settled → IsSettled (take s.looked f.seen) possible (atom_at f.atoms (waiting_at s.standing.waiting i))
+  pub right : (a : ℕ) → a < length f.atoms → StageIs f possible s a (stage_at s.stages a)
 
--- the atom is the first that waits and isn't known to be settled
-pub record IsNext (f : Facts) (s : SideView) (a : ℕ) : Type 0 where
-  pub waits : s.settled < length s.standing.waiting
-  pub is : waiting_at s.standing.waiting s.settled ≡ a
-  pub known : a < length f.atoms
+-- there is evidence, and it rests on an edge of the variable
+pub record RestsOnVar (g : Digraph) (o : Option Evidence) (v : ℕ) : Type 0 where
+  pub edge : ℕ
+  pub held : edge < length g.edges
+  pub var : (edge_at g edge).var ≡ v
+  pub rests : RestsOn o edge
 
--- one atom fewer waits without being known to be settled
-pub record IsFewer (s r : SideView) : Type 0 where
-  pub left : length r.standing.waiting + s.settled + 1 ≡ length s.standing.waiting + r.settled
+-- the atom stood on an edge that the literal changes on this side, and waits now
+pub record HasLostSupport (g : Digraph) (possible : Bool) (l : ℤ) (s r : SideView) (a : ℕ) : Type 0 where
+  pub stood : stage_at s.stages a ≡ stage.Stands
+  pub waits : stage_at r.stages a ≡ stage.Waits
+  pub changes : int_lt (pos 0) l ≡ not possible
+  pub rests : RestsOnVar g (evidence_at s.supports a) (var_of l)
 
--- nothing else has changed
-pub record IsSameButWatchers (s r : SideView) : Type 0 where
-  pub supports : r.supports ≡ s.supports
-  pub standing : r.standing ≡ s.standing
-  pub looked : r.looked ≡ s.looked
-  pub settled : r.settled ≡ s.settled
+-- One more literal was seen. An atom waits where its support needed an edge that the literal changes. All else is kept.
+pub record IsKeptBy (g : Digraph) (possible : Bool) (l : ℤ) (s r : SideView) : Type 0 where
+  pub same : r ≡ record { supports = s.supports; shown = s.shown; watchers = s.watchers; stages = r.stages; thorough = s.thorough }
+  pub len : length r.stages ≡ length s.stages
+  pub each : (a : ℕ) → (stage_at r.stages a ≡ stage_at s.stages a) ⊎ HasLostSupport g possible l s r a
+
+-- The literals after the first `kept` went. An atom waits where it was shown by one of them. All else is kept.
+abbrev pub gone_back : ℕ → SideView → SideView
+gone_back kept s = record { supports = s.supports; shown = s.shown; watchers = s.watchers; stages = map (undone kept) s.stages; thorough = s.thorough }
 
 -- each atom is settled, or its predicate is decided as the side would have it: it owes nothing on this side
 pub record AllQuiet (f : Facts) (possible : Bool) : Type 0 where
   pub each : (a : ℕ) → a < length f.atoms → IsSettled f.seen possible (atom_at f.atoms a) ⊎ Decides f.graph (part_of f.graph f.seen possible) (atom_at f.atoms a).predicate possible
-
--- what looking at an atom answers: one fewer waits, or it forces a literal that isn't true
-abbrev pub ExamineIs : Facts → SideView → SideView → Force → Type 0
-ExamineIs f s r force.Quiet = IsFewer s r
-ExamineIs f s r (force.Literal n l) = IsForced f.graph f.atoms f.seen n l
 
 -- the answer of a side: no atom owes anything, or one forces a literal that isn't true
 abbrev pub SideIs : Facts → Bool → Force → Type 0
 SideIs f possible force.Quiet = AllQuiet f possible
 SideIs f possible (force.Literal n l) = IsForced f.graph f.atoms f.seen n l
 
+-- the atom waits
+pub record IsNext (f : Facts) (s : SideView) (a : ℕ) : Type 0 where
+  pub known : a < length f.atoms
+  pub waits : stage_at s.stages a ≡ stage.Waits
+
+-- one atom fewer waits
+pub record IsFewer (s r : SideView) : Type 0 where
+  pub count : waiting_count r.stages + 1 ≡ waiting_count s.stages
+  pub thorough : r.thorough ≡ s.thorough
+
+-- nothing has changed but what atoms watch
+abbrev pub with_watchers : SideView → List (List ℕ) → SideView
+with_watchers s watchers = record { supports = s.supports; shown = s.shown; watchers = watchers; stages = s.stages; thorough = s.thorough }
+
+-- what looking at an atom answers: one fewer waits, or it forces a literal that isn't true
+abbrev pub ExamineIs : Facts → SideView → SideView → Force → Type 0
+ExamineIs f s r force.Quiet = IsFewer s r
+ExamineIs f s r (force.Literal n l) = IsForced f.graph f.atoms f.seen n l × (r.thorough ≡ s.thorough)
+
 -- the atoms' predicates are of the kind
 pub record AreCovered (covers : Predicate → Bool) (atoms : List Atom) : Type 0 where
   pub each : All (λ x. IsTrue (covers x.predicate)) atoms
 
--- the atoms are of the kind, which serves graphs with so many nodes, and what is kept of them on the two sides is right
-pub record IsKept (covers : Predicate → Bool) (nodes : ℕ) (f : Facts) (s r : SideView) : Type 0 where
+-- what is kept on a side is right, and predicates of settled atoms are decided or not as the kind would have it
+pub record IsSideFor (f : Facts) (possible asked : Bool) (s : SideView) : Type 0 where
+  pub side : IsSide f possible s
+  pub thorough : s.thorough ≡ asked
+
+-- The atoms are of the kind, which serves graphs with so many nodes. What is kept of them with the surely present edges is
+-- right, and so is what is kept with the possibly present ones.
+pub record IsKept (covers : Predicate → Bool) (nodes : ℕ) (thorough : Bool) (f : Facts) (is_right : Facts → Type 0) (r : SideView) : Type 0 where
   pub covered : AreCovered covers f.atoms
   pub size : nodes ≡ f.graph.nodes
-  pub surely : IsSide f false s
-  pub possibly : IsSide f true r
+  pub surely : is_right f
+  pub possibly : IsSideFor f true thorough r
+
+-- what a theory is over, what it has seen, and what it keeps of its atoms with the surely present edges and with the possibly
+-- present ones
+pub record GraphTheoryView (S : Type 0) : Type 0 where
+  pub graph : Digraph
+  pub atoms : List Atom
+  pub seen : List ℤ
+  pub surely : S
+  pub possibly : SideView
+
+abbrev pub facts_in : {S : Type 0} → GraphTheoryView S → Facts
+facts_in s = record { graph = s.graph; atoms = s.atoms; seen = s.seen }

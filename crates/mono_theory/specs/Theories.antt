@@ -1,5 +1,5 @@
 -- Theories: a graph, atoms over it, and the literals seen (Bayless et al. 2015).
-use Rattle.std.specs.Prelude.{◌≡◌, ℕ, ◌==◌, Bool, false, ◌||◌, ℤ, List, find, Option, IsTrue, MatchOption, All}
+use Rattle.std.specs.Prelude.{◌≡◌, ℕ, ◌==◌, Bool, false, ◌||◌, ℤ, List, [], ◌∷◌, ◌++◌, take, find, Option, IsTrue, MatchOption, All}
 use Rattle.std.specs.List.{list_any}
 use Rattle.mono_base.specs.Literal.{var_of, has_lit}
 use Rattle.mono_base.specs.Partial.{is_true_in, is_open_in, others_false}
@@ -18,6 +18,13 @@ pub record Facts : Type 0 where
   pub graph : Digraph
   pub atoms : List Atom
   pub seen : List ℤ
+
+-- one more literal is seen, and the first n of them alone
+abbrev pub seeing : Facts → ℤ → Facts
+seeing f l = record { graph = f.graph; atoms = f.atoms; seen = f.seen ++ l ∷ [] }
+
+abbrev pub cut_to : ℕ → Facts → Facts
+cut_to n f = record { graph = f.graph; atoms = f.atoms; seen = take n f.seen }
 
 -- the variable is one of the graph's edges or of the atoms
 abbrev pub concerns_of : Digraph → List Atom → ℕ → Bool

@@ -5,6 +5,7 @@
 ghost use Rattle.std.specs.Prelude.{◌≡◌, ◌^◌, ◌<◌, [], length, IfOk};
 ghost use Rattle.mono_graph.specs.Digraph.{has};
 ghost use Rattle.mono_theory.specs.Bound.{assigned, unassigned, edge_vars, IsBoundOf};
+ghost use Rattle.mono_theory.specs.Index.{ArePlacesOf};
 
 use crate::index::Index;
 use mono_base::Lit;
@@ -82,6 +83,13 @@ impl Bounds {
         ensures { result.now ≡ self.now.vars }
     {
         &self.vars
+    }
+
+    /// The places of the edges of a variable.
+    pub fn places_of(&self, var: u32) -> &[u32]
+        ensures { ArePlacesOf self.now.vars var result.now }
+    {
+        self.vars.places_of(var)
     }
 
     /// The surely present edges.

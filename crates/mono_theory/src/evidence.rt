@@ -31,8 +31,22 @@ pub(crate) fn is_positive(witness: &Witness) -> bool
     )
 }
 
+impl Evidence {
+    /// Equal evidence.
+    pub(crate) fn copy(&self, alloc: Global) -> Result<Evidence, AllocError>
+        ensures { IfOk result (λ copy. copy ≡ self.now) }
+    {
+        let witness = self.witness.copy(alloc)?;
+        let edges = Vec::from_slice(alloc, self.edges.as_slice())?;
+        Ok(Evidence {
+            witness,
+            edges: Row::from_vec(edges),
+        })
+    }
+}
+
 /// The literal that says that the variable has the value.
-pub(crate) fn literal(var: u32, value: bool) -> Lit
+pub fn literal(var: u32, value: bool) -> Lit
     requires { IsVar var }
     ensures { result ≡ literal_of value var }
 {

@@ -3,7 +3,7 @@
 //! The literals are over different variables that concern the theory, the two bounds are theirs, of the edges and of the
 //! atoms' own variables, and the list has room for one literal of each variable. So a literal comes without memory.
 
-ghost use Rattle.std.specs.Prelude.{◌≡◌, ◌==◌, ◌<◌, ◌≤◌, ◌++◌, ◌∷◌, ◌^◌, [], ℕ, pos, map, not, false, take, length, find, All, Some, IfOk, IsSome, IsTrue, slice_index_or, vec_len, vec_capacity};
+ghost use Rattle.std.specs.Prelude.{◌≡◌, ◌==◌, ◌<◌, ◌≤◌, ◌++◌, ◌∷◌, ◌^◌, [], ℕ, pos, map, not, false, take, length, find, All, Some, IfOk, IfSome, IsSome, IsTrue, int_lt, slice_index_or, vec_len, vec_capacity};
 ghost use Rattle.mono_base.specs.Literal.{var_of};
 ghost use Rattle.mono_base.specs.Partial.{is_true_in, is_false_in, is_open_in, is_partial};
 ghost use Rattle.mono_graph.specs.Digraph.{IsGraph, has};
@@ -18,14 +18,17 @@ use crate::index::Index;
 use crate::past::evidence_by;
 use crate::{Bounds, Evidence, Kind};
 use mono_base::Lit;
+use mono_base::limits::MAX_ATOMS;
 use mono_graph::{Graph, Part};
 use mono_problem::{Atom, Predicate};
 use std::alloc::{AllocError, Global};
 use std::marker::Model;
 
 /// A graph, atoms over it, the literals that were seen, and the bounds that they leave.
+///
+/// Contracts see the graph, the atoms in their order and the literals in theirs. The literals are over different variables.
 #[derive(Drop)]
-pub(crate) struct Frame {
+pub struct Frame {
     graph: Graph,
     atoms: Vec<Atom>,
     numbers: Index,
@@ -95,13 +98,14 @@ fn push_within(lits: &mut Vec<Lit>, lit: Lit)
 impl Frame {
     ghost use Rattle.mono_problem.specs.WellFormed.{IsOver};
     ghost use Rattle.mono_theory.specs.Evidences.{IsEvidence, side};
+    ghost use Rattle.mono_theory.specs.Sound.{IsSound};
     ghost use Rattle.mono_theory.specs.Frames.{AreAtomsOf, IsVar};
     ghost use Rattle.mono_theory.specs.Theories.{concerns_of, owns_of, atom_of};
 
     /// Nothing was seen yet.
     pub(crate) fn new(alloc: Global, graph: Graph, atoms: Vec<Atom>) -> Result<Frame, AllocError>
         requires known { AreAtomsOf graph atoms.items }
-        requires few { length atoms.items < 2 ^ 32 }
+        requires few { length atoms.items ≤ MAX_ATOMS }
         ensures { IfOk result (λ s. s ≡ record { graph = graph; atoms = atoms.items; seen = [] }) }
     {
         let _ = graph.nodes();
@@ -129,15 +133,16 @@ impl Frame {
     }
 
     /// How many literals were seen.
-    pub(crate) fn seen(&self) -> usize
+    pub fn seen(&self) -> usize
         ensures count { result ≡ length self.now.seen }
         ensures partial { IsTrue (is_partial self.now.seen) }
+        ensures few { length self.now.seen < 2 ^ 31 }
     {
         self.lits.len()
     }
 
     /// The literal at a place of the list.
-    pub(crate) fn literal_at(&self, place: usize) -> Lit
+    pub fn literal_at(&self, place: usize) -> Lit
         requires { place < length self.now.seen }
         ensures { result ≡ slice_index_or self.now.seen place result }
     {
@@ -178,7 +183,7 @@ impl Frame {
     }
 
     /// How many atoms there are.
-    pub(crate) fn atom_count(&self) -> usize
+    pub fn atom_count(&self) -> usize
         ensures count { result ≡ length self.now.atoms }
         ensures few { length self.now.atoms < 2 ^ 32 }
     {
@@ -186,7 +191,7 @@ impl Frame {
     }
 
     /// The atom at a place.
-    pub(crate) fn atom_at(&self, place: usize) -> Atom
+    pub fn atom_at(&self, place: usize) -> Atom
         requires { place < length self.now.atoms }
         ensures atom { result ≡ slice_index_or self.now.atoms place no_atom }
         ensures var { IsVar result.var }
@@ -196,6 +201,18 @@ impl Frame {
         self.atoms[place]
     }
 
+    /// The place of the atom of the number.
+    pub fn place_of(&self, number: u32) -> u32
+        requires { IsSome (atom_of self.now.atoms number) }
+        ensures held { result < length self.now.atoms }
+        ensures is { atom_of self.now.atoms number ≡ Some (slice_index_or self.now.atoms result no_atom) }
+    {
+        let Some(place) = self.numbers.place(number) else {
+            unreachable!()
+        };
+        place
+    }
+
     /// The atom of the number.
     pub(crate) fn atom(&self, number: u32) -> Atom
         requires { IsSome (atom_of self.now.atoms number) }
@@ -203,14 +220,12 @@ impl Frame {
         ensures var { IsVar result.var }
         ensures over { IsOver self.now.graph result.predicate }
     {
-        let Some(place) = self.numbers.place(number) else {
-            unreachable!()
-        };
-        self.atoms[place as usize]
+        let place = self.place_of(number);
+        self.atom_at(place as usize)
     }
 
     /// The graph.
-    pub(crate) fn graph(&self) -> &Graph
+    pub fn graph(&self) -> &Graph
         ensures graph { result.now ≡ self.now.graph }
         ensures known { IsGraph self.now.graph }
         ensures atoms { AreAtomsOf self.now.graph self.now.atoms }
@@ -255,7 +270,7 @@ impl Frame {
     }
 
     /// Whether the variable of the atom at a place is true.
-    pub(crate) fn is_true(&self, place: usize) -> bool
+    pub fn is_true(&self, place: usize) -> bool
         requires { place < length self.now.atoms }
         ensures { result ≡ is_true_in self.now.seen (pos (slice_index_or self.now.atoms place no_atom).var) }
     {
@@ -270,11 +285,13 @@ impl Frame {
         !self.own.over().has(place as u32)
     }
 
-    /// What shows that the predicate holds or fails on the side of the literal, under the first literals.
+    /// What shows that the predicate holds or fails on the side of the literal, under the first literals: the evidence that is
+    /// known, where it is right there.
     pub(crate) fn evidence_at<K: Kind>(
         &mut self,
         alloc: Global,
         kind: &mut K,
+        known: Option<&Evidence>,
         predicate: Predicate,
         lit: Lit,
         kept: usize,
@@ -283,6 +300,7 @@ impl Frame {
         requires within { kept ≤ length self.old.seen }
         requires kind { IsTrue (K.covers predicate) }
         requires over { IsOver self.old.graph predicate }
+        requires known { IfSome known (λ e. IsSound self.old.graph predicate (int_lt (pos 0) lit) e.now) }
         ensures size { K.nodes kind.new ≡ K.nodes kind.old }
         ensures same { self.new ≡ self.old }
         ensures evidence { IfOk result (IsEvidence self.old.graph (side self.old.graph (take kept self.old.seen) lit) predicate) }
@@ -294,6 +312,7 @@ impl Frame {
             &self.graph,
             lits,
             &mut self.edges,
+            known,
             predicate,
             lit,
             kept,

@@ -1,11 +1,11 @@
 //! Places by key. The places stand in a list that is sorted by key, so those of one key are found by a binary search and
 //! stand side by side.
 
-ghost use Rattle.std.specs.Prelude.{◌≡◌, ◌≢◌, ◌<◌, ◌≤◌, ◌^◌, ℕ, length, All, IfOk, MatchOption, slice_index, false};
+ghost use Rattle.std.specs.Prelude.{◌≡◌, ◌≢◌, ◌<◌, ◌≤◌, ◌-◌, ◌^◌, ℕ, length, map, take, drop, All, IfOk, MatchOption, slice_index, false};
 ghost use Rattle.std.specs.List.{AllWithin};
 ghost use Rattle.std.specs.List.Sorted.{IsNonDecreasingBy};
 ghost use Rattle.mono_graph.specs.Digraph.{present, has};
-ghost use Rattle.mono_theory.specs.Index.{IsIndex, IsPlaceOf, entry_at, switched};
+ghost use Rattle.mono_theory.specs.Index.{IsIndex, IsIndexed, IsPlaceOf, ArePlacesOf, entry_at, switched};
 
 use mono_graph::Part;
 use std::alloc::{AllocError, Global};
@@ -23,17 +23,19 @@ pub(crate) struct Entry {
 pub(crate) struct Index {
     keys: Vec<u32>,
     entries: Vec<Entry>,
+    /// The places of the entries, in their order.
+    places: Vec<u32>,
 }
 
 impl Model for Index {
     ghost use Rattle.std.specs.Prelude.{List, ℕ};
-    ghost use Rattle.mono_theory.specs.Index.{IsIndex};
+    ghost use Rattle.mono_theory.specs.Index.{IsIndexed};
 
     ghost Value = { List ℕ };
 
     ghost view = { λ i. i.keys.items };
 
-    ghost invariant = { λ i. IsIndex i.keys.items i.entries.items };
+    ghost invariant = { λ i. IsIndexed i.keys.items i.entries.items i.places.items };
 }
 
 /// The first entry whose key isn't below.
@@ -141,6 +143,35 @@ fn sorted_entries(alloc: Global, keys: &[u32]) -> Result<Vec<Entry>, AllocError>
     Ok(entries)
 }
 
+/// The places of the entries.
+fn places_in_order(alloc: Global, entries: &[Entry]) -> Result<Vec<u32>, AllocError>
+    ensures { IfOk result (λ places. places.items ≡ map (λ e. e.place) entries.now) }
+{
+    entries.iter().map(|e| e.place).collect(alloc)
+}
+
+/// The items from one place to another.
+fn items_between(items: &[u32], start: usize, end: usize) -> &[u32]
+    requires { end ≤ length items.now }
+    ensures { result.now ≡ take (end - start) (drop start items.now) }
+{
+    if end <= start {
+        return &items[..0];
+    }
+    &items[start..end]
+}
+
+/// The places of a key.
+fn places_between<'a>(keys: &[u32], entries: &[Entry], places: &'a [u32], key: u32) -> &'a [u32]
+    requires { IsIndexed keys.now entries.now places.now }
+    ensures { ArePlacesOf keys.now key result.now }
+{
+    let _ = keys;
+    let start = first_from(entries, key);
+    let end = first_above(entries, key);
+    items_between(places, start, end)
+}
+
 impl Index {
     /// The index of a list of keys.
     pub(crate) fn new(alloc: Global, keys: Vec<u32>) -> Result<Index, AllocError>
@@ -148,7 +179,12 @@ impl Index {
         ensures { IfOk result (λ index. index ≡ keys.items) }
     {
         let entries = sorted_entries(alloc, keys.as_slice())?;
-        Ok(Index { keys, entries })
+        let places = places_in_order(alloc, entries.as_slice())?;
+        Ok(Index {
+            keys,
+            entries,
+            places,
+        })
     }
 
     /// A place that has the key.
@@ -177,6 +213,18 @@ impl Index {
         ensures { IsIndex self.now result.now }
     {
         self.entries.as_slice()
+    }
+
+    /// The places of a key, each at least once.
+    pub(crate) fn places_of(&self, key: u32) -> &[u32]
+        ensures { ArePlacesOf self.now key result.now }
+    {
+        places_between(
+            self.keys.as_slice(),
+            self.entries.as_slice(),
+            self.places.as_slice(),
+            key,
+        )
     }
 
     /// Puts all places of a key into a part with as many places, or takes them out.

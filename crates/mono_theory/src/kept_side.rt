@@ -1,33 +1,39 @@
-//! What is kept of each atom on one side: the edges on which the answer of its last search rests.
+//! What is kept of each atom on one side: the evidence that its last searches found.
 //!
-//! While these edges stay as they are, so does the answer, whatever else comes and goes. The literals seen are looked at
-//! once: an atom that watches an edge that one of them changes has to be looked at again. All others stand. An atom whose
-//! predicate went over to the other answer keeps its old support, which may be right again when literals go.
+//! While the edges on which evidence rests stay as they are, so does what it shows, whatever else comes and goes. So a
+//! literal makes only those atoms wait that stand on an edge that it changes, and literals that go only those that they
+//! settled. Evidence that isn't right at present is kept, since it may be right again when literals go.
 
-ghost use Rattle.std.specs.Prelude.{◌≡◌, ◌<◌, ◌≤◌, ◌+◌, ◌^◌, ℕ, Bool, None, Some, false, length, take, slice_set, All, IfOk, IfSome, IsTrue, MatchOption};
-ghost use Rattle.mono_theory.specs.Supports.{AllHave, AllQuiet, IsFewer, IsNext, IsSameButWatchers, IsSide, IsSettled, IsSupport, SideView, atom_at, part_of};
-ghost use Rattle.mono_theory.specs.Theories.{Facts};
-ghost use Rattle.mono_theory.specs.Watching.{AreWatched, support_at};
+ghost use Rattle.std.specs.Prelude.{◌≡◌, ◌<◌, ◌≤◌, ◌^◌, ℕ, Bool, Some, None, IsSome, not, true, take, length, slice_set, All, IfOk, IfNone, IfSome, IsTrue, MatchOption};
+ghost use Rattle.mono_theory.specs.Sound.{IsRightIn, IsSound, evidence_at};
+ghost use Rattle.mono_theory.specs.Stages.{NoneWaits};
+ghost use Rattle.mono_theory.specs.Supports.{IsFewer, IsKeptBy, IsNext, IsSide, IsSettled, SideView, atom_at, gone_back, part_of, with_watchers};
+ghost use Rattle.mono_theory.specs.Theories.{Facts, cut_to, seeing};
+ghost use Rattle.mono_theory.specs.Watching.{AreWatched};
 
 use crate::frame::Frame;
-use crate::standing::Standing;
-use crate::strikes::strike;
+use crate::invalidation::invalidate;
+use crate::kept_evidence::KeptEvidence;
+use crate::looking::force_by;
+use crate::stages::Stages;
 use crate::watchers::Watchers;
-use mono_base::Row;
-use mono_graph::Part;
+use crate::{Evidence, Force, Kind, Stage, SureSide};
+use mono_base::Lit;
+use mono_steps::Witness;
 use std::alloc::{AllocError, Global};
 use std::marker::Model;
 
-/// The supports of the atoms on one side, and which of them are known to be right.
+/// What is kept of the atoms on one side, and which of it is known to be right.
 #[derive(Drop)]
-pub(crate) struct KeptSide {
-    supports: Vec<Option<Row<u32>>>,
+pub struct KeptSide {
+    /// By what the atoms owe nothing.
+    supports: KeptEvidence,
+    /// By what they force their literals.
+    shown: KeptEvidence,
     watchers: Watchers,
-    standing: Standing,
-    /// So many first literals were looked at.
-    looked: usize,
-    /// So many first atoms of those that wait are settled.
-    settled: usize,
+    stages: Stages,
+    /// Whether the predicates of settled atoms are decided too.
+    thorough: bool,
 }
 
 impl Model for KeptSide {
@@ -35,175 +41,125 @@ impl Model for KeptSide {
 
     ghost Value = { SideView };
 
-    ghost view = { λ s. record { supports = s.supports.items; watchers = s.watchers; standing = s.standing; looked = s.looked; settled = s.settled } };
-}
-
-/// No support of any atom.
-fn no_supports(alloc: Global, atoms: u32) -> Result<Vec<Option<Row<u32>>>, AllocError>
-    ensures len { IfOk result (λ supports. length supports.items ≡ atoms) }
-    ensures none { IfOk result (λ supports. (a : ℕ) → support_at supports.items a ≡ None) }
-{
-    let mut supports = Vec::new(alloc);
-    for _atom in 0..atoms {
-        supports.push(None)?;
-    }
-    Ok(supports)
-}
-
-/// Whether the edges all have the value in the part.
-fn have(part: &Part, edges: &[u32], value: bool) -> bool
-    requires { All (λ k. k < length part.now) edges.now }
-    ensures { IsTrue result → AllHave part.now value edges.now }
-{
-    for edge in edges {
-        if part.has(*edge) != value {
-            return false;
-        }
-    }
-    true
-}
-
-/// Whether there is a support, and its edges have the value in the part.
-fn is_right(part: &Part, support: &Option<Row<u32>>, value: bool) -> bool
-    requires { IfSome support.now (All (λ k. k < length part.now)) }
-    ensures { IsTrue result → MatchOption support.now ⊥ (AllHave part.now value) }
-{
-    match support {
-        None => false,
-        Some(edges) => have(part, edges.as_slice(), value),
-    }
+    ghost view = { λ s. record { supports = s.supports; shown = s.shown; watchers = s.watchers; stages = s.stages; thorough = s.thorough } };
 }
 
 impl KeptSide {
     /// Nothing is kept, and every atom waits.
-    pub(crate) fn new(alloc: Global, atoms: u32, edges: u32) -> Result<KeptSide, AllocError>
-        ensures { IfOk result (λ s. (f : Facts) → (possible : Bool) → length f.atoms ≡ atoms → length f.graph.edges ≡ edges → IsSide f possible s) }
+    pub(crate) fn new(
+        alloc: Global,
+        atoms: u32,
+        edges: u32,
+        thorough: bool,
+    ) -> Result<KeptSide, AllocError>
+        ensures side { IfOk result (λ s. (f : Facts) → (possible : Bool) → length f.atoms ≡ atoms → length f.graph.edges ≡ edges → IsSide f possible s) }
+        ensures thorough { IfOk result (λ s. s.thorough ≡ thorough) }
     {
-        let supports = no_supports(alloc, atoms)?;
-        let watchers = Watchers::of_supports(alloc, edges, supports.as_slice())?;
-        let standing = Standing::new(alloc, atoms)?;
+        let supports = KeptEvidence::new(alloc, atoms)?;
+        let shown = KeptEvidence::new(alloc, atoms)?;
+        let watchers = Watchers::of_supports(alloc, edges, &supports)?;
+        let stages = Stages::new(alloc, atoms)?;
         Ok(KeptSide {
             supports,
+            shown,
             watchers,
-            standing,
-            looked: 0,
-            settled: 0,
+            stages,
+            thorough,
         })
     }
 
-    /// The list is cut to its first `kept` literals.
-    pub(crate) fn undo_to(&mut self, kept: usize)
-        ensures { (f : Facts) → (possible : Bool) → kept ≤ length f.seen → IsSide f possible self.old → IsSide (record f { seen = take kept f.seen }) possible self.new }
-    {
-        if self.looked <= kept {
-            return;
-        }
-        self.looked = kept;
-        self.settled = 0;
-    }
-
-    /// Looks at the next literal.
-    fn look_at_next(&mut self, frame: &Frame, possible: bool) -> Result<(), AllocError>
-        requires more { self.old.looked < length frame.now.seen }
+    /// The frame is about to see one more literal. An atom waits where its support needs an edge that the literal changes.
+    pub(crate) fn assign(&mut self, frame: &Frame, possible: bool, lit: Lit)
         requires side { IsSide frame.now possible self.old }
-        ensures side { IsSide frame.now possible self.new }
-        ensures looked { IfOk result (λ _. self.new.looked ≡ self.old.looked + 1) }
+        ensures side { IsSide (seeing frame.now lit) possible self.new }
+        ensures kept { IsKeptBy frame.now.graph possible lit self.old self.new }
     {
-        let _ = frame.seen();
-        let lit = frame.literal_at(self.looked);
+        let _ = frame.graph();
         let var = lit.var();
         if lit.is_positive() != possible {
-            strike(frame.edge_vars(), &self.watchers, &mut self.standing, var)?;
+            let edges = frame.edge_vars().places_of(var);
+            invalidate(&self.supports, &self.watchers, &mut self.stages, edges);
         }
-        self.looked += 1;
-        Ok(())
     }
 
-    /// Looks at all literals.
-    pub(crate) fn look(&mut self, frame: &Frame, possible: bool) -> Result<(), AllocError>
-        requires side { IsSide frame.now possible self.old }
-        ensures side { IsSide frame.now possible self.new }
-        ensures all { IfOk result (λ _. self.new.looked ≡ length frame.now.seen) }
+    /// The list is cut to its first `kept` literals. An atom waits where a later one settled it.
+    pub(crate) fn undo_to(&mut self, kept: usize)
+        ensures exact { self.new ≡ gone_back kept self.old }
+        ensures side { (f : Facts) → (possible : Bool) → kept ≤ length f.seen → IsSide f possible self.old → IsSide (cut_to kept f) possible self.new }
     {
-        'literals: while self.looked < frame.seen() {
-            self.look_at_next(frame, possible)?;
-        }
-        Ok(())
+        self.stages.undo_to(kept);
     }
 
-    /// Whether each atom that waits is known to be settled. Then no atom owes anything on this side.
-    pub(crate) fn is_done(&self, frame: &Frame, possible: bool) -> bool
+    /// An atom that waits: `None` exactly where none does.
+    pub(crate) fn next(&self, frame: &Frame, possible: bool) -> Option<u32>
         requires side { IsSide frame.now possible self.now }
-        requires looked { self.now.looked ≡ length frame.now.seen }
-        ensures done { IsTrue result → AllQuiet frame.now possible }
-        ensures more { result ≡ false → self.now.settled < length self.now.standing.waiting }
+        ensures { MatchOption result (NoneWaits self.now.stages) (IsNext frame.now self.now) }
     {
         let _ = (frame.seen(), possible);
-        self.settled >= self.standing.waiting()
+        self.stages.next()
     }
 
-    /// The first atom that waits and isn't known to be settled.
-    pub(crate) fn next(&self, frame: &Frame, possible: bool) -> u32
-        requires side { IsSide frame.now possible self.now }
-        requires more { self.now.settled < length self.now.standing.waiting }
-        ensures { IsNext frame.now self.now result }
+    /// Whether the predicates of settled atoms are decided too.
+    pub(crate) fn is_thorough(&self) -> bool
+        ensures { result ≡ self.now.thorough }
     {
-        let _ = (frame.seen(), possible);
-        self.standing.waiting_at(self.settled)
-    }
-
-    /// The next atom is settled.
-    pub(crate) fn pass(&mut self, frame: &Frame, possible: bool, atom: u32)
-        requires side { IsSide frame.now possible self.old }
-        requires looked { self.old.looked ≡ length frame.now.seen }
-        requires next { IsNext frame.now self.old atom }
-        requires settled { IsSettled frame.now.seen possible (atom_at frame.now.atoms atom) }
-        ensures side { IsSide frame.now possible self.new }
-        ensures looked { self.new.looked ≡ self.old.looked }
-        ensures fewer { IsFewer self.old self.new }
-    {
-        let _ = (frame.seen(), possible, atom, self.standing.waiting());
-        self.settled += 1;
+        self.thorough
     }
 
     /// Whether the support of the atom is right.
     pub(crate) fn is_supported(&self, frame: &Frame, possible: bool, atom: u32) -> bool
         requires side { IsSide frame.now possible self.now }
         requires atom { atom < length frame.now.atoms }
-        ensures { IsTrue result → MatchOption (support_at self.now.supports atom) ⊥ (AllHave (part_of frame.now.graph frame.now.seen possible) possible) }
+        ensures { IsTrue result → IsRightIn (part_of frame.now.graph frame.now.seen possible) possible (evidence_at self.now.supports atom) }
     {
-        is_right(
-            frame.part(possible),
-            &self.supports[atom as usize],
-            possible,
-        )
+        self.supports.is_right(frame.part(possible), atom, possible)
     }
 
-    /// The next atom stands on its support.
+    /// Whether what is shown of the atom is right.
+    pub(crate) fn is_shown(&self, frame: &Frame, possible: bool, atom: u32) -> bool
+        requires side { IsSide frame.now possible self.now }
+        requires atom { atom < length frame.now.atoms }
+        ensures { IsTrue result → IsRightIn (part_of frame.now.graph frame.now.seen possible) (not possible) (evidence_at self.now.shown atom) }
+    {
+        self.shown.is_right(frame.part(possible), atom, !possible)
+    }
+
+    /// An atom that waits stands on its support.
     pub(crate) fn stand(&mut self, frame: &Frame, possible: bool, atom: u32)
         requires side { IsSide frame.now possible self.old }
-        requires looked { self.old.looked ≡ length frame.now.seen }
         requires next { IsNext frame.now self.old atom }
-        requires right { MatchOption (support_at self.old.supports atom) ⊥ (AllHave (part_of frame.now.graph frame.now.seen possible) possible) }
+        requires right { IsRightIn (part_of frame.now.graph frame.now.seen possible) possible (evidence_at self.old.supports atom) }
         ensures side { IsSide frame.now possible self.new }
-        ensures looked { self.new.looked ≡ self.old.looked }
         ensures fewer { IsFewer self.old self.new }
     {
-        let _ = (frame.seen(), possible, atom);
-        self.standing.let_stand(self.settled);
+        let _ = (frame.seen(), possible);
+        self.stages.stand(atom);
+    }
+
+    /// An atom that waits and is settled shows.
+    pub(crate) fn show(&mut self, frame: &Frame, possible: bool, atom: u32)
+        requires side { IsSide frame.now possible self.old }
+        requires next { IsNext frame.now self.old atom }
+        requires settled { IsSettled frame.now.seen possible (atom_at frame.now.atoms atom) }
+        requires right { self.old.thorough ≡ true → IsRightIn (part_of frame.now.graph frame.now.seen possible) (not possible) (evidence_at self.old.shown atom) }
+        ensures side { IsSide frame.now possible self.new }
+        ensures fewer { IsFewer self.old self.new }
+    {
+        let _ = possible;
+        self.stages.show(atom, frame.seen());
     }
 
     /// Makes the lists of watchers anew where they have grown too long.
     fn renew(&mut self, alloc: Global, frame: &Frame, possible: bool) -> Result<(), AllocError>
         requires side { IsSide frame.now possible self.old }
         ensures side { IsSide frame.now possible self.new }
-        ensures same { IsSameButWatchers self.old self.new }
+        ensures same { self.new ≡ with_watchers self.old self.new.watchers }
     {
         let _ = possible;
         if self.watchers.is_full() {
             let edges = frame.graph().edge_count();
             let _ = frame.atom_count();
-            self.watchers = Watchers::of_supports(alloc, edges, self.supports.as_slice())?;
+            self.watchers = Watchers::of_supports(alloc, edges, &self.supports)?;
         }
         Ok(())
     }
@@ -220,43 +176,180 @@ impl KeptSide {
         requires atom { atom < length frame.now.atoms }
         requires edges { All (λ k. k < length frame.now.graph.edges) edges.now }
         ensures side { IsSide frame.now possible self.new }
-        ensures same { IsSameButWatchers self.old self.new }
+        ensures same { self.new ≡ with_watchers self.old self.new.watchers }
         ensures watched { IfOk result (λ _. AreWatched self.new.watchers atom edges.now) }
     {
         let _ = (frame.seen(), possible);
         self.watchers.watch(atom, edges)
     }
 
-    /// This is the support of the atom.
-    fn put(&mut self, atom: u32, support: Row<u32>)
-        requires { atom < length self.old.supports }
-        ensures { self.new ≡ record self.old { supports = slice_set self.old.supports atom (Some support) } }
+    /// This is the support of an atom that waits and watches its edges.
+    fn put_support(&mut self, frame: &Frame, possible: bool, atom: u32, support: Evidence)
+        requires side { IsSide frame.now possible self.old }
+        requires next { IsNext frame.now self.old atom }
+        requires sound { IsSound frame.now.graph (atom_at frame.now.atoms atom).predicate possible support }
+        requires watched { AreWatched self.old.watchers atom support.edges }
+        ensures side { IsSide frame.now possible self.new }
+        ensures same { self.new ≡ record self.old { supports = slice_set self.old.supports atom (Some support) } }
     {
-        self.supports[atom as usize] = Some(support);
+        let _ = (frame.seen(), possible);
+        self.supports.put(atom, support);
     }
 
-    /// The next atom stands on this support.
+    /// An atom that waits stands on this support.
     pub(crate) fn take_up(
         &mut self,
         alloc: Global,
         frame: &Frame,
         possible: bool,
         atom: u32,
-        support: Row<u32>,
+        support: Evidence,
     ) -> Result<(), AllocError>
         requires side { IsSide frame.now possible self.old }
-        requires looked { self.old.looked ≡ length frame.now.seen }
         requires next { IsNext frame.now self.old atom }
-        requires support { IsSupport frame.now.graph (atom_at frame.now.atoms atom).predicate possible support }
-        requires have { AllHave (part_of frame.now.graph frame.now.seen possible) possible support }
+        requires sound { IsSound frame.now.graph (atom_at frame.now.atoms atom).predicate possible support }
+        requires right { IsRightIn (part_of frame.now.graph frame.now.seen possible) possible (Some support) }
         ensures side { IsSide frame.now possible self.new }
-        ensures looked { self.new.looked ≡ self.old.looked }
+        ensures thorough { self.new.thorough ≡ self.old.thorough }
         ensures fewer { IfOk result (λ _. IsFewer self.old self.new) }
     {
         self.renew(alloc, frame, possible)?;
-        self.watch(frame, possible, atom, support.as_slice())?;
-        self.put(atom, support);
+        self.watch(frame, possible, atom, support.edges.as_slice())?;
+        self.put_support(frame, possible, atom, support);
         self.stand(frame, possible, atom);
         Ok(())
+    }
+
+    /// This is shown of an atom that waits.
+    pub(crate) fn put_shown(&mut self, frame: &Frame, possible: bool, atom: u32, shown: Evidence)
+        requires side { IsSide frame.now possible self.old }
+        requires next { IsNext frame.now self.old atom }
+        requires sound { IsSound frame.now.graph (atom_at frame.now.atoms atom).predicate (not possible) shown }
+        ensures side { IsSide frame.now possible self.new }
+        ensures same { self.new ≡ record self.old { shown = slice_set self.old.shown atom (Some shown) } }
+    {
+        let _ = (frame.seen(), possible);
+        self.shown.put(atom, shown);
+    }
+
+    /// What was last shown of an atom. It is right wherever its edges are as it needs them.
+    pub(crate) fn shown_at(&self, frame: &Frame, possible: bool, atom: u32) -> &Option<Evidence>
+        requires side { IsSide frame.now possible self.now }
+        requires atom { atom < length frame.now.atoms }
+        ensures { IfSome result.now (IsSound frame.now.graph (atom_at frame.now.atoms atom).predicate (not possible)) }
+    {
+        let _ = (frame.seen(), possible);
+        self.shown.at(atom)
+    }
+}
+
+/// The witness of the evidence, if there is any.
+fn witness_of(evidence: &Option<Evidence>) -> Option<&Witness>
+    ensures none { IfNone result (evidence.now ≡ None) }
+    ensures some { IfSome result (λ w. MatchOption evidence.now ⊥ (λ e. w.now ≡ e.witness)) }
+{
+    match evidence {
+        None => None,
+        Some(known) => Some(&known.witness),
+    }
+}
+
+impl KeptSide {
+    ghost use Rattle.std.specs.Prelude.{◌≢◌, false};
+    ghost use Rattle.mono_theory.specs.declared.stage.Stage.TheVariants as stage;
+    ghost use Rattle.mono_theory.specs.Sound.{IsWitnessIn};
+    ghost use Rattle.mono_theory.specs.Stages.{shows, stage_at};
+
+    /// What is known of the atom at a place.
+    pub fn stage(&self, frame: &Frame, possible: bool, atom: u32) -> Stage
+        requires side { IsSide frame.now possible self.now }
+        requires atom { atom < length frame.now.atoms }
+        ensures { result ≡ stage_at self.now.stages atom }
+    {
+        let _ = (frame.seen(), possible);
+        self.stages.stage(atom)
+    }
+
+    /// The witness that shows that the predicate of an atom holds with the possibly present edges, or fails with the surely
+    /// present ones: `None` exactly where the atom doesn't stand.
+    pub fn support_witness(&self, frame: &Frame, possible: bool, atom: u32) -> Option<&Witness>
+        requires side { IsSide frame.now possible self.now }
+        requires atom { atom < length frame.now.atoms }
+        ensures none { IfNone result (stage_at self.now.stages atom ≢ stage.Stands) }
+        ensures stands { IsSome result → stage_at self.now.stages atom ≡ stage.Stands }
+        ensures its { IfSome result (λ w. MatchOption (evidence_at self.now.supports atom) ⊥ (λ e. w.now ≡ e.witness)) }
+        ensures right { IfSome result (λ w. IsWitnessIn frame.now.graph (part_of frame.now.graph frame.now.seen possible) (atom_at frame.now.atoms atom).predicate possible w.now) }
+    {
+        match self.stage(frame, possible, atom) {
+            Stage::Stands => witness_of(self.supports.at(atom)),
+            _ => None,
+        }
+    }
+
+    /// The witness that shows that the predicate of an atom fails with the possibly present edges, or holds with the surely
+    /// present ones. Where the predicates of settled atoms are decided, it is `None` exactly where the atom doesn't show.
+    pub fn shown_witness(&self, frame: &Frame, possible: bool, atom: u32) -> Option<&Witness>
+        requires side { IsSide frame.now possible self.now }
+        requires atom { atom < length frame.now.atoms }
+        ensures none { self.now.thorough ≡ true → IfNone result (shows (stage_at self.now.stages atom) ≡ false) }
+        ensures shows { IsSome result → shows (stage_at self.now.stages atom) ≡ true }
+        ensures its { IfSome result (λ w. MatchOption (evidence_at self.now.shown atom) ⊥ (λ e. w.now ≡ e.witness)) }
+        ensures right { IfSome result (λ w. IsWitnessIn frame.now.graph (part_of frame.now.graph frame.now.seen possible) (atom_at frame.now.atoms atom).predicate (not possible) w.now) }
+    {
+        if !self.thorough {
+            return None;
+        }
+        match self.stage(frame, possible, atom) {
+            Stage::Shows(_) => witness_of(self.shown.at(atom)),
+            _ => None,
+        }
+    }
+}
+
+impl<K: Kind> SureSide<K> for KeptSide {
+    ghost use Rattle.std.specs.Prelude.{false};
+    ghost use Rattle.mono_theory.specs.Stages.{NoneWaits};
+    ghost use Rattle.mono_theory.specs.Supports.{IsKeptBy, IsSideFor, gone_back};
+
+    ghost is_right = { λ side f. IsSideFor f false K.IS_THOROUGH side };
+
+    ghost keeps = { λ f l before after. IsKeptBy f.graph false l before after };
+
+    ghost keeps_back = { λ _ kept before after. after ≡ gone_back kept before };
+
+    ghost decides = { λ side _. NoneWaits side.stages };
+
+    fn of_frame(alloc: Global, frame: &Frame) -> Result<Self, AllocError> {
+        let edges = frame.graph().edge_count();
+        let atoms = frame.atom_count() as u32;
+        KeptSide::new(alloc, atoms, edges, K::IS_THOROUGH)
+    }
+
+    fn assign(&mut self, frame: &Frame, lit: Lit) {
+        KeptSide::assign(self, frame, false, lit);
+    }
+
+    fn go_back(&mut self, frame: &Frame, kept: usize) {
+        let _ = frame.seen();
+        self.undo_to(kept);
+    }
+
+    fn force(&mut self, alloc: Global, kind: &mut K, frame: &Frame) -> Result<Force, AllocError> {
+        force_by::<K>(alloc, kind, frame, self, false)
+    }
+
+    fn evidence(
+        &self,
+        alloc: Global,
+        frame: &Frame,
+        place: u32,
+        kept: usize,
+    ) -> Result<Option<Evidence>, AllocError> {
+        let _ = (alloc, frame.seen(), place, kept);
+        Ok(None)
+    }
+
+    fn shown(&self, frame: &Frame, place: u32) -> Option<&Evidence> {
+        self.shown_at(frame, false, place).as_ref()
     }
 }

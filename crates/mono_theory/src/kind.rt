@@ -22,6 +22,11 @@ pub trait Kind: Drop {
     /// How many nodes the graphs have.
     ghost nodes: { Self → ℕ };
 
+    /// Whether theories decide predicates of the kind also where the atom's variable has the value that they would force.
+    const IS_THOROUGH: bool;
+
+    ghost IS_THOROUGH: { Bool };
+
     /// Room for graphs with this many nodes.
     fn with_nodes(alloc: Global, count: u32) -> Result<Self, AllocError>
         ensures { IfOk result (λ kind. nodes kind ≡ count) };

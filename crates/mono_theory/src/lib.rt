@@ -11,6 +11,10 @@ mod frame;
 mod graph_theory;
 /// Places by key.
 mod index;
+/// The atoms that lose their support by a literal.
+mod invalidation;
+/// The evidence that is kept of atoms.
+mod kept_evidence;
 /// What is kept of each atom on one side.
 mod kept_side;
 /// What a kind of predicate supplies.
@@ -23,10 +27,12 @@ mod looking;
 mod node_marks;
 /// What the first literals seen show.
 mod past;
-/// Which atoms stand on what is kept of them.
-mod standing;
-/// The atoms that a literal strikes.
-mod strikes;
+/// What is known of an atom on one side.
+mod stage;
+/// The stages of the atoms, and which to look at next.
+mod stages;
+/// What is kept of atoms with the surely present edges.
+mod sure_side;
 /// What theories answer.
 mod theory;
 /// The atoms that watch each edge.
@@ -35,8 +41,12 @@ mod watchers;
 pub mod walks;
 
 pub use bounds::Bounds;
-pub use evidence::Evidence;
+pub use evidence::{Evidence, literal};
+pub use frame::Frame;
 pub use graph_theory::GraphTheory;
+pub use kept_side::KeptSide;
 pub use kind::Kind;
 pub use node_marks::NodeMarks;
+pub use stage::Stage;
+pub use sure_side::SureSide;
 pub use theory::{Finding, Force, Theory};

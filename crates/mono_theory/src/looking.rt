@@ -1,12 +1,13 @@
 //! A theory looks at the atoms that wait on one side.
 //!
-//! An atom whose variable has the value that the side would force is passed. Another stands on its support, where that is
-//! right again. Only for the rest is there a search: it finds another support, or the side forces a literal.
+//! An atom stands on its support, where that is right again. Where what was last shown of it is right, it forces its literal,
+//! or it shows if that is true. Only for the rest is there a search: it finds another support, or evidence of the other kind.
+//! Where predicates of settled atoms needn't be decided, a settled atom shows without a look.
 
-ghost use Rattle.std.specs.Prelude.{◌≡◌, not, false, length, IfOk};
-ghost use Rattle.mono_base.specs.Partial.{is_true_in};
-ghost use Rattle.mono_steps.specs.Switching.{literal_of};
-ghost use Rattle.mono_theory.specs.Supports.{atom_at, AreCovered, ExamineIs, IsNext, IsSide, SideIs};
+ghost use Rattle.std.specs.Prelude.{◌≡◌, not, length, IfOk};
+ghost use Rattle.mono_theory.specs.Sound.{IsRightIn, evidence_at};
+ghost use Rattle.mono_theory.specs.Stages.{NoneWaits};
+ghost use Rattle.mono_theory.specs.Supports.{AreCovered, ExamineIs, IsNext, IsSide, SideIs, part_of};
 
 use crate::evidence::{is_positive, literal};
 use crate::frame::Frame;
@@ -14,37 +15,27 @@ use crate::kept_side::KeptSide;
 use crate::{Force, Kind};
 use std::alloc::{AllocError, Global};
 
-/// Looks at the next atom that waits.
-fn examine<K: Kind>(
-    alloc: Global,
-    kind: &mut K,
-    frame: &Frame,
-    side: &mut KeptSide,
-    possible: bool,
-    place: u32,
-) -> Result<Force, AllocError>
-    requires size { K.nodes kind.old ≡ frame.now.graph.nodes }
-    requires covered { AreCovered K.covers frame.now.atoms }
+/// An atom that waits shows, or forces its literal where that isn't true.
+fn answer_shown(frame: &Frame, side: &mut KeptSide, possible: bool, place: u32) -> Force
     requires side { IsSide frame.now possible side.old }
-    requires looked { side.old.looked ≡ length frame.now.seen }
     requires next { IsNext frame.now side.old place }
-    ensures size { K.nodes kind.new ≡ K.nodes kind.old }
+    requires right { IsRightIn (part_of frame.now.graph frame.now.seen possible) (not possible) (evidence_at side.old.shown place) }
     ensures side { IsSide frame.now possible side.new }
-    ensures looked { side.new.looked ≡ side.old.looked }
-    ensures answer { IfOk result (ExamineIs frame.now side.old side.new) }
+    ensures answer { ExamineIs frame.now side.old side.new result }
 {
     if frame.is_settled(place as usize, possible) {
-        side.pass(frame, possible, place);
-        return Ok(Force::Quiet);
+        side.show(frame, possible, place);
+        return Force::Quiet;
     }
-    if side.is_supported(frame, possible, place) {
-        side.stand(frame, possible, place);
-        return Ok(Force::Quiet);
+    let _ = frame.graph();
+    let atom = frame.atom_at(place as usize);
+    Force::Literal {
+        atom: atom.number,
+        lit: literal(atom.var, !possible),
     }
-    search::<K>(alloc, kind, frame, side, possible, place)
 }
 
-/// Searches for what shows whether the next atom's predicate is decided as the side would have it.
+/// Searches for what shows whether the predicate of an atom that waits is decided as the side would have it.
 fn search<K: Kind>(
     alloc: Global,
     kind: &mut K,
@@ -56,54 +47,56 @@ fn search<K: Kind>(
     requires size { K.nodes kind.old ≡ frame.now.graph.nodes }
     requires covered { AreCovered K.covers frame.now.atoms }
     requires side { IsSide frame.now possible side.old }
-    requires looked { side.old.looked ≡ length frame.now.seen }
     requires next { IsNext frame.now side.old place }
-    requires open { is_true_in frame.now.seen (literal_of (not possible) (atom_at frame.now.atoms place).var) ≡ false }
     ensures size { K.nodes kind.new ≡ K.nodes kind.old }
     ensures side { IsSide frame.now possible side.new }
-    ensures looked { side.new.looked ≡ side.old.looked }
+    ensures thorough { side.new.thorough ≡ side.old.thorough }
     ensures answer { IfOk result (ExamineIs frame.now side.old side.new) }
 {
     let atom = frame.atom_at(place as usize);
     let graph = frame.graph();
     let evidence = kind.evidence(alloc, graph, frame.part(possible), atom.predicate)?;
     if is_positive(&evidence.witness) == possible {
-        side.take_up(alloc, frame, possible, place, evidence.edges)?;
+        side.take_up(alloc, frame, possible, place, evidence)?;
         return Ok(Force::Quiet);
     }
-    Ok(Force::Literal {
-        atom: atom.number,
-        lit: literal(atom.var, !possible),
-    })
+    side.put_shown(frame, possible, place, evidence);
+    Ok(answer_shown(frame, side, possible, place))
 }
 
-/// Looks at the atoms that wait, up to the first that forces a literal.
-fn look_at_waiting<K: Kind>(
+/// Looks at an atom that waits.
+fn examine<K: Kind>(
     alloc: Global,
     kind: &mut K,
     frame: &Frame,
     side: &mut KeptSide,
     possible: bool,
+    place: u32,
 ) -> Result<Force, AllocError>
     requires size { K.nodes kind.old ≡ frame.now.graph.nodes }
     requires covered { AreCovered K.covers frame.now.atoms }
     requires side { IsSide frame.now possible side.old }
-    requires looked { side.old.looked ≡ length frame.now.seen }
+    requires next { IsNext frame.now side.old place }
     ensures size { K.nodes kind.new ≡ K.nodes kind.old }
     ensures side { IsSide frame.now possible side.new }
-    ensures answer { IfOk result (SideIs frame.now possible) }
+    ensures thorough { side.new.thorough ≡ side.old.thorough }
+    ensures answer { IfOk result (ExamineIs frame.now side.old side.new) }
 {
-    'waiting: while !side.is_done(frame, possible) {
-        let place = side.next(frame, possible);
-        match examine::<K>(alloc, kind, frame, side, possible, place)? {
-            Force::Quiet => {}
-            Force::Literal { atom, lit } => return Ok(Force::Literal { atom, lit }),
-        }
+    if !side.is_thorough() && frame.is_settled(place as usize, possible) {
+        side.show(frame, possible, place);
+        return Ok(Force::Quiet);
     }
-    Ok(Force::Quiet)
+    if side.is_supported(frame, possible, place) {
+        side.stand(frame, possible, place);
+        return Ok(Force::Quiet);
+    }
+    if side.is_shown(frame, possible, place) {
+        return Ok(answer_shown(frame, side, possible, place));
+    }
+    search::<K>(alloc, kind, frame, side, possible, place)
 }
 
-/// What the side forces, after all literals.
+/// What the side forces: looks at the atoms that wait, up to the first that forces a literal.
 pub(crate) fn force_by<K: Kind>(
     alloc: Global,
     kind: &mut K,
@@ -116,8 +109,16 @@ pub(crate) fn force_by<K: Kind>(
     requires side { IsSide frame.now possible side.old }
     ensures size { K.nodes kind.new ≡ K.nodes kind.old }
     ensures side { IsSide frame.now possible side.new }
+    ensures thorough { side.new.thorough ≡ side.old.thorough }
     ensures answer { IfOk result (SideIs frame.now possible) }
+    ensures none_waits { IfOk result (λ answer. answer ≡ Force.Quiet → NoneWaits side.new.stages) }
 {
-    side.look(frame, possible)?;
-    look_at_waiting::<K>(alloc, kind, frame, side, possible)
+    let _ = frame.graph();
+    'waiting: while let Some(place) = side.next(frame, possible) {
+        match examine::<K>(alloc, kind, frame, side, possible, place)? {
+            Force::Quiet => {}
+            Force::Literal { atom, lit } => return Ok(Force::Literal { atom, lit }),
+        }
+    }
+    Ok(Force::Quiet)
 }

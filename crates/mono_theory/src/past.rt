@@ -1,15 +1,18 @@
 //! What the first literals seen show. The bounds go back to these literals and come again to all of them, in proportion
 //! to those that are left out, and without memory.
 
-ghost use Rattle.std.specs.Prelude.{◌≡◌, ◌≤◌, length, take, pos, int_lt, if◌then◌else◌, IfOk, IsTrue};
+ghost use Rattle.std.specs.Prelude.{◌≡◌, ◌≤◌, length, take, pos, int_lt, if◌then◌else◌, IfOk, IfSome, IsTrue};
+ghost use Rattle.mono_graph.specs.Digraph.{IsPartOf};
 ghost use Rattle.mono_base.specs.Partial.{is_partial};
 ghost use Rattle.mono_problem.specs.WellFormed.{IsOver};
 ghost use Rattle.mono_theory.specs.Bound.{edge_vars, IsBoundOf};
 ghost use Rattle.mono_theory.specs.Evidences.{IsEvidence, side};
+ghost use Rattle.mono_theory.specs.Sound.{IsSound};
 
+use crate::kept_evidence::have;
 use crate::{Bounds, Evidence, Kind};
 use mono_base::Lit;
-use mono_graph::Graph;
+use mono_graph::{Graph, Part};
 use mono_problem::Predicate;
 use std::alloc::{AllocError, Global};
 
@@ -39,12 +42,42 @@ fn advance(lits: &[Lit], bounds: &mut Bounds, kept: usize)
     }
 }
 
+/// What shows that the predicate holds or fails in the part: the evidence that is known, where it is right there.
+fn evidence_in<K: Kind>(
+    alloc: Global,
+    kind: &mut K,
+    graph: &Graph,
+    part: &Part,
+    known: Option<&Evidence>,
+    value: bool,
+    predicate: Predicate,
+) -> Result<Evidence, AllocError>
+    requires size { K.nodes kind.old ≡ graph.now.nodes }
+    requires kind { IsTrue (K.covers predicate) }
+    requires over { IsOver graph.now predicate }
+    requires part { IsPartOf part.now graph.now }
+    requires known { IfSome known (λ e. IsSound graph.now predicate value e.now) }
+    ensures size { K.nodes kind.new ≡ K.nodes kind.old }
+    ensures evidence { IfOk result (IsEvidence graph.now part.now predicate) }
+{
+    match known {
+        None => kind.evidence(alloc, graph, part, predicate),
+        Some(evidence) => {
+            if have(part, evidence.edges.as_slice(), value) {
+                return evidence.copy(alloc);
+            }
+            kind.evidence(alloc, graph, part, predicate)
+        }
+    }
+}
+
 /// What shows that the predicate holds or fails with the edges on the side of the literal.
 fn evidence_beside<K: Kind>(
     alloc: Global,
     kind: &mut K,
     graph: &Graph,
     bounds: &Bounds,
+    known: Option<&Evidence>,
     predicate: Predicate,
     lit: Lit,
 ) -> Result<Evidence, AllocError>
@@ -52,6 +85,7 @@ fn evidence_beside<K: Kind>(
     requires vars { bounds.now.vars ≡ edge_vars graph.now }
     requires kind { IsTrue (K.covers predicate) }
     requires over { IsOver graph.now predicate }
+    requires known { IfSome known (λ e. IsSound graph.now predicate (int_lt (pos 0) lit) e.now) }
     ensures size { K.nodes kind.new ≡ K.nodes kind.old }
     ensures evidence { IfOk result (IsEvidence graph.now (if int_lt (pos 0) lit then bounds.now.under else bounds.now.over) predicate) }
 {
@@ -60,7 +94,15 @@ fn evidence_beside<K: Kind>(
     } else {
         bounds.over()
     };
-    kind.evidence(alloc, graph, part, predicate)
+    evidence_in::<K>(
+        alloc,
+        kind,
+        graph,
+        part,
+        known,
+        lit.is_positive(),
+        predicate,
+    )
 }
 
 /// What shows that the predicate holds or fails on the side of the literal, under the first literals.
@@ -70,6 +112,7 @@ pub(crate) fn evidence_by<K: Kind>(
     graph: &Graph,
     lits: &[Lit],
     bounds: &mut Bounds,
+    known: Option<&Evidence>,
     predicate: Predicate,
     lit: Lit,
     kept: usize,
@@ -80,12 +123,13 @@ pub(crate) fn evidence_by<K: Kind>(
     requires bounds { IsBoundOf bounds.old (edge_vars graph.now) lits.now }
     requires kind { IsTrue (K.covers predicate) }
     requires over { IsOver graph.now predicate }
+    requires known { IfSome known (λ e. IsSound graph.now predicate (int_lt (pos 0) lit) e.now) }
     ensures size { K.nodes kind.new ≡ K.nodes kind.old }
     ensures same { bounds.new ≡ bounds.old }
     ensures evidence { IfOk result (IsEvidence graph.now (side graph.now (take kept lits.now) lit) predicate) }
 {
     retreat(lits, bounds, kept);
-    let found = evidence_beside::<K>(alloc, kind, graph, bounds, predicate, lit);
+    let found = evidence_beside::<K>(alloc, kind, graph, bounds, known, predicate, lit);
     advance(lits, bounds, kept);
     found
 }

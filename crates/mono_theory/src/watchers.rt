@@ -3,10 +3,12 @@
 //! An atom whose support changes goes on watching the edges of the old one. So the lists are made anew from the supports
 //! when they have grown to more than twice what these need.
 
-ghost use Rattle.std.specs.Prelude.{◌≡◌, ◌<◌, ◌^◌, ℕ, List, All, IfOk, IfSome, length};
-ghost use Rattle.mono_theory.specs.Watching.{watching, support_at, AreBelow, AreWatched, AllWatch, IsGrown};
+ghost use Rattle.std.specs.Prelude.{◌≡◌, ◌<◌, ◌^◌, ℕ, List, All, IfOk, length};
+ghost use Rattle.mono_theory.specs.Sound.{EdgesBelow, evidence_at};
+ghost use Rattle.mono_theory.specs.Watching.{watching, AreBelow, AreWatched, AllWatch, IsGrown, WatchesIts};
 
-use mono_base::Row;
+use crate::Evidence;
+use crate::kept_evidence::KeptEvidence;
 use mono_graph::Buckets;
 use std::alloc::{AllocError, Global};
 use std::marker::Model;
@@ -46,18 +48,18 @@ fn watch_all(lists: &mut Buckets<u32>, atom: u32, edges: &[u32]) -> Result<(), A
 fn watch_support(
     lists: &mut Buckets<u32>,
     atom: u32,
-    support: &Option<Row<u32>>,
+    support: &Option<Evidence>,
 ) -> Result<usize, AllocError>
-    requires edges { IfSome support.now (All (λ k. k < length lists.old)) }
+    requires edges { EdgesBelow (length lists.old) support.now }
     ensures grown { IsGrown lists.old lists.new }
     ensures below { (n : ℕ) → atom < n → AreBelow n lists.old → AreBelow n lists.new }
-    ensures watched { IfOk result (λ _. IfSome support.now (AreWatched lists.new atom)) }
+    ensures watched { IfOk result (λ _. WatchesIts lists.new atom support.now) }
 {
     match support {
         None => Ok(0),
-        Some(edges) => {
-            watch_all(lists, atom, edges.as_slice())?;
-            Ok(edges.as_slice().len())
+        Some(known) => {
+            watch_all(lists, atom, known.edges.as_slice())?;
+            Ok(known.edges.as_slice().len())
         }
     }
 }
@@ -67,21 +69,21 @@ impl Watchers {
     pub(crate) fn of_supports(
         alloc: Global,
         edges: u32,
-        supports: &[Option<Row<u32>>],
+        supports: &KeptEvidence,
     ) -> Result<Watchers, AllocError>
         requires few { length supports.now < 2 ^ 32 }
-        requires edges { (a : ℕ) → a < length supports.now → IfSome (support_at supports.now a) (All (λ k. k < edges)) }
+        requires edges { (a : ℕ) → a < length supports.now → EdgesBelow edges (evidence_at supports.now a) }
         ensures len { IfOk result (λ w. length w ≡ edges) }
         ensures below { IfOk result (AreBelow (length supports.now)) }
         ensures watch { IfOk result (λ w. AllWatch w supports.now (length supports.now)) }
     {
         let mut lists = Buckets::new(alloc, edges)?;
         let mut entries: usize = 0;
-        for atom in 0..supports.len() {
-            let more = watch_support(&mut lists, atom as u32, &supports[atom])?;
+        for atom in 0..supports.count() as u32 {
+            let more = watch_support(&mut lists, atom, supports.at(atom))?;
             entries = entries.saturating_add(more);
         }
-        let least = supports.len().saturating_add(edges as usize);
+        let least = supports.count().saturating_add(edges as usize);
         let limit = entries.saturating_mul(2).saturating_add(least);
         Ok(Watchers {
             lists,

@@ -156,11 +156,16 @@ fn show(
 }
 
 impl Kind for Tree {
+    ghost use Rattle.std.specs.Prelude.{false};
     ghost use Rattle.mono_tree.specs.Spanning.{is_tree_predicate};
 
     ghost covers = { is_tree_predicate };
 
     ghost nodes = { λ t. t };
+
+    const IS_THOROUGH: bool = false;
+
+    ghost IS_THOROUGH = { false };
 
     fn with_nodes(alloc: Global, count: u32) -> Result<Self, AllocError> {
         let finder = TreeFinder::new(alloc, count)?;

@@ -138,8 +138,8 @@ pub fits_present : (g : Digraph) (P : List Bool) (lent found : List ℕ) → len
 fits_present g P lent found e f = fits_perm g P (filter (present P) (places g)) lent (e ∙ f) (IsPermutation-refl (filter (present P) (places g)))
 
 -- a forest grown from the present edges in any order
-pub forest_from : (g : Digraph) (P : List Bool) (order lent chosen labels : List ℕ) → lent ≡ order → IsPermutation (filter (present P) (places g)) order → IsGrown g lent chosen labels → IsForest g P chosen labels
-forest_from g P order lent chosen labels e perm grown = record {
+pub forest_from : (g : Digraph) (P : List Bool) (order chosen labels : List ℕ) → IsPermutation (places g) order → IsGrown g (filter (present P) order) chosen labels → IsForest g P chosen labels
+forest_from g P order chosen labels perm grown = record {
   len = grown.len;
   tells = grown.tells;
   within = λ k h. same k ∙ grown.within k h;
@@ -147,8 +147,13 @@ forest_from g P order lent chosen labels e perm grown = record {
   count = grown.count;
 }
   where
-    same : (k : ℕ) → has (filter (present P) (places g)) k ≡ has lent k
-    same k = list_any-IsPermutation (λ v. v == k) (filter (present P) (places g)) order perm ∙ ap (λ (xs : List ℕ). has xs k) (sym e)
+    moved : (k : ℕ) → has (places g) k ≡ has order k
+    moved k = list_any-IsPermutation (λ v. v == k) (places g) order perm
+
+    same : (k : ℕ) → has (filter (present P) (places g)) k ≡ has (filter (present P) order) k
+    same k = same_truth (has (filter (present P) (places g)) k) (has (filter (present P) order) k)
+        (λ h. let r = filter_has (present P) (places g) k h in has_filter (present P) order k (sym (moved k) ∙ r.0) r.1)
+        (λ h. let r = filter_has (present P) order k h in has_filter (present P) (places g) k (moved k ∙ r.0) r.1)
 
 pub fits_chosen : (g : Digraph) (P : List Bool) (chosen labels lent : List ℕ) → IsForest g P chosen labels → lent ≡ chosen → All (λ k. k < length g.edges) lent
 fits_chosen g P chosen labels lent grown e =

@@ -1,10 +1,9 @@
 -- Each step of a growing forest.
-use Rattle.std.proofs.Common.{◌≡◌, ℕ, zero, suc, ◌+◌, ◌<◌, ◌≤◌, Bool, true, false, List, [], ◌∷◌, ◌++◌, length, filter, get_or, refl, sym, ap, subst, ◌∙◌, inl, inr, arith, length-append, take}
-use Rattle.std.specs.List.Sorted.{IsNonDecreasingBy}
+use Rattle.std.proofs.Common.{◌≡◌, ℕ, zero, suc, ◌+◌, ◌<◌, ◌≤◌, Bool, true, false, List, [], ◌∷◌, ◌++◌, length, filter, refl, sym, ap, subst, ◌∙◌, inl, inr, arith, length-append}
 use Rattle.std.specs.Prelude.{IsTrue, if◌then◌else◌, nat_le}
 use Rattle.std.specs.List.{list_all}
 use Rattle.std.proofs.lemmas.Bool.{and_parts, and_from, le-leb}
-use Rattle.std.proofs.lemmas.List.{map-append, take_more, get_or-take, length-take}
+use Rattle.std.proofs.lemmas.List.{map-append}
 use Rattle.std.proofs.lemmas.List.Folds.{list_all-map}
 use Rattle.std.proofs.lemmas.List.Elements.{filter-append, Contains-append_left}
 use Rattle.mono_graph.specs.declared.edge.Edge.{Edge}
@@ -14,19 +13,7 @@ use Rattle.mono_graph.proofs.Components.{component_count-none, component_count-l
 use Rattle.mono_graph.proofs.Joins.{by_forth, joins-refl, joins-append_right, joins-within, joins-push}
 use Rattle.mono_graph.proofs.Membership.{all_from, has_cons, has_append_cases, has_append_left, has_append_right}
 use Rattle.mono_trees.specs.Tells.{Tells, same_label}
-use Rattle.mono_trees.specs.Grown.{IsGrown}
-
-record Index (ks : List ℕ) (j : ℕ) : Type 0 where
-  at : ℕ
-  below : at < length ks
-  is : get_or ks at 0 ≡ j
-
-index_of : (ks : List ℕ) (j : ℕ) → IsTrue (has ks j) → Index ks j
-index_of [] j h = absurd cc
-index_of (k ∷ ks) j h = elim (has_cons k j ks h) [
-  | inl e ↦ record { at = 0; below = omega arith; is = e }
-  | inr t ↦ let r = index_of ks j t in record { at = suc r.at; below = omega (arith, r.below); is = r.is }
-]
+use Rattle.mono_trees.specs.Grown.{AreNoHeavier, IsGrown}
 
 count-most : (p : ℕ → Bool) (n : ℕ) → count_below p n ≤ n
 count-most p zero = omega arith
@@ -52,7 +39,7 @@ filter_whole p (e ∷ es) h =
     let t : p e ≡ true = a.0 in
     rw t (ap (λ (xs : List Edge). e ∷ xs) (filter_whole p es a.1))
 
-one_of : (k j : ℕ) → IsTrue (has (k ∷ []) j) → k ≡ j
+pub one_of : (k j : ℕ) → IsTrue (has (k ∷ []) j) → k ≡ j
 one_of k j h = elim (has_cons k j [] h) [ inl e ↦ e | inr n ↦ absurd cc ]
 
 -- an edge whose ends are joined already is left out
@@ -139,37 +126,22 @@ grown_take g done chosen labels new k grown from to apart len tells = record {
         ap (λ (xs : List Edge). component_count xs g.nodes) (edges_at-push g chosen k) in
         omega (arith, less, a, b, s, grown.count, length-append chosen (k ∷ []))
 
--- the order of the edges
-pub risen : (g : Digraph) (order : List ℕ) (i k : ℕ) → IsNonDecreasingBy (λ j. (edge_at g j).weight) order → i < length order → k ≡ get_or order i 0
-    → (j : ℕ) → IsTrue (has (take i order) j) → (edge_at g j).weight ≤ (edge_at g k).weight
-risen g order i k rising lt is j h =
-    let w = index_of (take i order) j h in
-    let below : w.at < i = omega (arith, w.below, length-take i order) in
-    let same : get_or order w.at 0 ≡ j = sym (get_or-take i order w.at 0 below) ∙ w.is in
-    let le : (edge_at g (get_or order w.at 0)).weight ≤ (edge_at g (get_or order i 0)).weight = rising w.at i 0 (omega arith) lt in
-    subst (λ (x : ℕ). (edge_at g x).weight ≤ (edge_at g k).weight) same (subst (λ (x : ℕ). (edge_at g (get_or order w.at 0)).weight ≤ (edge_at g x).weight) (sym is) le)
-
-pub grown_at : (g : Digraph) (order chosen labels : List ℕ) (i : ℕ) → i < length order → IsGrown g (take i order ++ get_or order i 0 ∷ []) chosen labels → IsGrown g (take (i + 1) order) chosen labels
-grown_at g order chosen labels i lt h = subst (λ (ks : List ℕ). IsGrown g ks chosen labels) (sym (take_more order i 0 lt)) h
-
 pub grown_as : (g : Digraph) (done chosen chosen' labels labels' : List ℕ) → chosen' ≡ chosen → labels' ≡ labels → IsGrown g done chosen labels → IsGrown g done chosen' labels'
 grown_as g done chosen chosen' labels labels' e f h = subst (λ (ks : List ℕ). IsGrown g done ks labels') (sym e) (subst (λ (ls : List ℕ). IsGrown g done chosen ls) (sym f) h)
 
-pub step_skip : (g : Digraph) (order chosen labels : List ℕ) (i : ℕ) (edge : Edge) (r : Bool) → IsNonDecreasingBy (λ j. (edge_at g j).weight) order → i < length order
-    → edge ≡ edge_at g (get_or order i 0) → edge.from < g.nodes → edge.to < g.nodes → IsGrown g (take i order) chosen labels
-    → r ≡ same_label labels edge.from edge.to → r ≡ true → IsGrown g (take (i + 1) order) chosen labels
-step_skip g order chosen labels i edge r rising lt is from to grown says on =
-    grown_at g order chosen labels i lt (grown_skip g (take i order) chosen labels (get_or order i 0) grown (risen g order i (get_or order i 0) rising lt refl)
-    (subst (λ (e : Edge). e.from < g.nodes) is from) (subst (λ (e : Edge). e.to < g.nodes) is to)
-    (subst (λ (e : Edge). same_label labels e.from e.to ≡ true) is (sym says ∙ on)))
+-- ---- through the edge that was read
 
-pub step_take : (g : Digraph) (order chosen labels new : List ℕ) (i : ℕ) (edge : Edge) (r : Bool) → i < length order
-    → edge ≡ edge_at g (get_or order i 0) → edge.from < g.nodes → edge.to < g.nodes → IsGrown g (take i order) chosen labels
+pub choose_skip : (g : Digraph) (done chosen labels : List ℕ) (k : ℕ) (edge : Edge) (r : Bool) → edge ≡ edge_at g k → edge.from < g.nodes → edge.to < g.nodes
+    → r ≡ same_label labels edge.from edge.to → r ≡ true → IsGrown g done chosen labels → AreNoHeavier g done (edge_at g k).weight → IsGrown g (done ++ k ∷ []) chosen labels
+choose_skip g done chosen labels k edge r is from to says on grown up =
+    grown_skip g done chosen labels k grown up (subst (λ (e : Edge). e.from < g.nodes) is from) (subst (λ (e : Edge). e.to < g.nodes) is to)
+    (subst (λ (e : Edge). same_label labels e.from e.to ≡ true) is (sym says ∙ on))
+
+pub choose_take : (g : Digraph) (done chosen labels new : List ℕ) (k : ℕ) (edge : Edge) (r : Bool) → edge ≡ edge_at g k → edge.from < g.nodes → edge.to < g.nodes
     → r ≡ same_label labels edge.from edge.to → r ≡ false → length new ≡ length labels
     → ((es : List Edge) (e : Edge) → e.from ≡ edge.from → e.to ≡ edge.to → Tells es labels → Tells (es ++ e ∷ []) new)
-    → IsGrown g (take (i + 1) order) (chosen ++ get_or order i 0 ∷ []) new
-step_take g order chosen labels new i edge r lt is from to grown says off len tells =
-    grown_at g order (chosen ++ get_or order i 0 ∷ []) new i lt (grown_take g (take i order) chosen labels new (get_or order i 0) grown
-    (subst (λ (e : Edge). e.from < g.nodes) is from) (subst (λ (e : Edge). e.to < g.nodes) is to)
+    → IsGrown g done chosen labels → IsGrown g (done ++ k ∷ []) (chosen ++ k ∷ []) new
+choose_take g done chosen labels new k edge r is from to says off len tells grown =
+    grown_take g done chosen labels new k grown (subst (λ (e : Edge). e.from < g.nodes) is from) (subst (λ (e : Edge). e.to < g.nodes) is to)
     (subst (λ (e : Edge). same_label labels e.from e.to ≡ false) is (sym says ∙ off)) len
-    (tells (edges_at g chosen) (edge_at g (get_or order i 0)) (ap (λ (e : Edge). e.from) (sym is)) (ap (λ (e : Edge). e.to) (sym is)) grown.tells))
+    (tells (edges_at g chosen) (edge_at g k) (ap (λ (e : Edge). e.from) (sym is)) (ap (λ (e : Edge). e.to) (sym is)) grown.tells)

@@ -6,5 +6,6 @@ pub mod Splits
 pub mod Growing
 pub mod Finding
 pub mod Ordering
+pub mod Going
 pub mod Sweeping
 pub mod Decides

@@ -9,6 +9,7 @@ ghost use Rattle.mono_graph.specs.Digraph.{IsPartOf};
 ghost use Rattle.mono_trees.specs.Found.{Passes, IsKnown};
 
 use crate::components::Components;
+use crate::edge_order::EdgeOrder;
 use crate::forest::{first_component, lightest_forest};
 use crate::spanning::is_light;
 use mono_graph::{Graph, Part};
@@ -27,9 +28,13 @@ pub enum TreeFound {
 }
 
 /// Finds light spanning trees of graphs with one number of nodes, which is its value.
+///
+/// The order of the edges by weight is kept from search to search: the first search in a graph sorts its edges, and those
+/// that follow in the same graph go over them in that order, in E + N log N steps among E edges and N nodes.
 #[derive(Drop)]
 pub struct TreeFinder {
     components: Components,
+    order: EdgeOrder,
 }
 
 impl Model for TreeFinder {
@@ -47,6 +52,7 @@ impl TreeFinder {
     {
         Ok(TreeFinder {
             components: Components::new(alloc, nodes)?,
+            order: EdgeOrder::empty(alloc),
         })
     }
 
@@ -64,13 +70,21 @@ impl TreeFinder {
         ensures finder { self.new ≡ self.old }
     {
         let alloc = self.components.allocator();
-        find(alloc, &mut self.components, graph, part, most)
+        find(
+            alloc,
+            &mut self.components,
+            &mut self.order,
+            graph,
+            part,
+            most,
+        )
     }
 }
 
 fn find(
     alloc: Global,
     components: &mut Components,
+    order: &mut EdgeOrder,
     graph: &Graph,
     part: &Part,
     most: i64,
@@ -82,7 +96,7 @@ fn find(
     ensures nodes { length components.new ≡ graph.now.nodes }
 {
     let count = graph.nodes();
-    let chosen = lightest_forest(alloc, components, graph, part)?;
+    let chosen = lightest_forest(alloc, components, order, graph, part)?;
     if !components.are_all_joined() {
         let set = first_component(alloc, components, count)?;
         return Ok(TreeFound::Split(set));

@@ -5,6 +5,8 @@
 mod checker;
 /// The components that edges form.
 mod components;
+/// An order of edges that is kept from search to search.
+mod edge_order;
 /// The search for a light tree.
 mod finder;
 /// Forests of light edges.

@@ -50,6 +50,27 @@ pub fn by_weight(alloc: Global, graph: &Graph, places: &[u32]) -> Result<Vec<u32
     Ok(order)
 }
 
+/// The places of all edges, in the order of the graph.
+fn all_places(alloc: Global, graph: &Graph) -> Result<Vec<u32>, AllocError>
+    ensures { IfOk result (λ v. v.items ≡ places graph.now) }
+{
+    let mut found = Vec::new(alloc);
+    for place in 0..graph.edge_count() {
+        found.push(place)?;
+    }
+    Ok(found)
+}
+
+/// The places of all edges, in the order of their weights.
+pub fn all_by_weight(alloc: Global, graph: &Graph) -> Result<Vec<u32>, AllocError>
+    ensures permutation { IfOk result (λ order. IsPermutation (places graph.now) order.items) }
+    ensures rising { IfOk result (λ order. IsNonDecreasingBy (λ k. (edge_at graph.now k).weight) order.items) }
+{
+    let all = all_places(alloc, graph)?;
+    let order = by_weight(alloc, graph, &all)?;
+    Ok(order)
+}
+
 /// The places of the present edges, in the order of the graph.
 fn present_places(alloc: Global, graph: &Graph, part: &Part) -> Result<Vec<u32>, AllocError>
     requires { IsPartOf part.now graph.now }

@@ -1,4 +1,4 @@
-use Rattle.std.proofs.Common.{length, ◌<◌, ◌^◌, arith, sym, subst, List}
+use Rattle.std.proofs.Common.{arith, sym, subst, List}
 use Rattle.mono_steps.specs.declared.step.Step.{Step}
 use Rattle.mono_answer.specs.declared.answer.Answer.TheVariants as answer
 use Rattle.mono_cmd.specs.Solved.{IsSolution}

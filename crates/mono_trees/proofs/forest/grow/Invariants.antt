@@ -1,6 +1,5 @@
-use Rattle.std.proofs.Common.{take}
-use Rattle.mono_trees.specs.Grown.{IsGrown}
+use Rattle.mono_trees.proofs.Going.{IsGrowing}
 use Rattle.mono_trees.proofs.forest.grow.Given as goal
 
 abbrev pub invariant-loop-place : goal.invariant-loop-place
-invariant-loop-place l = IsGrown l.graph (take l.place-index l.order) l.chosen.items l.components
+invariant-loop-place l = IsGrowing l.graph l.part l.order l.place-index l.heaviest l.chosen.items l.components

@@ -13,15 +13,15 @@ pub returns-in-Steps-clause-holds : goal.returns-in-Steps-clause-holds
 returns-in-Steps-clause-holds c =
     let fits : SFits w64 c.in-Steps.most = search rules in
     let kept : to_z w64 (of_z w64 c.in-Steps.most) ≡ c.in-Steps.most = to_z-of_z w64 c.in-Steps.most fits in
-    let holds = subst (λ (z : ℤ). IfOk c.reaches_in_steps.result (λ yes. IsTrue yes ↔ Holds c.args.graph.now c.args.self.now.part (kind.Steps c.in-Steps.from c.in-Steps.to z))) kept c.reaches_in_steps.ensures.holds in
-    subst (λ (q : Predicate). IfOk c.reaches_in_steps.result (λ yes. IsTrue yes ↔ Holds c.args.graph.now c.args.self.now.part q)) (sym c.in-Steps.is) holds
+    let holds = subst (λ (z : ℤ). IfOk c.reaches_within.result (λ yes. IsTrue yes ↔ Holds c.args.graph.now c.args.self.now.part (kind.Steps c.in-Steps.from c.in-Steps.to z))) kept c.reaches_within.ensures.holds in
+    subst (λ (q : Predicate). IfOk c.reaches_within.result (λ yes. IsTrue yes ↔ Holds c.args.graph.now c.args.self.now.part q)) (sym c.in-Steps.is) holds
 
 pub returns-in-Distance-clause-holds : goal.returns-in-Distance-clause-holds
 returns-in-Distance-clause-holds c =
     let fits : SFits w64 c.in-Distance.most = search rules in
     let kept : to_z w64 (of_z w64 c.in-Distance.most) ≡ c.in-Distance.most = to_z-of_z w64 c.in-Distance.most fits in
-    let holds = subst (λ (z : ℤ). IfOk c.reaches_in_weight.result (λ yes. IsTrue yes ↔ Holds c.args.graph.now c.args.self.now.part (kind.Distance c.in-Distance.from c.in-Distance.to z))) kept c.reaches_in_weight.ensures.holds in
-    subst (λ (q : Predicate). IfOk c.reaches_in_weight.result (λ yes. IsTrue yes ↔ Holds c.args.graph.now c.args.self.now.part q)) (sym c.in-Distance.is) holds
+    let holds = subst (λ (z : ℤ). IfOk c.reaches_within-in-Distance.result (λ yes. IsTrue yes ↔ Holds c.args.graph.now c.args.self.now.part (kind.Distance c.in-Distance.from c.in-Distance.to z))) kept c.reaches_within-in-Distance.ensures.holds in
+    subst (λ (q : Predicate). IfOk c.reaches_within-in-Distance.result (λ yes. IsTrue yes ↔ Holds c.args.graph.now c.args.self.now.part q)) (sym c.in-Distance.is) holds
 
 pub returns-in-Flow-clause-holds : goal.returns-in-Flow-clause-holds
 returns-in-Flow-clause-holds c =

@@ -1,6 +1,6 @@
-use Rattle.std.proofs.Common.{ℕ, [], List, Bool, subst}
+use Rattle.std.proofs.Common.{◌≡◌, ℕ, [], List, Bool, subst}
 use Rattle.mono_graph.specs.Digraph.{no_edge}
-use Rattle.mono_dynamic.specs.Costs.{Costs, IsLater, AreRelaxed, AreLeast}
+use Rattle.mono_dynamic.specs.Costs.{Costs, label_of, IsLater, AreRelaxed, AreLeast, AreLed}
 use Rattle.mono_dynamic.specs.Arrivals.{IsGrown}
 use Rattle.mono_dynamic.proofs.CostLists.{later_earlier, later_stamps}
 use Rattle.mono_dynamic.proofs.LeastExact.{HasNodes, least_relaxed, least_along_grown}
@@ -16,6 +16,10 @@ least c u P l grown =
     least_relaxed c.args.graph.now P c.args.part.now u c.args.places.now c.args.self.now c.relax_from.new.table ends (later c).len grown
     (subst (λ (t : Costs). AreRelaxed c.args.graph.now c.args.part.now c.args.places.now [] t c.relax_from.new.table [] [] []) c.self.view_is c.in-Ok.ensures.relaxed) l
 
+led : (c : goal.In-Ok) → (u : ℕ) → label_of c.args.self.now.labels u ≡ 0 → AreLed c.args.graph.now c.args.part.now u c.args.self.now → AreLed c.args.graph.now c.args.part.now u c.relax_from.new.table
+led c u none l =
+    (subst (λ (t : Costs). AreRelaxed c.args.graph.now c.args.part.now c.args.places.now [] t c.relax_from.new.table [] [] []) c.self.view_is c.in-Ok.ensures.relaxed).led u none l
+
 pub returns-in-Ok-clause-earlier : goal.returns-in-Ok-clause-earlier
 returns-in-Ok-clause-earlier c = λ m less. later_earlier c.args.stamp m c.args.self.now c.relax_from.new.table (later c) less
 
@@ -25,4 +29,4 @@ returns-in-Ok-clause-least c = least c
 pub returns-in-Ok-clause-along : goal.returns-in-Ok-clause-along
 returns-in-Ok-clause-along c = λ parts n u r grows.
     least_along_grown c.args.graph.now parts n c.args.stamp u c.args.self.now c.relax_from.new.table c.args.part.now c.args.places.now r grows (later c)
-    (later_stamps c.args.stamp c.args.self.now c.relax_from.new.table (later c) c.requires.stamps) (least c u)
+    (later_stamps c.args.stamp c.args.self.now c.relax_from.new.table (later c) c.requires.stamps) (least c u) (led c u)

@@ -1,4 +1,4 @@
-use Rattle.std.proofs.Common.{◌≡◌, ◌≤◌, false, true, length, arith, sym, ap, subst, ◌∙◌}
+use Rattle.std.proofs.Common.{◌≡◌, ◌≤◌, true, length, sym, ap, subst, ◌∙◌}
 use Rattle.mono_theory.specs.Supports.{AreCovered}
 use Rattle.mono_theory.specs.Theories.{Facts}
 use Rattle.mono_theory.proofs.NumberLaws.{atoms_known, atoms_few, atoms_covered}
@@ -11,7 +11,14 @@ new-requires-clause-known g c =
 pub new-requires-clause-few : goal.new-requires-clause-few
 new-requires-clause-few g c =
     let few : length c.in_ok-held.held.items ≤ 100000 = rw c.in_ok-held.ensures (atoms_few g.K.Kind.covers c.args.problem.now c.args.graph c.args.atoms.now c.vars.ensures.problem c.requires.atoms) in
-    omega (arith, few)
+    few
+
+pub of_frame-requires-clause-covered : goal.of_frame-requires-clause-covered
+of_frame-requires-clause-covered g c =
+    subst (λ (h : Facts). AreCovered g.K.Kind.covers h.atoms) (sym c.in_ok-frame.ensures) (rw c.in_ok-held.ensures (atoms_covered g.K.Kind.covers c.args.problem.now c.args.graph c.args.atoms.now c.requires.atoms))
+
+pub of_frame-requires-clause-unseen : goal.of_frame-requires-clause-unseen
+of_frame-requires-clause-unseen g c = ap (λ (h : Facts). h.seen) c.in_ok-frame.ensures
 
 pub invariant_of-result : goal.invariant_of-result
 invariant_of-result g c =
@@ -22,6 +29,6 @@ invariant_of-result g c =
     record {
       covered = subst (λ (h : Facts). AreCovered g.K.Kind.covers h.atoms) (sym e) (rw c.in_ok-held.ensures (atoms_covered g.K.Kind.covers c.args.problem.now c.args.graph c.args.atoms.now c.requires.atoms));
       size = c.in_ok-kind.ensures ∙ c.nodes.ensures.count ∙ sym (ap (λ (h : Facts). h.graph.nodes) e);
-      surely = c.in_ok-surely.ensures f false atoms edges;
-      possibly = c.in_ok-possibly.ensures f true atoms edges;
+      surely = c.in_ok-surely.ensures;
+      possibly = record { side = c.in_ok-possibly.ensures.side f true atoms edges; thorough = c.in_ok-possibly.ensures.thorough ∙ c.IS_THOROUGH.ensures };
     }

@@ -1,4 +1,4 @@
-use Rattle.std.proofs.Common.{false, true}
+use Rattle.std.proofs.Common.{true}
 use Rattle.mono_theory.proofs.KeptLaws.{kept_cut}
 use Rattle.mono_theory.proofs.graph_theory.GraphTheoryTheory.undo_to.Goals as goal
 
@@ -6,5 +6,4 @@ pub invariant_of-self : goal.invariant_of-self
 invariant_of-self g c =
     let f = c.self.inside.frame in
     let fits = rw (← c.self.view_is) at c.requires in
-    rw c.undo_to-3.ensures
-    (kept_cut c.args.kept c.undo_to.new.self c.undo_to-2.new.self (c.undo_to.ensures f false fits c.self.invariant.surely) (c.undo_to-2.ensures f true fits c.self.invariant.possibly) c.self.invariant)
+    rw c.undo_to-2.ensures (kept_cut c.args.kept c.undo_to.new.self c.go_back.ensures.right (c.undo_to.ensures.side f true fits c.self.invariant.possibly.side) c.undo_to.ensures.exact c.self.invariant)

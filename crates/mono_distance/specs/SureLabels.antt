@@ -1,0 +1,141 @@
+-- What is kept of the labels of nodes along the surely present edges: a row for each first node and measure of an atom.
+use Rattle.std.specs.Prelude.{◌≡◌, ℕ, ◌<◌, ◌≤◌, ◌⊎◌, Bool, true, false, pos, int_lt, int_le, List, None, IfSome, take, length, slice_index_or, All}
+use Rattle.mono_graph.specs.declared.limit.Limit.{Limit}
+use Rattle.mono_graph.specs.declared.limit.Limit.TheVariants as limit
+use Rattle.mono_graph.specs.Digraph.{Digraph}
+use Rattle.mono_graph.specs.Walks.{bound_of}
+use Rattle.mono_dynamic.specs.declared.cost_source.CostSource.{CostSource}
+use Rattle.mono_dynamic.specs.Arrivals.{GrowsAfter}
+use Rattle.mono_dynamic.specs.Costs.{Costs, label_of}
+use Rattle.mono_dynamic.specs.LeastRows.{costs_at, AreAllLeast, AreLaterRows}
+use Rattle.mono_problem.specs.declared.atom.Atom.{Atom}
+use Rattle.mono_problem.specs.declared.atom.Predicate.{Predicate}
+use Rattle.mono_problem.specs.declared.atom.Predicate.TheVariants as kind
+use Rattle.mono_problem.specs.Quiet.{under}
+use Rattle.mono_theory.specs.Bound.{Bound, edge_vars, IsBoundOf}
+use Rattle.mono_theory.specs.Supports.{atom_at, AreCovered, IsSettled}
+use Rattle.mono_theory.specs.Theories.{Facts}
+use Rattle.mono_distance.specs.Distances.{is_distance}
+use Rattle.mono_distance.specs.declared.sources.NodeRows.{NodeRows}
+
+-- the nodes between which a walk is to lead, and its limit
+abbrev pub first_node : Predicate → ℕ
+first_node (kind.Reach u v) = u
+first_node (kind.Steps u v most) = u
+first_node (kind.Distance u v most) = u
+first_node q = 0
+
+abbrev pub last_node : Predicate → ℕ
+last_node (kind.Reach u v) = v
+last_node (kind.Steps u v most) = v
+last_node (kind.Distance u v most) = v
+last_node q = 0
+
+abbrev pub limit_of : Predicate → Limit
+limit_of (kind.Steps u v most) = limit.Steps most
+limit_of (kind.Distance u v most) = limit.Weight most
+limit_of q = limit.Free
+
+-- the limits measure walks alike
+abbrev pub is_alike : Limit → Limit → Bool
+is_alike limit.Free limit.Free = true
+is_alike (limit.Steps a) (limit.Steps b) = true
+is_alike (limit.Weight a) (limit.Weight b) = true
+is_alike l k = false
+
+-- the label is within the bound of the limit
+abbrev pub is_within : ℕ → Limit → Bool
+is_within label l = int_le (pos label) (bound_of l)
+
+-- The rows are of the first `looked` literals seen, and so are the bounds. Each atom has a row, and so many first atoms are
+-- known to owe nothing.
+pub record SureLabels : Type 0 where
+  pub bounds : Bound
+  pub looked : ℕ
+  pub rows : List Costs
+  pub row_of : List ℕ
+  pub quiet : ℕ
+
+-- the surely present edges of the first m literals
+abbrev pub sure_parts : Facts → ℕ → List Bool
+sure_parts f m = under f.graph (take m f.seen)
+
+abbrev pub row_of_atom : SureLabels → ℕ → ℕ
+row_of_atom s a = slice_index_or s.row_of a 0
+
+-- the label of a node in the row of an atom
+abbrev pub under_label : SureLabels → ℕ → ℕ → ℕ
+under_label s a v = label_of (costs_at s.rows (row_of_atom s a)).labels v
+
+-- the row is from the predicate's first node, by its measure, and has labels beyond its bound
+pub record IsRowFor (sources : List ℕ) (rows : List Costs) (r : ℕ) (q : Predicate) : Type 0 where
+  pub held : r < length rows
+  pub source : slice_index_or sources r 0 ≡ first_node q
+  pub alike : is_alike (costs_at rows r).limit (limit_of q) ≡ true
+  pub beyond : int_lt (bound_of (limit_of q)) (pos (costs_at rows r).cap) ≡ true
+
+-- the atom's variable is true, or the label of its last node isn't within its bound
+abbrev pub OwesNothing : Facts → SureLabels → ℕ → Type 0
+OwesNothing f s a = IsSettled (take s.looked f.seen) false (atom_at f.atoms a) ⊎ (is_within (under_label s a (last_node (atom_at f.atoms a).predicate)) (limit_of (atom_at f.atoms a).predicate) ≡ false)
+
+-- each row has the least costs after each number of literals up to those looked at
+pub record AreSureLabels (f : Facts) (s : SureLabels) : Type 0 where
+  pub covered : AreCovered is_distance f.atoms
+  pub bounds : IsBoundOf s.bounds (edge_vars f.graph) (take s.looked f.seen)
+  pub looked : s.looked ≤ length f.seen
+  pub sources : List ℕ
+  pub rows : AreAllLeast f.graph (sure_parts f) s.looked sources s.rows
+  pub row_of_len : length s.row_of ≡ length f.atoms
+  pub each : (a : ℕ) → a < length f.atoms → IsRowFor sources s.rows (row_of_atom s a) (atom_at f.atoms a).predicate
+  pub quiet_len : s.quiet ≤ length f.atoms
+  pub quiet : (a : ℕ) → a < s.quiet → OwesNothing f s a
+
+-- edges have come, and the rows have grown
+pub record AreGrownLabels (g : Digraph) (Q : List Bool) (ks : List ℕ) (stamp : ℕ) (olds news : List Costs) : Type 0 where
+  pub later : AreLaterRows stamp olds news
+  pub along : (parts : ℕ → List Bool) (n : ℕ) (sources : List ℕ) → AreAllLeast g parts n sources olds → GrowsAfter parts n stamp Q ks → AreAllLeast g parts stamp sources news
+
+-- ---- the rows of the atoms at first
+
+abbrev pub no_source : CostSource
+no_source = record { node = 0; limit = limit.Free; cap = 0 }
+
+abbrev pub source_at : List CostSource → ℕ → CostSource
+source_at ss r = slice_index_or ss r no_source
+
+-- the row is that of the node, by the measure
+pub record IsRowOf (sources : List CostSource) (u : ℕ) (l : Limit) (r : ℕ) : Type 0 where
+  pub held : r < length sources
+  pub node : (source_at sources r).node ≡ u
+  pub alike : is_alike (source_at sources r).limit l ≡ true
+
+-- the rows of the node
+pub record AreRowsOf (sources : List CostSource) (u : ℕ) (n : NodeRows) : Type 0 where
+  pub steps : IfSome n.steps (IsRowOf sources u (limit.Steps (pos 0)))
+  pub weight : IfSome n.weight (IsRowOf sources u (limit.Weight (pos 0)))
+
+abbrev pub no_rows : NodeRows
+no_rows = record { steps = None; weight = None }
+
+-- by node its rows
+pub record IsRowTable (table : List NodeRows) (sources : List CostSource) : Type 0 where
+  pub known : All (λ s. s.node < length table) sources
+  pub each : (u : ℕ) → u < length table → AreRowsOf sources u (slice_index_or table u no_rows)
+
+-- what is to be in a row
+pub record IsSourceFor (q : Predicate) (s : CostSource) : Type 0 where
+  pub node : s.node ≡ first_node q
+  pub alike : is_alike s.limit (limit_of q) ≡ true
+  pub beyond : int_lt (bound_of (limit_of q)) (pos s.cap) ≡ true
+
+-- more rows are there, and greater caps
+pub record AreMoreSources (olds news : List CostSource) : Type 0 where
+  pub len : length olds ≤ length news
+  pub node : (r : ℕ) → r < length olds → (source_at news r).node ≡ (source_at olds r).node
+  pub limit : (r : ℕ) → r < length olds → (source_at news r).limit ≡ (source_at olds r).limit
+  pub cap : (r : ℕ) → r < length olds → (source_at olds r).cap ≤ (source_at news r).cap
+
+-- each of the first n atoms has a row that serves its predicate
+pub record HaveRows (atoms : List Atom) (n : ℕ) (row_of : List ℕ) (sources : List CostSource) : Type 0 where
+  pub len : length row_of ≡ n
+  pub each : (a : ℕ) → a < n → (slice_index_or row_of a 0 < length sources) × IsSourceFor (atom_at atoms a).predicate (source_at sources (slice_index_or row_of a 0))

@@ -1,0 +1,89 @@
+-- Of some absent edges those that are needed, as far as the list was looked through.
+use Rattle.std.proofs.Common.{◌≡◌, ℕ, ◌+◌, ◌-◌, ◌<◌, ◌≤◌, Bool, true, false, not, List, [], ◌∷◌, ◌++◌, length, get_or, take, filter, refl, sym, ap, subst, ◌∙◌, inl, inr, arith}
+use Rattle.std.specs.Prelude.{IsTrue, if◌then◌else◌}
+use Rattle.std.proofs.lemmas.Bool.{both_ways, not_from_false, not-true, false_from_ne_true}
+use Rattle.std.proofs.lemmas.List.{take_more, take_all}
+use Rattle.mono_graph.specs.Digraph.{Digraph, edge_at, has, weight_of}
+use Rattle.mono_graph.proofs.FlowLaws.{total, total_is}
+use Rattle.mono_graph.proofs.Membership.{has_append_left, has_append_right, has_append_cases}
+use Rattle.mono_graph.proofs.Prefixes.{has_old, has_new}
+use Rattle.mono_flow.specs.Flowing.{AreNeeded}
+
+-- fewer terms make no greater sum
+pub total_fewer : (f : ℕ → ℕ) (p q : ℕ → Bool) (ks : List ℕ) → ((k : ℕ) → IsTrue (p k) → IsTrue (q k)) → total f p ks ≤ total f q ks
+total_fewer f p q [] h = omega arith
+total_fewer f p q (k ∷ ks) h = by (p k) (q k) (h k) (total_fewer f p q ks h)
+  where
+    by : (a b : Bool) → (IsTrue a → IsTrue b) → total f p ks ≤ total f q ks → (if a then f k else 0) + total f p ks ≤ (if b then f k else 0) + total f q ks
+    by true true i le = omega (arith, le)
+    by true false i le = absurd (both_ways false refl (i refl))
+    by false true i le = omega (arith, le)
+    by false false i le = omega (arith, le)
+
+total_push : (f : ℕ → ℕ) (p : ℕ → Bool) (ks : List ℕ) (k : ℕ) → total f p (ks ++ k ∷ []) ≡ total f p ks + (if p k then f k else 0)
+total_push f p [] k = omega arith
+total_push f p (j ∷ ks) k = omega (arith, total_push f p ks k)
+
+-- what the edges weigh that aren't named
+abbrev pub rest_of : Digraph → List ℕ → List ℕ → ℕ
+rest_of g named ks = total (λ k. (edge_at g k).weight) (λ k. not (has named k)) ks
+
+-- the first edges were looked at: those that aren't named weigh at most what was taken from the spare weight
+pub record AreNeededSoFar (g : Digraph) (spare : ℕ) (absent named : List ℕ) (left i : ℕ) : Type 0 where
+  pub listed : (k : ℕ) → IsTrue (has named k) → IsTrue (has (take i absent) k)
+  pub others : rest_of g named (take i absent) + left ≤ spare
+
+pub so_far_none : (g : Digraph) (spare : ℕ) (absent : List ℕ) → AreNeededSoFar g spare absent [] spare 0
+so_far_none g spare absent = record { listed = λ k h. absurd cc; others = omega arith }
+
+at_most : (b : Bool) (w : ℕ) → (if b then w else 0) ≤ w
+at_most true w = omega arith
+at_most false w = omega arith
+
+-- the next edge may come
+pub so_far_left : {g : Digraph} {spare left i : ℕ} {absent named : List ℕ} (k : ℕ) → i < length absent → k ≡ get_or absent i 0 → (edge_at g k).weight ≤ left → AreNeededSoFar g spare absent named left i
+    → AreNeededSoFar g spare absent named (left - (edge_at g k).weight) (i + 1)
+so_far_left {g = g} {left = left} {i = i} {absent = absent} {named = named} k lt is le h =
+    let next : take (i + 1) absent ≡ take i absent ++ k ∷ [] = take_more absent i 0 lt ∙ ap (λ (v : ℕ). take i absent ++ v ∷ []) (sym is) in
+    record {
+      listed = λ j t. subst (λ (ks : List ℕ). IsTrue (has ks j)) (sym next) (has_append_left (take i absent) (k ∷ []) j (h.listed j t));
+      others =
+          let sum : rest_of g named (take (i + 1) absent) ≡ rest_of g named (take i absent) + (if not (has named k) then (edge_at g k).weight else 0) =
+          ap (rest_of g named) next ∙ total_push (λ j. (edge_at g j).weight) (λ j. not (has named j)) (take i absent) k in
+          let few = at_most (not (has named k)) (edge_at g k).weight in
+          let others = h.others in
+          omega (arith, sum, few, others, le);
+    }
+
+-- the next edge is named
+pub so_far_named : {g : Digraph} {spare left i : ℕ} {absent named : List ℕ} (k : ℕ) → i < length absent → k ≡ get_or absent i 0 → AreNeededSoFar g spare absent named left i
+    → AreNeededSoFar g spare absent (named ++ k ∷ []) left (i + 1)
+so_far_named {g = g} {left = left} {i = i} {absent = absent} {named = named} k lt is h =
+    let next : take (i + 1) absent ≡ take i absent ++ k ∷ [] = take_more absent i 0 lt ∙ ap (λ (v : ℕ). take i absent ++ v ∷ []) (sym is) in
+    record {
+      listed = λ j t. subst (λ (ks : List ℕ). IsTrue (has ks j)) (sym next) (elim (has_append_cases named (k ∷ []) j t) [
+        | inl old ↦ has_append_left (take i absent) (k ∷ []) j (h.listed j old)
+        | inr new ↦ has_append_right (take i absent) (k ∷ []) j new
+      ]);
+      others =
+          let sum : rest_of g (named ++ k ∷ []) (take (i + 1) absent) ≡ rest_of g (named ++ k ∷ []) (take i absent) + (if not (has (named ++ k ∷ []) k) then (edge_at g k).weight else 0) =
+          ap (rest_of g (named ++ k ∷ [])) next ∙ total_push (λ j. (edge_at g j).weight) (λ j. not (has (named ++ k ∷ []) j)) (take i absent) k in
+          let none : (if not (has (named ++ k ∷ []) k) then (edge_at g k).weight else 0) ≡ 0 = ap (λ (b : Bool). if not b then (edge_at g k).weight else 0) (has_new named k) in
+          let fewer = total_fewer (λ j. (edge_at g j).weight) (λ j. not (has (named ++ k ∷ []) j)) (λ j. not (has named j)) (take i absent) (λ j t.
+          not_from_false (has named j) (false_from_ne_true (has named j) (λ old. both_ways (has (named ++ k ∷ []) j) (not-true (has (named ++ k ∷ []) j) t) (has_old named k j old)))) in
+          let others = h.others in
+          omega (arith, sum, none, fewer, others);
+    }
+
+-- all edges were looked at
+pub so_far_all : {g : Digraph} {spare left i : ℕ} {absent named : List ℕ} → length absent ≤ i → AreNeededSoFar g spare absent named left i → AreNeeded g spare absent named
+so_far_all {g = g} {i = i} {absent = absent} {named = named} le h =
+    let all : take i absent ≡ absent = take_all i absent le in
+    record {
+      listed = λ k t. subst (λ (ks : List ℕ). IsTrue (has ks k)) all (h.listed k t);
+      others =
+          let sum : weight_of g (filter (λ k. not (has named k)) absent) ≡ rest_of g named absent = total_is (λ k. (edge_at g k).weight) (λ k. not (has named k)) absent in
+          let same : rest_of g named (take i absent) ≡ rest_of g named absent = ap (rest_of g named) all in
+          let others = h.others in
+          omega (arith, sum, same, others);
+    }

@@ -1,0 +1,111 @@
+//! A flow that begins with given amounts.
+//!
+//! The amounts are tested first: no edge is listed twice, each can carry its amount, all nodes but the source and the sink
+//! are balanced, and no amount exceeds the value. What isn't listed carries nothing.
+
+ghost use Rattle.std.specs.Prelude.{◌≡◌, ◌<◌, ◌≤◌, ℕ, false, All, IfOk, IfSome, IsTrue, length, slice_index_or};
+ghost use Rattle.mono_graph.specs.Digraph.{is_distinct};
+ghost use Rattle.mono_graph.specs.Flows.{amount_at};
+ghost use Rattle.mono_flows.specs.Flowing.{IsFlow, IsFlowing};
+ghost use Rattle.mono_flows.specs.Listed.{edges_of};
+ghost use Rattle.mono_flows.specs.Residual.{amount_of};
+ghost use Rattle.mono_flows.specs.Sums.{AreSums, AreZero, MayBeSumsOf};
+
+use crate::flow::Flow;
+use crate::listed_edges::mark_edges;
+use crate::network::Network;
+use crate::node_sums::NodeSums;
+use mono_graph::Amount;
+use std::alloc::{AllocError, Global};
+
+/// Whether no amount is greater.
+fn are_within(amounts: &[Amount], most: u64) -> bool
+    ensures { IsTrue result → All (λ a. a.amount ≤ most) amounts.now }
+{
+    for amount in amounts {
+        if amount.amount > most {
+            return false;
+        }
+    }
+    true
+}
+
+/// The value of the flow that the amounts are, if they are one. What they name may be left marked and summed.
+fn value_in(
+    network: &Network,
+    listed: &mut Vec<bool>,
+    sums: &mut NodeSums,
+    amounts: &[Amount],
+) -> Option<u64>
+    requires known { All (λ a. a.edge < length network.now.graph.now.edges) amounts.now }
+    requires listed_len { length listed.old.items ≡ length network.now.graph.now.edges }
+    requires listed_clear { (k : ℕ) → slice_index_or listed.old.items k false ≡ false }
+    requires sums_len { AreSums network.now.graph.now.nodes sums.old }
+    requires sums_clear { AreZero sums.old }
+    ensures flow { IfSome result (IsFlowing network.now.graph.now network.now.part.now network.now.source network.now.sink (amount_at amounts.now)) }
+    ensures distinct { IfSome result (λ _. IsTrue (is_distinct (edges_of amounts.now))) }
+    ensures sums_len { AreSums network.now.graph.now.nodes sums.new }
+    ensures sums { MayBeSumsOf network.now.graph.now amounts.now sums.new }
+{
+    // A graph has few edges, so no sum overflows.
+    let _ = network.graph.nodes();
+    if !mark_edges(network, listed, amounts) {
+        return None;
+    }
+    sums.add_amounts(network.graph, amounts);
+    if !sums.are_balanced(network, amounts) {
+        return None;
+    }
+    let value = sums.surplus_at(network.source)?;
+    if !are_within(amounts, value) {
+        return None;
+    }
+    Some(value)
+}
+
+/// Carries the amounts, where nothing is carried yet.
+fn put_amounts(carried: &mut Vec<u64>, amounts: &[Amount])
+    requires known { All (λ a. a.edge < length carried.old.items) amounts.now }
+    requires nothing { (k : ℕ) → amount_of carried.old.items k ≡ 0 }
+    requires distinct { IsTrue (is_distinct (edges_of amounts.now)) }
+    ensures len { length carried.new.items ≡ length carried.old.items }
+    ensures amounts { (k : ℕ) → amount_of carried.new.items k ≡ amount_at amounts.now k }
+{
+    for amount in amounts {
+        carried[amount.edge as usize] = amount.amount;
+    }
+}
+
+/// The flow that carries these amounts, if they are one of a value of at most `most`.
+pub(crate) fn kept_flow(
+    alloc: Global,
+    network: &Network,
+    sums: &mut NodeSums,
+    amounts: &[Amount],
+    most: u64,
+) -> Result<Option<Flow>, AllocError>
+    requires known { All (λ a. a.edge < length network.now.graph.now.edges) amounts.now }
+    requires sums { AreSums network.now.graph.now.nodes sums.old }
+    requires clear { AreZero sums.old }
+    ensures flow { IfOk result (λ found. IfSome found (IsFlow network.now)) }
+    ensures most { IfOk result (λ found. IfSome found (λ flow. flow.value ≤ most)) }
+    ensures sums { AreSums network.now.graph.now.nodes sums.new }
+    ensures clear { AreZero sums.new }
+{
+    let edges = network.graph.edge_count() as usize;
+    let mut listed = vec![in alloc; false; edges]?;
+    let mut carried = vec![in alloc; 0; edges]?;
+    let found = value_in(network, &mut listed, sums, amounts);
+    sums.clear(network.graph, amounts);
+    let Some(value) = found else {
+        return Ok(None);
+    };
+    if value > most {
+        return Ok(None);
+    }
+    put_amounts(&mut carried, amounts);
+    Ok(Some(Flow {
+        amounts: carried,
+        value,
+    }))
+}

@@ -1,0 +1,24 @@
+use Rattle.std.proofs.Common.{sym, subst, ◌∙◌}
+use Rattle.mono_problem.specs.Quiet.{over}
+use Rattle.mono_problem.specs.Read.{no_atom}
+use Rattle.mono_theory.specs.Evidences.{Decides}
+use Rattle.mono_theory.specs.Supports.{atom_at}
+use Rattle.mono_reach.proofs.ReaderLaws.{cut_fails, shown_decides, unshown_decides}
+use Rattle.mono_reach.proofs.marks.is_possible.Goals as goal
+
+pub returns-in-None-clause-decides : goal.returns-in-None-clause-decides
+returns-in-None-clause-decides c none last =
+    let atoms = c.graph.ensures.atoms in
+    unshown_decides c.args.place c.requires.place c.graph.ensures.known (atoms.over c.args.place no_atom c.requires.place).1 c.requires.side none (c.in-None.ensures.none c.requires.thorough)
+
+pub returns-in-Some-clause-fails : goal.returns-in-Some-clause-fails
+returns-in-Some-clause-fails c off =
+    let f = c.args.frame.now in
+    cut_fails f.graph (over f.graph f.seen) (atom_at f.atoms c.args.place).predicate c.in-Some.witness.now c.args.node (c.requires.covered.each c.args.place no_atom c.requires.place) c.in-Some.ensures.right (sym c.is_inside.ensures ∙ off)
+
+pub returns-in-Some-clause-decides : goal.returns-in-Some-clause-decides
+returns-in-Some-clause-decides c none last =
+    let f = c.args.frame.now in
+    let q = (atom_at f.atoms c.args.place).predicate in
+    subst (Decides f.graph (over f.graph f.seen) q) (sym c.is_inside.ensures)
+    (shown_decides f.graph (over f.graph f.seen) q c.in-Some.witness.now c.args.node (c.requires.covered.each c.args.place no_atom c.requires.place) c.in-Some.ensures.right last)

@@ -1,0 +1,103 @@
+//! What a theory of reachability knows of a node.
+
+ghost use Rattle.std.specs.Prelude.{◌≡◌, ◌<◌, ℕ, List, true, false, length};
+ghost use Rattle.mono_graph.specs.Walks.{is_walk};
+ghost use Rattle.mono_problem.specs.Quiet.{over};
+ghost use Rattle.mono_theory.specs.Evidences.{Decides};
+ghost use Rattle.mono_theory.specs.Stages.{NoneWaits};
+ghost use Rattle.mono_theory.specs.Supports.{AreCovered, IsSide, atom_at};
+ghost use Rattle.mono_reach.specs.Marks.{first_node, last_node, in_cut};
+ghost use Rattle.mono_reach.specs.Reaches.{is_reach};
+
+use crate::reach::Reach;
+use crate::reached_side::ReachedSide;
+use mono_steps::Witness;
+use mono_theory::{Frame, GraphTheory, KeptSide};
+
+/// What a theory knows of a node, for one of its atoms.
+#[derive(Clone, Copy, Debug, PartialEq, Eq)]
+pub struct Marks {
+    /// Where this is true, a walk along the surely present edges leads from the atom's first node to the node.
+    pub under: bool,
+    /// Where this is false, no walk along the possibly present edges does.
+    pub over: bool,
+}
+
+/// A theory that knows of nodes whether walks lead to them.
+///
+/// No mark changes by `assign` or `explain`. After a `force` or `propagate` that answered Quiet, the marks of an atom's last
+/// node are whether its predicate holds with the surely present edges, and with the possibly present ones.
+pub trait HasMarks {
+    ghost use Rattle.std.specs.Prelude.{◌≡◌, ◌<◌, ℕ, Bool, List, false, IsTrue, IsSome, MatchOption};
+    ghost use Rattle.mono_graph.specs.Walks.{is_walk};
+    ghost use Rattle.mono_problem.specs.Quiet.{under, over};
+    ghost use Rattle.mono_theory.specs.Evidences.{Decides};
+    ghost use Rattle.mono_theory.specs.Theories.{Facts, atom_of};
+    ghost use Rattle.mono_reach.specs.Marks.{first_node, last_node};
+
+    /// The graph, the atoms and the literals seen.
+    ghost facts: { Self → Facts };
+    /// Whether a node is known to be reached, for the atom of a number.
+    ghost under_of: { Self → ℕ → ℕ → Bool };
+    /// What is kept decides each predicate.
+    ghost is_decided: { Self → Type 0 };
+
+    /// What is known of the node, for the theory's atom of this number. The node is one of the graph. It asks for no search.
+    fn marks(&self, atom: u32, node: u32) -> Marks
+        requires owned { IsSome (atom_of (facts self.now).atoms atom) }
+        requires node { node < (facts self.now).graph.nodes }
+        ensures value { result.under ≡ under_of self.now atom node }
+        ensures under { IsTrue result.under → MatchOption (atom_of (facts self.now).atoms atom) ⊥ (λ x. (walk : List ℕ) × IsTrue (is_walk (facts self.now).graph (under (facts self.now).graph (facts self.now).seen) (first_node x.predicate) node walk)) }
+        ensures over { result.over ≡ false → MatchOption (atom_of (facts self.now).atoms atom) ⊥ (λ x. (walk : List ℕ) → is_walk (facts self.now).graph (over (facts self.now).graph (facts self.now).seen) (first_node x.predicate) node walk ≡ false) }
+        ensures decided_under { is_decided self.now → MatchOption (atom_of (facts self.now).atoms atom) ⊥ (λ x. node ≡ last_node x.predicate → Decides (facts self.now).graph (under (facts self.now).graph (facts self.now).seen) x.predicate result.under) }
+        ensures decided_over { is_decided self.now → MatchOption (atom_of (facts self.now).atoms atom) ⊥ (λ x. node ≡ last_node x.predicate → Decides (facts self.now).graph (over (facts self.now).graph (facts self.now).seen) x.predicate result.over) };
+}
+
+/// Whether the node is in the set of nodes that the witness is, if it is one.
+fn is_inside(witness: &Witness, node: u32) -> bool
+    ensures { result ≡ in_cut witness.now node }
+{
+    match witness {
+        Witness::Cut(nodes) => nodes.as_slice().contains(&node),
+        _ => true,
+    }
+}
+
+/// Whether it isn't known that no walk along the possibly present edges leads to the node from the first node of the atom at a
+/// place.
+fn is_possible(possibly: &KeptSide, frame: &Frame, place: u32, node: u32) -> bool
+    requires side { IsSide frame.now true possibly.now }
+    requires thorough { possibly.now.thorough ≡ true }
+    requires covered { AreCovered is_reach frame.now.atoms }
+    requires place { place < length frame.now.atoms }
+    ensures fails { result ≡ false → (walk : List ℕ) → is_walk frame.now.graph (over frame.now.graph frame.now.seen) (first_node (atom_at frame.now.atoms place).predicate) node walk ≡ false }
+    ensures decides { NoneWaits possibly.now.stages → node ≡ last_node (atom_at frame.now.atoms place).predicate → Decides frame.now.graph (over frame.now.graph frame.now.seen) (atom_at frame.now.atoms place).predicate result }
+{
+    let _ = frame.graph();
+    match possibly.shown_witness(frame, true, place) {
+        None => true,
+        Some(witness) => is_inside(witness, node),
+    }
+}
+
+impl HasMarks for GraphTheory<Reach, ReachedSide> {
+    ghost use Rattle.mono_theory.specs.Supports.{facts_in};
+    ghost use Rattle.mono_reach.specs.Marks.{AreBothDecided, under_in};
+
+    ghost facts = { facts_in };
+
+    ghost under_of = { under_in };
+
+    ghost is_decided = { AreBothDecided };
+
+    fn marks(&self, atom: u32, node: u32) -> Marks {
+        let frame = self.frame();
+        let place = frame.place_of(atom);
+        let reached = self.surely().is_marked(frame, place as usize, node);
+        let possible = is_possible(self.possibly(), frame, place, node);
+        Marks {
+            under: reached,
+            over: possible,
+        }
+    }
+}

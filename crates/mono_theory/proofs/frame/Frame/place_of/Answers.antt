@@ -1,0 +1,13 @@
+use Rattle.std.proofs.Common.{refl}
+use Rattle.mono_theory.proofs.FrameLaws.{number_is_held, atom_place, found_by_place}
+use Rattle.mono_theory.proofs.frame.Frame.place_of.Goals as goal
+
+pub unreachable-requires : goal.unreachable-requires
+unreachable-requires c = number_is_held c.self.inside.atoms.items c.self.inside.numbers c.args.number c.self.invariant.numbered (rw (← c.self.view_is) at c.requires) c.in_default.ensures
+
+pub returns-clause-held : goal.returns-clause-held
+returns-clause-held c = rw (← c.self.view_is) (atom_place c.self.inside.atoms.items c.self.inside.numbers c.args.number c.in-Some.place c.self.invariant.numbered c.in-Some.ensures)
+
+pub returns-clause-is : goal.returns-clause-is
+returns-clause-is c = rw (← c.self.view_is)
+    (found_by_place c.self.inside.graph c.self.inside.atoms.items c.self.inside.numbers c.args.number c.in-Some.place _ c.self.invariant.known c.self.invariant.numbered c.in-Some.ensures refl).0

@@ -1,6 +1,0 @@
-use Rattle.std.proofs.Common.{take}
-use Rattle.mono_theory.specs.Supports.{AllHave}
-use Rattle.mono_theory.proofs.kept_side.have.Given as goal
-
-abbrev pub invariant-loop-edge : goal.invariant-loop-edge
-invariant-loop-edge l = AllHave l.part l.value (take l.edge-index l.edges)

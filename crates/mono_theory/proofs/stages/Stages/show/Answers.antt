@@ -1,0 +1,13 @@
+use Rattle.mono_theory.specs.declared.stage.Stage.TheVariants as stage
+use Rattle.mono_theory.proofs.StageLaws.{placed, table_show}
+use Rattle.mono_theory.proofs.stages.Stages.show.Goals as goal
+
+pub invariant_of-self : goal.invariant_of-self
+invariant_of-self c =
+    let at = placed c.args.atom c.index.result.now stage.Waits c.self.invariant (rw (← c.self.view_is) at c.requires.atom) c.index.ensures (rw (← c.self.view_is) at c.requires.waits) in
+    table_show c.self.invariant at (rw (← c.self.view_is) at c.requires.latest) (record {
+      inverse = c.change.ensures.inverse;
+      as_many = c.change.ensures.as_many;
+      written = c.change.ensures.stages;
+      change = c.change.ensures.change;
+    })

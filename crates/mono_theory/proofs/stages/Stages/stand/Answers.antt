@@ -1,0 +1,14 @@
+use Rattle.std.proofs.Common.{refl}
+use Rattle.mono_theory.specs.declared.stage.Stage.TheVariants as stage
+use Rattle.mono_theory.proofs.StageLaws.{placed, table_stand}
+use Rattle.mono_theory.proofs.stages.Stages.stand.Goals as goal
+
+pub invariant_of-self : goal.invariant_of-self
+invariant_of-self c =
+    let at = placed c.args.atom c.index.result.now stage.Waits c.self.invariant (rw (← c.self.view_is) at c.requires.atom) c.index.ensures (rw (← c.self.view_is) at c.requires.waits) in
+    table_stand c.self.invariant at refl (record {
+      inverse = c.change.ensures.inverse;
+      as_many = c.change.ensures.as_many;
+      written = c.change.ensures.stages;
+      change = c.change.ensures.change;
+    })

@@ -1,0 +1,13 @@
+use Rattle.std.proofs.Common.{◌≡◌, map, length}
+use Rattle.mono_theory.specs.Stages.{AreRuns, undone}
+use Rattle.mono_theory.proofs.stages.retreat.Given as goal
+
+abbrev pub invariant-loop-atom : goal.invariant-loop-atom
+invariant-loop-atom l = record {
+  as_many : length l.stages.items ≡ length l.items;
+  runs : AreRuns l.items l.stages.items l.left l.border;
+  same : map (undone l.kept) l.stages.items ≡ map (undone l.kept) l.initial.stages.items;
+}
+
+abbrev pub decreases-loop-atom : goal.decreases-loop-atom
+decreases-loop-atom l = l.left

@@ -1,0 +1,13 @@
+//! What is known of an atom on one side.
+
+/// What is known of an atom on one side. The side would have its predicate fail with the surely present edges, or hold with
+/// the possibly present ones; otherwise the atom forces its literal.
+#[derive(Clone, Copy)]
+pub enum Stage {
+    /// The atom has to be looked at.
+    Waits,
+    /// Its predicate is decided as the side would have it: its support is right.
+    Stands,
+    /// Its predicate is decided the other way, and its literal is true, both by so many first literals seen.
+    Shows(usize),
+}
