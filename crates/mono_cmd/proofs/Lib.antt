@@ -8,4 +8,5 @@ mod Solves
 mod Sound
 mod Stages
 mod Values
+pub mod WorkedTrimmed
 mod Summaries

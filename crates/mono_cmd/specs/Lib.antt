@@ -4,3 +4,4 @@ pub mod Solved
 pub mod Endings
 pub mod Runs
 pub mod Worked
+pub mod WorkedTrimmed

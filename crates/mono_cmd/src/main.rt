@@ -26,6 +26,8 @@ mod tests;
 pub mod words;
 /// Rows that were worked by hand, as the definitions compute them.
 pub mod worked;
+/// What `solve` may answer, worked by hand.
+pub mod worked_answers;
 
 use mono_io::{FileShelf, StdSink, SystemFiles};
 use run::run;

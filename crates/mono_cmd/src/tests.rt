@@ -7,6 +7,7 @@ use std::alloc::{AllocError, Global};
 use std::process::Abort;
 use std::test::Fail;
 
+mod drawn;
 mod faults;
 mod generated;
 mod input;
@@ -78,15 +79,49 @@ fn checks(
     Ok(())
 }
 
-/// The run of `print f` ends so.
-fn prints(
-    rt: &(impl Abort + AllocGlobal),
-    input: &[u8],
-    text: &[u8],
-    status: Status,
-) -> Result<(), Fail> {
-    let found = outcome_of(rt.alloc(), &["print", "f"], input, b"")?;
-    assert_eq!(rt; found.text.as_slice(), text);
-    assert_eq!(rt; found.status, status);
+/// How a run ends that writes this text.
+fn status_of(text: &str) -> Status {
+    if text.starts_with("accepted") {
+        return Status::Accepted;
+    }
+    if text.starts_with("rejected") {
+        return Status::Rejected;
+    }
+    if text.starts_with("refused") {
+        return Status::Refused;
+    }
+    Status::Printed
+}
+
+/// Each row has an input, an answer, and what `check` writes of it.
+fn judges(rt: &(impl Abort + AllocGlobal), rows: &[(&str, &str, &str)]) -> Result<(), Fail> {
+    for (input, answer, text) in rows {
+        let status = status_of(text);
+        checks(
+            rt,
+            input.as_bytes(),
+            answer.as_bytes(),
+            text.as_bytes(),
+            status,
+        )?;
+    }
     Ok(())
+}
+
+/// Each row has an input, and what `print` writes of it.
+fn prints_each(rt: &(impl Abort + AllocGlobal), rows: &[(&str, &str)]) -> Result<(), Fail> {
+    for (input, text) in rows {
+        let found = outcome_of(rt.alloc(), &["print", "f"], input.as_bytes(), b"")?;
+        assert_eq!(rt; found.text.as_slice(), text.as_bytes());
+        assert_eq!(rt; found.status, status_of(text));
+    }
+    Ok(())
+}
+
+/// Each row has an input that is refused, and what `check` and `print` write of it.
+fn refuses(rt: &(impl Abort + AllocGlobal), rows: &[(&str, &str)]) -> Result<(), Fail> {
+    for (input, text) in rows {
+        checks(rt, input.as_bytes(), b"", text.as_bytes(), Status::Refused)?;
+    }
+    prints_each(rt, rows)
 }

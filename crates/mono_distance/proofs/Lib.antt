@@ -2,3 +2,4 @@ pub mod LabelLaws
 pub mod DistanceEvidence
 pub mod SureLaws
 pub mod SourceLaws
+pub mod ReadingLaws

@@ -1,3 +1,4 @@
 pub mod Labels
 pub mod Distances
 pub mod SureLabels
+pub mod Readings

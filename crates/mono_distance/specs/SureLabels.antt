@@ -1,5 +1,5 @@
 -- What is kept of the labels of nodes along the surely present edges: a row for each first node and measure of an atom.
-use Rattle.std.specs.Prelude.{◌≡◌, ℕ, ◌<◌, ◌≤◌, ◌⊎◌, Bool, true, false, pos, int_lt, int_le, List, None, IfSome, take, length, slice_index_or, All}
+use Rattle.std.specs.Prelude.{◌≡◌, ℕ, ◌<◌, ◌≤◌, Bool, true, false, pos, int_lt, int_le, List, None, IfSome, length, slice_index_or, All}
 use Rattle.mono_graph.specs.declared.limit.Limit.{Limit}
 use Rattle.mono_graph.specs.declared.limit.Limit.TheVariants as limit
 use Rattle.mono_graph.specs.Digraph.{Digraph}
@@ -11,11 +11,9 @@ use Rattle.mono_dynamic.specs.LeastRows.{costs_at, AreAllLeast, AreLaterRows}
 use Rattle.mono_problem.specs.declared.atom.Atom.{Atom}
 use Rattle.mono_problem.specs.declared.atom.Predicate.{Predicate}
 use Rattle.mono_problem.specs.declared.atom.Predicate.TheVariants as kind
-use Rattle.mono_problem.specs.Quiet.{under}
-use Rattle.mono_theory.specs.Bound.{Bound, edge_vars, IsBoundOf}
-use Rattle.mono_theory.specs.Supports.{atom_at, AreCovered, IsSettled}
+use Rattle.mono_theory.specs.Supports.{atom_at}
 use Rattle.mono_theory.specs.Theories.{Facts}
-use Rattle.mono_distance.specs.Distances.{is_distance}
+use Rattle.mono_rows.specs.SureParts.{sure_parts}
 use Rattle.mono_distance.specs.declared.sources.NodeRows.{NodeRows}
 
 -- the nodes between which a walk is to lead, and its limit
@@ -47,18 +45,10 @@ is_alike l k = false
 abbrev pub is_within : ℕ → Limit → Bool
 is_within label l = int_le (pos label) (bound_of l)
 
--- The rows are of the first `looked` literals seen, and so are the bounds. Each atom has a row, and so many first atoms are
--- known to owe nothing.
+-- rows of labels, and by place of an atom its row
 pub record SureLabels : Type 0 where
-  pub bounds : Bound
-  pub looked : ℕ
   pub rows : List Costs
   pub row_of : List ℕ
-  pub quiet : ℕ
-
--- the surely present edges of the first m literals
-abbrev pub sure_parts : Facts → ℕ → List Bool
-sure_parts f m = under f.graph (take m f.seen)
 
 abbrev pub row_of_atom : SureLabels → ℕ → ℕ
 row_of_atom s a = slice_index_or s.row_of a 0
@@ -74,21 +64,16 @@ pub record IsRowFor (sources : List ℕ) (rows : List Costs) (r : ℕ) (q : Pred
   pub alike : is_alike (costs_at rows r).limit (limit_of q) ≡ true
   pub beyond : int_lt (bound_of (limit_of q)) (pos (costs_at rows r).cap) ≡ true
 
--- the atom's variable is true, or the label of its last node isn't within its bound
-abbrev pub OwesNothing : Facts → SureLabels → ℕ → Type 0
-OwesNothing f s a = IsSettled (take s.looked f.seen) false (atom_at f.atoms a) ⊎ (is_within (under_label s a (last_node (atom_at f.atoms a).predicate)) (limit_of (atom_at f.atoms a).predicate) ≡ false)
-
--- each row has the least costs after each number of literals up to those looked at
-pub record AreSureLabels (f : Facts) (s : SureLabels) : Type 0 where
-  pub covered : AreCovered is_distance f.atoms
-  pub bounds : IsBoundOf s.bounds (edge_vars f.graph) (take s.looked f.seen)
-  pub looked : s.looked ≤ length f.seen
+-- each row has the least costs after each number of literals up to n, and each atom has one
+pub record AreLabelsAfter (f : Facts) (n : ℕ) (s : SureLabels) : Type 0 where
   pub sources : List ℕ
-  pub rows : AreAllLeast f.graph (sure_parts f) s.looked sources s.rows
+  pub rows : AreAllLeast f.graph (sure_parts f) n sources s.rows
   pub row_of_len : length s.row_of ≡ length f.atoms
   pub each : (a : ℕ) → a < length f.atoms → IsRowFor sources s.rows (row_of_atom s a) (atom_at f.atoms a).predicate
-  pub quiet_len : s.quiet ≤ length f.atoms
-  pub quiet : (a : ℕ) → a < s.quiet → OwesNothing f s a
+
+-- so it is after each number of literals up to all of them
+abbrev pub AreSureLabels : SureLabels → Facts → Type 0
+AreSureLabels s f = AreLabelsAfter f (length f.seen) s
 
 -- edges have come, and the rows have grown
 pub record AreGrownLabels (g : Digraph) (Q : List Bool) (ks : List ℕ) (stamp : ℕ) (olds news : List Costs) : Type 0 where

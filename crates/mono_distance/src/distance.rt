@@ -11,12 +11,13 @@ ghost use Rattle.mono_theory.specs.Evidences.{IsEvidence};
 ghost use Rattle.mono_distance.specs.Distances.{is_distance, predicate_of, IsLabelEvidence};
 
 use crate::label_table::LabelTable;
-use crate::least_side::LeastSide;
+use crate::least_rows::LeastRows;
 use mono_base::Row;
 use mono_base::limits::MAX_WITNESS_VALUE;
 use mono_graph::{Graph, Label, Limit, Part};
 use mono_paths::{PathOrLabels, WalkFinder};
 use mono_problem::Predicate;
+use mono_rows::EitherSide;
 use mono_steps::Witness;
 use mono_theory::walks::walk_evidence;
 use mono_theory::{Evidence, GraphTheory, Kind};
@@ -131,4 +132,4 @@ impl Kind for Distance {
 }
 
 /// Predicates on walks within a limit over one graph.
-pub type DistanceTheory = GraphTheory<Distance, LeastSide>;
+pub type DistanceTheory = GraphTheory<Distance, EitherSide<LeastRows>>;

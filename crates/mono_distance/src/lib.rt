@@ -6,9 +6,14 @@ mod distance;
 /// Labels by node.
 mod label_table;
 /// Labels along the surely present edges.
-mod least_side;
+mod least_rows;
+/// What follows from the definitions alone.
+pub mod laws;
+/// What a theory knows of a node.
+mod node_labels;
 /// The rows of labels for which atoms ask.
 mod sources;
 
 pub use distance::{Distance, DistanceTheory};
-pub use least_side::LeastSide;
+pub use least_rows::{LeastRows, MAX_LABELS};
+pub use node_labels::{HasLabels, Labels};

@@ -123,6 +123,7 @@ set_shows g P s t least set named weight spare known cut weighs least-is needed 
       known = nodes-known g set known;
       small = refl;
       sided = all_by (λ k. (k < length g.edges) × (present P k ≡ false)) named (λ k t. all_has (λ j. (j < length g.edges) × (present P j ≡ false)) (absent_out g P set) k (leaving_are_absent g P set).absent (needed.listed k t));
+      used = λ i d lt. refl;
       passes = and_from (has set s && not (has set t)) (int_lt (pos (weight_of g (present_by (leads_out set) g (all_but g named)))) least) (and_parts (has set s && not (has set t)) (int_lt (pos (weight_of g (present_by (leads_out set) g P))) least) cut).0
           (below_least (weight_of g (present_by (leads_out set) g (all_but g named))) weight spare least least-is (omega (arith, leaving, weighs)));
     }

@@ -1,39 +1,21 @@
 -- A flow shows that a predicate on flows holds.
 use Rattle.std.proofs.Common.{◌≡◌, ℕ, zero, suc, ◌<◌, ◌≤◌, Bool, true, false, not, ◌&&◌, cond, List, [], ◌∷◌, map, length, eqb, ltb, leb, refl, sym, ap, subst, ◌∙◌, ◌⊎◌, inl, inr, arith, ℤ, All, le-leb, lt-ltb}
-use Rattle.std.specs.Prelude.{IsTrue, filter, is_some, unwrap_or, int_le}
-use Rattle.std.specs.List.{list_all}
+use Rattle.std.specs.Prelude.{IsTrue, filter, int_le}
 use Rattle.std.proofs.lemmas.Bool.{and_parts, and_from, both_ways, not-true, false_from_ne_true, eqb-true, leb-true, ltb-true, eq-eqb}
 use Rattle.std.proofs.lemmas.Bool.Decides.{eqb_tells}
 use Rattle.std.proofs.lemmas.List.Elements.{All-tail}
 use Rattle.mono_base.specs.declared.limits.TheConstants.{MAX_WITNESS_VALUE}
 use Rattle.mono_graph.specs.declared.amount.Amount.{Amount}
-use Rattle.mono_graph.specs.Digraph.{Digraph, IsGraph, edge_at, place_of, present, has, is_distinct}
+use Rattle.mono_graph.specs.Digraph.{Digraph, IsGraph, edge_at, present, has, is_distinct}
 use Rattle.mono_graph.specs.Flows.{amount_at, is_flow, is_flow_of, is_within, is_conserved, value_of}
 use Rattle.mono_graph.proofs.Membership.{has_here, has_there, has_cons}
 use Rattle.mono_graph.proofs.Places.{all_below, all_of}
 use Rattle.mono_problem.specs.declared.atom.Predicate.TheVariants as kind
-use Rattle.mono_steps.specs.Witnesses.{placed_amounts, place_or_end}
 use Rattle.mono_theory.specs.Evidences.{only, IsEvidence}
 use Rattle.mono_theory.proofs.EvidenceLaws.{in_only}
-use Rattle.mono_theory.proofs.WalkedLaws.{own_place, all_by}
+use Rattle.mono_theory.proofs.WalkedLaws.{all_by}
 use Rattle.mono_flow.specs.Flowing.{numbered, carrying, flow_evidence}
-
--- ---- edges by their numbers
-
-pub placed-numbered : (g : Digraph) (amounts : List Amount) → IsGraph g → All (λ a. a.edge < length g.edges) amounts → placed_amounts g (numbered g amounts) ≡ amounts
-placed-numbered g [] ok h = refl
-placed-numbered g (a ∷ rest) ok h =
-    let back : place_or_end g (edge_at g a.edge).number ≡ a.edge = ap (λ o. unwrap_or o (length g.edges)) (own_place g a.edge ok (h 0 a (omega arith))) in
-    ap (λ (k : ℕ). record { edge = k; amount = a.amount } ∷ placed_amounts g (numbered g rest)) back
-    ∙ ap (λ (bs : List Amount). a ∷ bs) (placed-numbered g rest ok (All-tail (λ (b : Amount). b.edge < length g.edges) a rest h))
-
-numbered-known : (g : Digraph) (amounts : List Amount) → IsGraph g → All (λ a. a.edge < length g.edges) amounts → IsTrue (list_all (λ (m : Amount). is_some (place_of g m.edge)) (numbered g amounts))
-numbered-known g [] ok h = refl
-numbered-known g (a ∷ rest) ok h = and_from _ _ (ap is_some (own_place g a.edge ok (h 0 a (omega arith)))) (numbered-known g rest ok (All-tail (λ (b : Amount). b.edge < length g.edges) a rest h))
-
-numbered-small : (g : Digraph) (amounts : List Amount) (most : ℕ) → All (λ a. a.amount ≤ most) amounts → IsTrue (list_all (λ (m : Amount). leb m.amount most) (numbered g amounts))
-numbered-small g [] most h = refl
-numbered-small g (a ∷ rest) most h = and_from _ _ (le-leb a.amount most (h 0 a (omega arith))) (numbered-small g rest most (All-tail (λ (b : Amount). b.amount ≤ most) a rest h))
+use Rattle.mono_flow.proofs.Numbered.{numbered-known, numbered-small, numbered_amount, placed-numbered}
 
 -- ---- the edges that carry something
 
@@ -121,7 +103,7 @@ pub record IsFlowOf (g : Digraph) (P : List Bool) (s t : ℕ) (least : ℤ) (amo
   pub conserved : IsTrue (is_conserved g s t (amount_at amounts))
   pub enough : IsTrue (int_le least (value_of g s (amount_at amounts)))
 
-flow_parts : {g : Digraph} {P : List Bool} {s t : ℕ} {least : ℤ} (amounts : List Amount) → IsTrue (is_flow_of g P s t least amounts) → IsFlowOf g P s t least amounts
+pub flow_parts : {g : Digraph} {P : List Bool} {s t : ℕ} {least : ℤ} (amounts : List Amount) → IsTrue (is_flow_of g P s t least amounts) → IsFlowOf g P s t least amounts
 flow_parts {g = g} {P = P} {s = s} {t = t} {least = least} amounts h =
     let a = and_parts (is_distinct (map (λ (x : Amount). x.edge) amounts) && is_flow g P s t (amount_at amounts)) (int_le least (value_of g s (amount_at amounts))) h in
     let b = and_parts (is_distinct (map (λ (x : Amount). x.edge) amounts)) (is_flow g P s t (amount_at amounts)) a.0 in
@@ -154,5 +136,7 @@ flow_shows g P s t least amounts ok known small h =
       sided = all_by (λ k. (k < length g.edges) × (present P k ≡ true)) (carrying amounts) (λ k c.
           let lt : k < length g.edges = carried_known amounts k (length g.edges) known c in
           (lt, (present_within (amount_at amounts k) (edge_at g k).weight (present P k) (within_at g P (amount_at amounts) k a.within lt) (carries_amount amounts k a.distinct c)).0));
+      used = all_by (λ k. IsTrue (ltb 0 (amount_at (numbered g amounts) (edge_at g k).number))) (carrying amounts) (λ k c.
+          subst (λ (n : ℕ). IsTrue (ltb 0 n)) (sym (numbered_amount g amounts k ok known (carried_known amounts k (length g.edges) known c))) (lt-ltb 0 (amount_at amounts k) (carries_amount amounts k a.distinct c)));
       passes = ap (is_flow_of g (only g (carrying amounts)) s t least) (placed-numbered g amounts ok known) ∙ own_flow g P s t least amounts h;
     }

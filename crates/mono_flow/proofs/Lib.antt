@@ -1,3 +1,7 @@
+pub mod Numbered
 pub mod FlowEvidence
 pub mod Needed
 pub mod CutEvidence
+pub mod KeptFlowLaws
+pub mod DecidedLaws
+pub mod StayingLaws

@@ -3,7 +3,12 @@
 
 /// Predicates on flows.
 mod flow;
+/// What a theory keeps of an edge.
+mod flows;
 /// Flows of earlier searches.
 mod kept_flows;
+/// What follows for kept flows.
+pub mod laws;
 
 pub use flow::{Flow, FlowTheory};
+pub use flows::{Flows, HasFlows};

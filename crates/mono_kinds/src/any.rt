@@ -47,6 +47,10 @@ impl Theory for AnyTheory {
         each!(self, theory => theory.concerns(var))
     }
 
+    fn variables(&self) -> &[u32] {
+        each!(self, theory => theory.variables())
+    }
+
     fn seen(&self) -> usize {
         each!(self, theory => theory.seen())
     }

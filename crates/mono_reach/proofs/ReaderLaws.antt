@@ -1,6 +1,6 @@
 -- What a theory of reachability tells of a node.
-use Rattle.std.proofs.Common.{◌≡◌, ◌≢◌, ℕ, ◌<◌, Bool, true, false, not, ◌&&◌, List, length, Some, refl, sym, ap, subst, ◌∙◌, MatchOption}
-use Rattle.std.specs.Prelude.{IsTrue, Option}
+use Rattle.std.proofs.Common.{◌≡◌, ◌≢◌, ℤ, cond, inl, inr, ℕ, ◌<◌, Bool, true, false, not, ◌&&◌, List, length, eqb, eq-eqb, Some, refl, sym, ap, subst, ◌∙◌, MatchOption}
+use Rattle.std.specs.Prelude.{IsTrue, Option, None}
 use Rattle.std.specs.List.{list_all}
 use Rattle.std.proofs.lemmas.Bool.{and_from, and_parts, both_ways, false_from_ne_true, not-true}
 use Rattle.mono_graph.specs.Digraph.{Digraph, IsGraph, edge_at, has, leads_out, places, present}
@@ -9,45 +9,57 @@ use Rattle.mono_graph.proofs.WalkLaws.{cut_excludes}
 use Rattle.mono_problem.specs.declared.atom.Atom.{Atom}
 use Rattle.mono_problem.specs.declared.atom.Predicate.{Predicate}
 use Rattle.mono_problem.specs.declared.atom.Predicate.TheVariants as kind
-use Rattle.mono_problem.specs.Quiet.{under, over}
+use Rattle.mono_problem.specs.Quiet.{under}
 use Rattle.mono_problem.specs.Read.{no_atom}
 use Rattle.mono_problem.specs.WellFormed.{IsOver}
+use Rattle.mono_rows.specs.declared.either_side.EitherSide.{EitherSide}
+use Rattle.mono_rows.specs.declared.either_side.EitherSide.TheVariants as either
+use Rattle.mono_rows.specs.EitherSides.{IsEitherKept}
+use Rattle.mono_rows.specs.RowSides.{AreRowsFor, RowsView}
+use Rattle.mono_rows.specs.SureParts.{sure_parts}
+use Rattle.mono_rows.proofs.SureLaws.{sure_all}
 use Rattle.mono_steps.specs.declared.lemma.Witness.{Witness}
 use Rattle.mono_steps.specs.declared.lemma.Witness.TheVariants as by
+use Rattle.mono_steps.proofs.Witnessed.{positive_holds}
+use Rattle.mono_theory.specs.declared.evidence.Evidence.{Evidence}
 use Rattle.mono_theory.specs.declared.stage.Stage.{Stage}
 use Rattle.mono_theory.specs.declared.stage.Stage.TheVariants as stage
 use Rattle.mono_theory.specs.Evidences.{Decides}
 use Rattle.mono_theory.specs.Sound.{IsWitnessIn, evidence_at}
 use Rattle.mono_theory.specs.Stages.{NoneWaits, shows, stage_at}
-use Rattle.mono_theory.specs.Supports.{GraphTheoryView, IsSide, SideView, StageIs, atom_at, facts_in}
-use Rattle.mono_theory.specs.Theories.{Facts, atom_of}
+use Rattle.mono_theory.specs.Supports.{GraphTheoryView, IsKeptBy, IsSide, SideView, StageIs, atom_at, facts_in, part_of}
+use Rattle.mono_theory.specs.Theories.{Facts}
 use Rattle.mono_theory.proofs.PartLaws.{part_len}
 use Rattle.mono_theory.proofs.SoundLaws.{sound_decides}
-use Rattle.mono_reach.specs.Marks.{SureMarks, AreMarks, AreDecided, first_node, in_cut, last_node, reached_from, under_for, under_in, under_mark}
+use Rattle.mono_reach.specs.Marks.{SureMarks, AreMarksOf, first_node, last_node, under_mark}
+use Rattle.mono_reach.specs.Readings.{found_mark, in_cut, in_kept_cut, marks_at, over_mark, sure_mark}
+use Rattle.mono_reach.specs.declared.marks.Marks.{Marks}
 use Rattle.mono_reach.specs.Reaches.{is_reach}
-use Rattle.mono_reach.proofs.MarkLaws.{holds_reach, marked_walk, reached_from_is}
+use Rattle.mono_reach.proofs.MarkLaws.{holds_reach, marked_walk, marks_decide, marks_in}
 
 -- ---- with the surely present edges
 
-pub under_is_known : (s : GraphTheoryView SureMarks) (n a v : ℕ) (b : Bool) → a < length s.atoms → AreMarks (facts_in s) s.surely → atom_of s.atoms n ≡ Some (atom_at s.atoms a) → b ≡ under_mark s.surely a v → b ≡ under_in s n v
-under_is_known s n a v b lt h found is =
-    subst (λ (o : Option Atom). b ≡ under_for s.surely.rows o v) (sym found) (is ∙ sym (reached_from_is a v lt h))
+-- a row has the node exactly where a walk leads to it
+pub row_decides : {f : Facts} {s : RowsView SureMarks} (a v : ℕ) (b : Bool) → a < length f.atoms → AreRowsFor is_reach AreMarksOf f s → b ≡ under_mark s.rows a v → s.looked ≡ length f.seen → v ≡ last_node (atom_at f.atoms a).predicate
+    → Decides f.graph (under f.graph f.seen) (atom_at f.atoms a).predicate b
+row_decides {f = f} {s = s} a v b lt h is all last =
+    let q = (atom_at f.atoms a).predicate in
+    subst (λ (P : List Bool). Decides f.graph P q b) (sure_all f s.looked all)
+    (subst (Decides f.graph (sure_parts f s.looked) q) (ap (under_mark s.rows a) (sym last) ∙ sym is)
+    (marks_decide s.looked a lt (h.covered.each a no_atom lt) (marks_in f s.looked h.looked h.rows)))
 
-pub under_has_walk : (s : GraphTheoryView SureMarks) (n a v : ℕ) (b : Bool) → a < length s.atoms → AreMarks (facts_in s) s.surely → atom_of s.atoms n ≡ Some (atom_at s.atoms a) → b ≡ under_mark s.surely a v → IsTrue b
-    → MatchOption (atom_of s.atoms n) ⊥ (λ x. (walk : List ℕ) × IsTrue (is_walk s.graph (under s.graph s.seen) (first_node x.predicate) v walk))
-under_has_walk s n a v b lt h found is on =
-    subst (λ (o : Option Atom). MatchOption o ⊥ (λ x. (walk : List ℕ) × IsTrue (is_walk s.graph (under s.graph s.seen) (first_node x.predicate) v walk))) (sym found)
-    (marked_walk a v lt h (sym is ∙ on))
+pub row_walk : {f : Facts} {s : RowsView SureMarks} (a v : ℕ) (b : Bool) → a < length f.atoms → AreRowsFor is_reach AreMarksOf f s → b ≡ under_mark s.rows a v → IsTrue b
+    → (walk : List ℕ) × IsTrue (is_walk f.graph (under f.graph f.seen) (first_node (atom_at f.atoms a).predicate) v walk)
+row_walk {f = f} {s = s} a v b lt h is on = marked_walk s.looked a v h.looked lt (marks_in f s.looked h.looked h.rows) (sym is ∙ on)
 
-pub under_decides : (s : GraphTheoryView SureMarks) (n a v : ℕ) (b : Bool) → a < length s.atoms → AreMarks (facts_in s) s.surely → atom_of s.atoms n ≡ Some (atom_at s.atoms a) → b ≡ under_mark s.surely a v → AreDecided (facts_in s) s.surely
-    → MatchOption (atom_of s.atoms n) ⊥ (λ x. v ≡ last_node x.predicate → Decides s.graph (under s.graph s.seen) x.predicate b)
-under_decides s n a v b lt h found is decided =
-    subst (λ (o : Option Atom). MatchOption o ⊥ (λ x. v ≡ last_node x.predicate → Decides s.graph (under s.graph s.seen) x.predicate b)) (sym found)
-    (λ last.
-    let x = atom_at s.atoms a in
-    let same : reached_from s.surely.rows (first_node x.predicate) (last_node x.predicate) ≡ b =
-    ap (reached_from s.surely.rows (first_node x.predicate)) (sym last) ∙ reached_from_is a v lt h ∙ sym is in
-    subst (Decides s.graph (under s.graph s.seen) x.predicate) same (decided.each a no_atom lt))
+-- a walk that was found leads to the last node
+pub found_walk : (g : Digraph) (P : List Bool) (q : Predicate) (w : Witness) (v : ℕ) → IsTrue (is_reach q) → IsWitnessIn g P q true w → v ≡ last_node q → (walk : List ℕ) × IsTrue (is_walk g P (first_node q) v walk)
+found_walk g P q w v r h last =
+    let found = holds_reach g P q r (positive_holds g P q w h.sign h.passes) in
+    (found.0, subst (λ (u : ℕ). IsTrue (is_walk g P (first_node q) u found.0)) (sym last) found.1)
+
+pub found_decides : (g : Digraph) (P : List Bool) (q : Predicate) (w : Witness) (v : ℕ) → IsWitnessIn g P q true w → v ≡ last_node q → Decides g P q (eqb v (last_node q))
+found_decides g P q w v h last = subst (Decides g P q) (sym (eq-eqb v (last_node q) last)) (positive_holds g P q w h.sign h.passes)
 
 -- ---- with the possibly present edges
 
@@ -97,10 +109,60 @@ stands_by stage.Waits waits shown = absurd (waits refl)
 stands_by stage.Stands waits shown = refl
 stands_by (stage.Shows m) waits shown = absurd cc
 
--- where nothing is shown of it and it doesn't wait, the predicate holds
-pub unshown_decides : {f : Facts} {s : SideView} (a : ℕ) → a < length f.atoms → IsGraph f.graph → IsOver f.graph (atom_at f.atoms a).predicate → IsSide f true s → NoneWaits s.stages → shows (stage_at s.stages a) ≡ false
-    → Decides f.graph (over f.graph f.seen) (atom_at f.atoms a).predicate true
-unshown_decides {f = f} {s = s} a lt graph known h none shown =
+-- where nothing is shown of it and it doesn't wait, its support decides the predicate
+pub unshown_decides : {f : Facts} {s : SideView} (possible : Bool) (a : ℕ) → a < length f.atoms → IsGraph f.graph → IsOver f.graph (atom_at f.atoms a).predicate → IsSide f possible s → NoneWaits s.stages → shows (stage_at s.stages a) ≡ false
+    → Decides f.graph (part_of f.graph f.seen possible) (atom_at f.atoms a).predicate possible
+unshown_decides {f = f} {s = s} possible a lt graph known h none shown =
     let stood = stands_by (stage_at s.stages a) (none a stage.Waits (subst (λ (n : ℕ). a < n) (sym h.stages_len) lt)) shown in
-    sound_decides f.graph (over f.graph f.seen) (atom_at f.atoms a).predicate true (evidence_at s.supports a) graph known (part_len f.graph f.seen true) (h.supports.each a lt)
-    (subst (StageIs f true s a) stood (h.right a lt))
+    sound_decides f.graph (part_of f.graph f.seen possible) (atom_at f.atoms a).predicate possible (evidence_at s.supports a) graph known (part_len f.graph f.seen possible) (h.supports.each a lt)
+    (subst (StageIs f possible s a) stood (h.right a lt))
+
+-- ---- what is known of a node
+
+abbrev both : Bool → Bool → Marks
+both b o = record { under = b; over = o }
+
+pub marks_known : (s : GraphTheoryView (EitherSide SureMarks)) (a v : ℕ) (b o : Bool) → b ≡ sure_mark s.surely (atom_at s.atoms a).predicate a v → o ≡ over_mark s.possibly a v → record { under = b; over = o } ≡ marks_at s a v
+marks_known s a v b o under_is over_is = ap (λ (x : Bool). both x o) under_is ∙ ap (λ (x : Bool). both (sure_mark s.surely (atom_at s.atoms a).predicate a v) x) over_is
+
+-- what an atom shows, if it shows something
+pub by_shown : (s : SideView) (a : ℕ) (b x y : Bool) → s.thorough ≡ true → shows (stage_at s.stages a) ≡ b → cond b x y ≡ cond (s.thorough && shows (stage_at s.stages a)) x y
+by_shown s a b x y thorough shown = sym (ap (λ (c : Bool). cond (c && shows (stage_at s.stages a)) x y) thorough ∙ ap (λ (c : Bool). cond c x y) shown)
+
+-- what an atom shows is its witness
+pub shown_is_over : (s : SideView) (a v : ℕ) (w : Witness) → s.thorough ≡ true → shows (stage_at s.stages a) ≡ true → MatchOption (evidence_at s.shown a) ⊥ (λ e. w ≡ e.witness) → in_cut w v ≡ over_mark s a v
+shown_is_over s a v w thorough shown its = its_cut (evidence_at s.shown a) its ∙ by_shown s a true (in_kept_cut (evidence_at s.shown a) v) true thorough shown
+  where
+    its_cut : (o : Option Evidence) → MatchOption o ⊥ (λ e. w ≡ e.witness) → in_cut w v ≡ in_kept_cut o v
+    its_cut None is = absurd is
+    its_cut (Some e) is = ap (λ (x : Witness). in_cut x v) is
+
+-- of an atom that shows nothing no node is known to be cut off
+pub unshown_is_over : (s : SideView) (a v : ℕ) → s.thorough ≡ true → shows (stage_at s.stages a) ≡ false → true ≡ over_mark s a v
+unshown_is_over s a v thorough shown = by_shown s a false (in_kept_cut (evidence_at s.shown a) v) true thorough shown
+
+-- ---- one more literal
+
+-- an atom that lost its support showed nothing
+shows_same : {g : Digraph} {possible : Bool} {l : ℤ} {s r : SideView} (a : ℕ) → IsKeptBy g possible l s r → shows (stage_at r.stages a) ≡ shows (stage_at s.stages a)
+shows_same a kept = elim (kept.each a) [
+  | inl is ↦ ap shows is
+  | inr lost ↦ ap shows lost.waits ∙ sym (ap shows lost.stood)
+]
+
+over_stays : (g : Digraph) (l : ℤ) (s r : SideView) (a v : ℕ) → IsKeptBy g true l s r → over_mark r a v ≡ over_mark s a v
+over_stays g l s r a v kept = ap (λ (x : SideView). over_mark x a v) kept.same ∙ ap (λ (c : Bool). cond (s.thorough && c) (in_kept_cut (evidence_at s.shown a) v) true) (shows_same a kept)
+
+sure_stays : (f : Facts) (l : ℤ) (c d : EitherSide SureMarks) (q : Predicate) (a v : ℕ) → IsEitherKept f l c d → sure_mark d q a v ≡ sure_mark c q a v
+sure_stays f l (either.Rows s) (either.Rows r) q a v same = ap (λ (x : RowsView SureMarks). under_mark x.rows a v) same
+sure_stays f l (either.Searches s) (either.Searches r) q a v kept =
+    ap (λ (x : SideView). found_mark x q a v) kept.same ∙ ap (λ (c : Bool). cond (s.thorough && c) (eqb v (last_node q)) false) (shows_same a kept)
+sure_stays f l (either.Rows s) (either.Searches r) q a v kept = absurd kept
+sure_stays f l (either.Searches s) (either.Rows r) q a v kept = absurd kept
+
+-- so no mark changes
+pub marks_stay : (l : ℤ) (s r : GraphTheoryView (EitherSide SureMarks)) (a v : ℕ) → r.atoms ≡ s.atoms → IsEitherKept (facts_in s) l s.surely r.surely → IsKeptBy s.graph true l s.possibly r.possibly → marks_at r a v ≡ marks_at s a v
+marks_stay l s r a v atoms surely possibly =
+    let q = (atom_at s.atoms a).predicate in
+    let same : sure_mark r.surely (atom_at r.atoms a).predicate a v ≡ sure_mark s.surely q a v = ap (λ (xs : List Atom). sure_mark r.surely (atom_at xs a).predicate a v) atoms ∙ sure_stays (facts_in s) l s.surely r.surely q a v surely in
+    marks_known s a v (sure_mark r.surely (atom_at r.atoms a).predicate a v) (over_mark r.possibly a v) same (over_stays s.graph l s.possibly r.possibly a v possibly)

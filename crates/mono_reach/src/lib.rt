@@ -1,15 +1,17 @@
 //! Reachability as a theory (Bayless et al. 2015).
 #![tactic(auto)]
 
+/// What holds of marks by their definitions.
+pub mod laws;
 /// What is known of a node.
 mod marks;
 /// Predicates of reachability.
 mod reach;
 /// What is reached along the surely present edges.
-mod reached_side;
+mod reached_rows;
 /// The first nodes of atoms.
 mod sources;
 
 pub use marks::{HasMarks, Marks};
 pub use reach::{Reach, ReachTheory};
-pub use reached_side::ReachedSide;
+pub use reached_rows::{MOST_REACHED, ReachedRows};

@@ -1,16 +1,21 @@
 //! What a theory of reachability knows of a node.
 
-ghost use Rattle.std.specs.Prelude.{◌≡◌, ◌<◌, ℕ, List, true, false, length};
+ghost use Rattle.std.specs.Prelude.{◌≡◌, ◌<◌, ℕ, List, true, false, length, IsTrue};
 ghost use Rattle.mono_graph.specs.Walks.{is_walk};
-ghost use Rattle.mono_problem.specs.Quiet.{over};
+ghost use Rattle.mono_problem.specs.Quiet.{under, over};
+ghost use Rattle.mono_rows.specs.EitherSides.{IsEitherDecided, IsEitherRight};
+ghost use Rattle.mono_rows.specs.RowSides.{AreRowsFor};
 ghost use Rattle.mono_theory.specs.Evidences.{Decides};
 ghost use Rattle.mono_theory.specs.Stages.{NoneWaits};
 ghost use Rattle.mono_theory.specs.Supports.{AreCovered, IsSide, atom_at};
-ghost use Rattle.mono_reach.specs.Marks.{first_node, last_node, in_cut};
+ghost use Rattle.mono_reach.specs.Marks.{AreMarksOf, first_node, last_node, under_mark};
+ghost use Rattle.mono_reach.specs.Readings.{found_mark, in_cut, over_mark, sure_mark};
 ghost use Rattle.mono_reach.specs.Reaches.{is_reach};
 
 use crate::reach::Reach;
-use crate::reached_side::ReachedSide;
+use crate::reached_rows::ReachedRows;
+use crate::sources::ends_of;
+use mono_rows::{EitherSide, RowsSide};
 use mono_steps::Witness;
 use mono_theory::{Frame, GraphTheory, KeptSide};
 
@@ -28,17 +33,19 @@ pub struct Marks {
 /// No mark changes by `assign` or `explain`. After a `force` or `propagate` that answered Quiet, the marks of an atom's last
 /// node are whether its predicate holds with the surely present edges, and with the possibly present ones.
 pub trait HasMarks {
-    ghost use Rattle.std.specs.Prelude.{◌≡◌, ◌<◌, ℕ, Bool, List, false, IsTrue, IsSome, MatchOption};
+    ghost use Rattle.std.specs.Prelude.{◌≡◌, ◌<◌, ℕ, List, false, length, IsTrue, IsSome, MatchOption};
     ghost use Rattle.mono_graph.specs.Walks.{is_walk};
     ghost use Rattle.mono_problem.specs.Quiet.{under, over};
     ghost use Rattle.mono_theory.specs.Evidences.{Decides};
     ghost use Rattle.mono_theory.specs.Theories.{Facts, atom_of};
+    ghost use Rattle.mono_theory.specs.Supports.{atom_at};
     ghost use Rattle.mono_reach.specs.Marks.{first_node, last_node};
+    ghost use Rattle.mono_reach.specs.declared.marks.Marks.{Marks};
 
     /// The graph, the atoms and the literals seen.
     ghost facts: { Self → Facts };
-    /// Whether a node is known to be reached, for the atom of a number.
-    ghost under_of: { Self → ℕ → ℕ → Bool };
+    /// What is known of a node, for the atom at a place.
+    ghost marks_of: { Self → ℕ → ℕ → Marks };
     /// What is kept decides each predicate.
     ghost is_decided: { Self → Type 0 };
 
@@ -46,11 +53,61 @@ pub trait HasMarks {
     fn marks(&self, atom: u32, node: u32) -> Marks
         requires owned { IsSome (atom_of (facts self.now).atoms atom) }
         requires node { node < (facts self.now).graph.nodes }
-        ensures value { result.under ≡ under_of self.now atom node }
+        ensures value { (place : ℕ) → place < length (facts self.now).atoms → (atom_at (facts self.now).atoms place).number ≡ atom → result ≡ marks_of self.now place node }
         ensures under { IsTrue result.under → MatchOption (atom_of (facts self.now).atoms atom) ⊥ (λ x. (walk : List ℕ) × IsTrue (is_walk (facts self.now).graph (under (facts self.now).graph (facts self.now).seen) (first_node x.predicate) node walk)) }
         ensures over { result.over ≡ false → MatchOption (atom_of (facts self.now).atoms atom) ⊥ (λ x. (walk : List ℕ) → is_walk (facts self.now).graph (over (facts self.now).graph (facts self.now).seen) (first_node x.predicate) node walk ≡ false) }
         ensures decided_under { is_decided self.now → MatchOption (atom_of (facts self.now).atoms atom) ⊥ (λ x. node ≡ last_node x.predicate → Decides (facts self.now).graph (under (facts self.now).graph (facts self.now).seen) x.predicate result.under) }
         ensures decided_over { is_decided self.now → MatchOption (atom_of (facts self.now).atoms atom) ⊥ (λ x. node ≡ last_node x.predicate → Decides (facts self.now).graph (over (facts self.now).graph (facts self.now).seen) x.predicate result.over) };
+}
+
+/// Whether the row of the atom at a place has the node.
+fn is_in_row(side: &RowsSide<ReachedRows>, frame: &Frame, place: u32, node: u32) -> bool
+    requires right { AreRowsFor is_reach AreMarksOf frame.now side.now }
+    requires place { place < length frame.now.atoms }
+    requires node { node < frame.now.graph.nodes }
+    ensures value { result ≡ under_mark side.now.rows place node }
+    ensures reached { IsTrue result → (walk : List ℕ) × IsTrue (is_walk frame.now.graph (under frame.now.graph frame.now.seen) (first_node (atom_at frame.now.atoms place).predicate) node walk) }
+    ensures decides { side.now.looked ≡ length frame.now.seen → node ≡ last_node (atom_at frame.now.atoms place).predicate → Decides frame.now.graph (under frame.now.graph frame.now.seen) (atom_at frame.now.atoms place).predicate result }
+{
+    let _ = frame.seen();
+    let looked = side.looked();
+    let rows = side.rows();
+    rows.is_marked(frame, looked, place as usize, node)
+}
+
+/// Whether the node is the last one of the atom at a place, and a search found a walk to it.
+fn is_found(kept: &KeptSide, frame: &Frame, place: u32, node: u32) -> bool
+    requires side { IsSide frame.now false kept.now }
+    requires thorough { kept.now.thorough ≡ true }
+    requires covered { AreCovered is_reach frame.now.atoms }
+    requires place { place < length frame.now.atoms }
+    ensures value { result ≡ found_mark kept.now (atom_at frame.now.atoms place).predicate place node }
+    ensures reached { IsTrue result → (walk : List ℕ) × IsTrue (is_walk frame.now.graph (under frame.now.graph frame.now.seen) (first_node (atom_at frame.now.atoms place).predicate) node walk) }
+    ensures decides { NoneWaits kept.now.stages → node ≡ last_node (atom_at frame.now.atoms place).predicate → Decides frame.now.graph (under frame.now.graph frame.now.seen) (atom_at frame.now.atoms place).predicate result }
+{
+    let _ = frame.graph();
+    let atom = frame.atom_at(place as usize);
+    let (_, to) = ends_of(atom.predicate);
+    match kept.shown_witness(frame, false, place) {
+        None => false,
+        Some(_) => node == to,
+    }
+}
+
+/// Whether a walk along the surely present edges is known to lead to the node from the first node of the atom at a place.
+fn is_reached(side: &EitherSide<ReachedRows>, frame: &Frame, place: u32, node: u32) -> bool
+    requires right { IsEitherRight is_reach true AreMarksOf frame.now side.now }
+    requires covered { AreCovered is_reach frame.now.atoms }
+    requires place { place < length frame.now.atoms }
+    requires node { node < frame.now.graph.nodes }
+    ensures value { result ≡ sure_mark side.now (atom_at frame.now.atoms place).predicate place node }
+    ensures reached { IsTrue result → (walk : List ℕ) × IsTrue (is_walk frame.now.graph (under frame.now.graph frame.now.seen) (first_node (atom_at frame.now.atoms place).predicate) node walk) }
+    ensures decides { IsEitherDecided frame.now side.now → node ≡ last_node (atom_at frame.now.atoms place).predicate → Decides frame.now.graph (under frame.now.graph frame.now.seen) (atom_at frame.now.atoms place).predicate result }
+{
+    match side {
+        EitherSide::Rows(rows) => is_in_row(rows, frame, place, node),
+        EitherSide::Searches(kept) => is_found(kept, frame, place, node),
+    }
 }
 
 /// Whether the node is in the set of nodes that the witness is, if it is one.
@@ -70,6 +127,7 @@ fn is_possible(possibly: &KeptSide, frame: &Frame, place: u32, node: u32) -> boo
     requires thorough { possibly.now.thorough ≡ true }
     requires covered { AreCovered is_reach frame.now.atoms }
     requires place { place < length frame.now.atoms }
+    ensures value { result ≡ over_mark possibly.now place node }
     ensures fails { result ≡ false → (walk : List ℕ) → is_walk frame.now.graph (over frame.now.graph frame.now.seen) (first_node (atom_at frame.now.atoms place).predicate) node walk ≡ false }
     ensures decides { NoneWaits possibly.now.stages → node ≡ last_node (atom_at frame.now.atoms place).predicate → Decides frame.now.graph (over frame.now.graph frame.now.seen) (atom_at frame.now.atoms place).predicate result }
 {
@@ -80,20 +138,20 @@ fn is_possible(possibly: &KeptSide, frame: &Frame, place: u32, node: u32) -> boo
     }
 }
 
-impl HasMarks for GraphTheory<Reach, ReachedSide> {
+impl HasMarks for GraphTheory<Reach, EitherSide<ReachedRows>> {
     ghost use Rattle.mono_theory.specs.Supports.{facts_in};
-    ghost use Rattle.mono_reach.specs.Marks.{AreBothDecided, under_in};
+    ghost use Rattle.mono_reach.specs.Readings.{AreBothDecided, marks_at};
 
     ghost facts = { facts_in };
 
-    ghost under_of = { under_in };
+    ghost marks_of = { marks_at };
 
     ghost is_decided = { AreBothDecided };
 
     fn marks(&self, atom: u32, node: u32) -> Marks {
         let frame = self.frame();
         let place = frame.place_of(atom);
-        let reached = self.surely().is_marked(frame, place as usize, node);
+        let reached = is_reached(self.surely(), frame, place, node);
         let possible = is_possible(self.possibly(), frame, place, node);
         Marks {
             under: reached,

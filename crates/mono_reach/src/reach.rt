@@ -7,11 +7,12 @@ ghost use Rattle.std.specs.Prelude.{◌≡◌, ◌<◌, All, IfOk};
 ghost use Rattle.mono_graph.specs.Digraph.{IsPartOf};
 ghost use Rattle.mono_reach.specs.Reaches.{cut_evidence as cut_evidence_of};
 
-use crate::reached_side::ReachedSide;
+use crate::reached_rows::ReachedRows;
 use mono_base::Row;
 use mono_graph::{Graph, Part};
 use mono_paths::{PathOrCut, WalkFinder};
 use mono_problem::Predicate;
+use mono_rows::EitherSide;
 use mono_steps::Witness;
 use mono_theory::walks::walk_evidence;
 use mono_theory::{Evidence, GraphTheory, Kind, NodeMarks};
@@ -93,4 +94,4 @@ impl Kind for Reach {
 }
 
 /// Predicates of reachability over one graph.
-pub type ReachTheory = GraphTheory<Reach, ReachedSide>;
+pub type ReachTheory = GraphTheory<Reach, EitherSide<ReachedRows>>;

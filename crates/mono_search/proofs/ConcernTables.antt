@@ -1,13 +1,19 @@
 -- The table of the theories that each variable concerns, and what handing on and counting by it come to.
-use Rattle.std.proofs.Common.{◌≡◌, ℕ, zero, suc, ◌+◌, ◌-◌, ◌<◌, ◌≤◌, Bool, true, false, cond, List, [], ◌∷◌, ◌++◌, map, filter, take, drop, get_or, length, replicate, All, refl, sym, ap, subst, ◌∙◌, ℤ, arith, length-append}
+use Rattle.std.proofs.Common.{◌≡◌, ℕ, zero, suc, ◌+◌, ◌-◌, ◌<◌, ◌≤◌, Bool, true, false, cond, ◌||◌, List, [], ◌∷◌, ◌++◌, map, filter, take, drop, get_or, set, eqb, length, replicate, All, refl, sym, ap, subst, ◌∙◌, inl, inr, ℤ, arith, length-append}
 use Rattle.std.specs.Prelude.{IsTrue}
-use Rattle.std.proofs.lemmas.List.{append-nil, take_more, map-id}
+use Rattle.std.specs.List.Sorted.{IsStrictlyIncreasing}
+use Rattle.std.proofs.lemmas.Bool.{or_right, eq-eqb, ne_eqb, cases_eq}
+use Rattle.std.proofs.lemmas.List.{append-nil, take_more, take_all, map-id, length-set, length-take, get_or-take, get_or_default, get_or-set_same, get_or-set_other}
+use Rattle.std.proofs.lemmas.List.Folds.{list_any_more, list_any_none}
+use Rattle.std.proofs.lemmas.List.Kept.{AllPairs-from_increasing}
+use Rattle.mono_graph.specs.Digraph.{has}
 use Rattle.std.proofs.lemmas.List.Elements.{filter-append}
 use Rattle.mono_base.specs.Literal.{var_of, IsLitWithin}
 use Rattle.mono_base.specs.Partial.{is_open_in}
 use Rattle.mono_theory.specs.Theories.{Facts, concerns_of}
+use Rattle.mono_theory.specs.Variables.{AreVarsOf}
 use Rattle.mono_search.specs.Updates.{update_all, CanUpdate}
-use Rattle.mono_search.specs.TheoryLists.{concerning, concerned_from, IsConcernTable, AddsTheory, seeing, without_last, with_seen, handed_on, MaySee, IsCurrent}
+use Rattle.mono_search.specs.TheoryLists.{concerning, concerned_from, IsConcernTable, AddsTheory, AddsPlace, seeing, without_last, with_seen, handed_on, MaySee, IsCurrent}
 use Rattle.mono_search.proofs.Updates.{can_update, updated}
 use Rattle.mono_search.proofs.Sweeps.{part_split, front_of}
 
@@ -50,6 +56,63 @@ table_more vars k fs f old new t lt at len a =
           ∙ ap (λ (m : ℕ). concerned_from 0 (take k fs) v ++ cond (concerns_of f.graph f.atoms v) (m ∷ []) []) (let e : k ≡ 0 + length (take k fs) = omega (arith, len) in e)
           ∙ sym (concerned_from-append 0 (take k fs) f v) ∙ ap (λ (gs : List Facts). concerned_from 0 gs v) (sym next);
     }
+
+-- ---- how one theory joins it
+
+or-false : (b : Bool) → (b || false) ≡ b
+or-false true = refl
+or-false false = refl
+
+has_more : (vs : List ℕ) (i v x : ℕ) → i < length vs → x ≡ get_or vs i x → has (take (i + 1) vs) v ≡ (has (take i vs) v || eqb x v)
+has_more vs i v x lt at = list_any_more (λ y. eqb y v) vs i x lt ∙ ap (λ y. has (take i vs) v || eqb y v) (sym at)
+
+has_other : (vs : List ℕ) (i v x : ℕ) → i < length vs → x ≡ get_or vs i x → (x ≡ v → ⊥) → has (take (i + 1) vs) v ≡ has (take i vs) v
+has_other vs i v x lt at ne = has_more vs i v x lt at ∙ ap (λ b. has (take i vs) v || b) (ne_eqb x v ne) ∙ or-false (has (take i vs) v)
+
+has_last : (vs : List ℕ) (i x : ℕ) → i < length vs → x ≡ get_or vs i x → has (take (i + 1) vs) x ≡ true
+has_last vs i x lt at = has_more vs i x x lt at ∙ or_right (has (take i vs) x) (eqb x x) (eq-eqb x x refl)
+
+-- a list that rises has no number twice
+not_before : (vs : List ℕ) (i x : ℕ) → IsStrictlyIncreasing vs → i < length vs → x ≡ get_or vs i x → has (take i vs) x ≡ false
+not_before vs i x rising lt at = list_any_none (λ y. eqb y x) (take i vs) (λ k d below.
+    let before : k < i = omega (arith, below, length-take i vs) in
+    let less : get_or vs k x < get_or vs i x = AllPairs-from_increasing vs rising k i x before lt in
+    let same : get_or (take i vs) k d ≡ get_or vs k x = get_or-take i vs k d before ∙ get_or_default vs k d x (omega (arith, before, lt)) in
+    ne_eqb (get_or (take i vs) k d) x (λ e. omega (arith, less, same, e, at)))
+
+pub none_added : (vars place : ℕ) (vs : List ℕ) (table : List (List ℕ)) → AddsPlace vars (take 0 vs) place table table
+none_added vars place vs table = record { keys = refl; at = λ v high. sym (append-nil (get_or table v [])) }
+
+pub one_added : (vars i place x : ℕ) (vs : List ℕ) (old now : List (List ℕ)) → IsStrictlyIncreasing vs → i < length vs → x ≡ get_or vs i x → x < length now
+    → AddsPlace vars (take i vs) place old now → AddsPlace vars (take (i + 1) vs) place old (set now x (get_or now x [] ++ place ∷ []))
+one_added vars i place x vs old now rising lt at fits a = record {
+  keys = length-set now x (get_or now x [] ++ place ∷ []) ∙ a.keys;
+  at = λ v high. elim (cases_eq x v) [
+    | inl e ↦ subst (λ (w : ℕ). get_or (set now x (get_or now x [] ++ place ∷ [])) w [] ≡ get_or old w [] ++ cond (has (take (i + 1) vs) w) (place ∷ []) []) e (here (subst (λ (w : ℕ). w ≤ vars) (sym e) high))
+    | inr ne ↦ get_or-set_other now x v (get_or now x [] ++ place ∷ []) [] (λ e. ne (sym e)) ∙ a.at v high
+        ∙ ap (λ b. get_or old v [] ++ cond b (place ∷ []) []) (sym (has_other vs i v x lt at ne))
+  ];
+}
+  where
+    -- before, the place was not in the list
+    here : x ≤ vars → get_or (set now x (get_or now x [] ++ place ∷ [])) x [] ≡ get_or old x [] ++ cond (has (take (i + 1) vs) x) (place ∷ []) []
+    here high =
+        get_or-set_same now x (get_or now x [] ++ place ∷ []) [] fits
+        ∙ ap (λ ps. ps ++ place ∷ []) (a.at x high ∙ ap (λ b. get_or old x [] ++ cond b (place ∷ []) []) (not_before vs i x rising lt at) ∙ append-nil (get_or old x []))
+        ∙ ap (λ b. get_or old x [] ++ cond b (place ∷ []) []) (sym (has_last vs i x lt at))
+
+pub one_beyond : (vars i place x : ℕ) (vs : List ℕ) (old now : List (List ℕ)) → i < length vs → x ≡ get_or vs i x → vars < x
+    → AddsPlace vars (take i vs) place old now → AddsPlace vars (take (i + 1) vs) place old now
+one_beyond vars i place x vs old now lt at beyond a = record {
+  keys = a.keys;
+  at = λ v high. a.at v high ∙ ap (λ b. get_or old v [] ++ cond b (place ∷ []) []) (sym (has_other vs i v x lt at (λ e. omega (arith, e, high, beyond))));
+}
+
+pub all_added : (vars i place : ℕ) (vs : List ℕ) (old new : List (List ℕ)) → length vs ≤ i → AddsPlace vars (take i vs) place old new → AddsPlace vars vs place old new
+all_added vars i place vs old new whole a = subst (λ (ws : List ℕ). AddsPlace vars ws place old new) (take_all i vs whole) a
+
+pub added_by : (vars place : ℕ) (vs : List ℕ) (f : Facts) (old new : List (List ℕ)) → AreVarsOf f.graph f.atoms vs → AddsPlace vars vs place old new → AddsTheory vars f place old new
+added_by vars place vs f old new are a = record { keys = a.keys; at = λ v low high. a.at v high ∙ ap (λ b. get_or old v [] ++ cond b (place ∷ []) []) (are.exact v) }
 
 -- what keeps graphs and atoms keeps whom a variable concerns
 concerned_kept : (h : Facts → Facts) (n : ℕ) (fs : List Facts) (v : ℕ) → ((f : Facts) → (h f).graph ≡ f.graph) → ((f : Facts) → (h f).atoms ≡ f.atoms) → concerned_from n (map h fs) v ≡ concerned_from n fs v

@@ -3,6 +3,7 @@ use Rattle.mono_base.specs.Partial.{is_open_in}
 use Rattle.std.specs.Prelude.{◌≡◌, ℕ, ◌≤◌, ℤ, List, [], ◌∷◌, ◌++◌, length, take, filter, find, Option, MatchOption, Any, if◌then◌else◌, ◌+◌, ◌-◌, IsTrue, slice_index_or}
 use Rattle.mono_base.specs.Literal.{var_of}
 use Rattle.mono_base.specs.declared.limits.TheConstants.{MAX_VARS}
+use Rattle.mono_graph.specs.Digraph.{has}
 use Rattle.mono_problem.specs.Quiet.{TheoryQuiet}
 use Rattle.mono_steps.specs.declared.lemma.Lemma.{Lemma}
 use Rattle.mono_theory.specs.Theories.{Facts, concerns_of, owns_of, ForcesBy, IsLemmaOf, IsForced}
@@ -61,6 +62,11 @@ pub record IsConcernTable (vars : ℕ) (fs : List Facts) (table : List (List ℕ
 pub record AddsTheory (vars : ℕ) (f : Facts) (place : ℕ) (old new : List (List ℕ)) : Type 0 where
   pub keys : length new ≡ length old
   pub at : (v : ℕ) → 1 ≤ v → v ≤ vars → slice_index_or new v [] ≡ slice_index_or old v [] ++ (if concerns_of f.graph f.atoms v then place ∷ [] else [])
+
+-- the place joins the lists of these variables
+pub record AddsPlace (vars : ℕ) (vs : List ℕ) (place : ℕ) (old new : List (List ℕ)) : Type 0 where
+  pub keys : length new ≡ length old
+  pub at : (v : ℕ) → v ≤ vars → slice_index_or new v [] ≡ slice_index_or old v [] ++ (if has vs v then place ∷ [] else [])
 
 -- ---- who owns an atom
 

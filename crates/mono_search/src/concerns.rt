@@ -1,10 +1,11 @@
 //! Which theories each variable concerns: a table that is made once, so that a literal costs only the theories that it
-//! concerns.
+//! concerns. Each theory lists its variables, so that the table costs what the graphs and the atoms have.
 
 ghost use Rattle.std.specs.Prelude.{◌≡◌, ◌+◌, ◌≤◌, length, IfOk, OnOk};
+ghost use Rattle.std.specs.List.Sorted.{IsStrictlyIncreasing};
 ghost use Rattle.mono_base.specs.declared.limits.TheConstants.{MAX_VARS};
 ghost use Rattle.mono_theory.specs.Owners.{fact_of, facts_of};
-ghost use Rattle.mono_search.specs.TheoryLists.{IsConcernTable, AddsTheory};
+ghost use Rattle.mono_search.specs.TheoryLists.{IsConcernTable, AddsTheory, AddsPlace};
 
 use mono_graph::Buckets;
 use mono_theory::Theory;
@@ -37,10 +38,25 @@ fn add_theory<T: Theory>(
     requires keys { length table.old ≡ vars + 1 }
     ensures { OnOk result (AddsTheory vars (fact_of T.graph T.atoms T.seen theory.now) place table.old table.new) }
 {
-    for below in 0..vars {
-        let var = below + 1;
-        if theory.concerns(var) {
-            table.push(var, place)?;
+    add_place(table, vars, theory.variables(), place)?;
+    Ok(())
+}
+
+/// The place joins the lists of these variables, where they are no greater than `vars`.
+fn add_place(
+    table: &mut Buckets<usize>,
+    vars: u32,
+    listed: &[u32],
+    place: usize,
+) -> Result<(), AllocError>
+    requires few { vars ≤ MAX_VARS }
+    requires keys { length table.old ≡ vars + 1 }
+    requires rising { IsStrictlyIncreasing listed.now }
+    ensures { OnOk result (AddsPlace vars listed.now place table.old table.new) }
+{
+    for var in listed {
+        if *var <= vars {
+            table.push(*var, place)?;
         }
     }
     Ok(())

@@ -5,6 +5,7 @@ use Rattle.std.specs.List.{list_any}
 use Rattle.std.proofs.lemmas.Bool.{or_cases, or_left, or_right, and_from, both_ways, eqb-true}
 use Rattle.std.proofs.lemmas.List.{length-map, get_or-map, take_more}
 use Rattle.std.proofs.lemmas.List.Folds.{list_any-append}
+use Rattle.mono_base.specs.declared.limits.TheConstants.{MAX_ATOMS}
 use Rattle.mono_base.specs.Literal.{var_of, is_lit}
 use Rattle.mono_base.specs.Partial.{is_true_in, is_false_in, is_open_in, has_var, is_partial}
 use Rattle.mono_base.proofs.Partials.{open_is_new, has_var-append, is_partial-push, is_partial-take, joined, later_is_new}
@@ -18,6 +19,7 @@ use Rattle.mono_theory.specs.Evidences.{side}
 use Rattle.mono_problem.specs.WellFormed.{IsOver}
 use Rattle.mono_theory.specs.Index.{IsPlaceOf}
 use Rattle.mono_theory.specs.Theories.{concerns_of, owns_of, atom_of}
+use Rattle.mono_theory.specs.Variables.{AreVarsOf}
 use Rattle.mono_theory.specs.Bound.{Bound, edge_vars, assigned, unassigned, IsBoundOf}
 use Rattle.mono_theory.specs.Frames.{AreAtomsOf, IsVar, atom_vars, atom_numbers, IsFrame}
 use Rattle.mono_theory.proofs.Pigeons.{pigeon}
@@ -92,7 +94,23 @@ concerned-push g atoms t l h c v m =
       | inr e ↦ elim (or_cases (eqb (var_of l) v) false e) [ inl s ↦ subst (λ (w : ℕ). IsTrue (concerns_of g atoms w)) (eqb-true (var_of l) v s) c | inr f ↦ absurd cc ]
     ]
 
-pub seen_few : {g : Digraph} {atoms : List Atom} {t : List ℤ} {b o : Bound} {ns : List ℕ} {cells : ℕ} → IsFrame g atoms t b o ns cells → length t < 2 ^ 31
+-- nothing was seen yet
+pub IsFrame-new : {g : Digraph} {atoms : List Atom} {b o : Bound} {ns vs : List ℕ} {cells : ℕ} → IsGraph g → AreAtomsOf g atoms → length atoms ≤ MAX_ATOMS → IsBoundOf b (edge_vars g) [] → IsBoundOf o (atom_vars atoms) []
+    → ns ≡ atom_numbers atoms → AreVarsOf g atoms vs → length g.edges + length atoms ≤ cells → IsFrame g atoms [] b o ns vs cells
+IsFrame-new graph known few edges own numbered vars room = record {
+  graph = graph;
+  known = known;
+  partial = refl;
+  concerned = λ v m. absurd cc;
+  edges = edges;
+  own = own;
+  numbered = numbered;
+  vars = vars;
+  room = room;
+  few = few;
+}
+
+pub seen_few : {g : Digraph} {atoms : List Atom} {t : List ℤ} {b o : Bound} {ns vs : List ℕ} {cells : ℕ} → IsFrame g atoms t b o ns vs cells → length t < 2 ^ 31
 seen_few {g = g} {atoms = atoms} {t = t} s =
     let few : length t ≤ length (vars_of g atoms) = few_vars t (vars_of g atoms) s.partial
     (λ v m. list_any-append (λ e. eqb e v) (edge_vars g) (atom_vars atoms) ∙ has-both g atoms v ∙ s.concerned v m) in
@@ -100,14 +118,14 @@ seen_few {g = g} {atoms = atoms} {t = t} s =
     let atoms_few = s.few in
     omega (arith, few, length-append (edge_vars g) (atom_vars atoms), length-map g.edges (λ e. e.var), length-map atoms (λ x. x.var), edges, atoms_few)
 
-pub room_for_one : {g : Digraph} {atoms : List Atom} {t : List ℤ} {b o : Bound} {ns : List ℕ} {cells : ℕ} (l : ℤ) → IsFrame g atoms t b o ns cells → IsTrue (concerns_of g atoms (var_of l)) → IsTrue (is_open_in t l) → length t + 1 ≤ cells
+pub room_for_one : {g : Digraph} {atoms : List Atom} {t : List ℤ} {b o : Bound} {ns vs : List ℕ} {cells : ℕ} (l : ℤ) → IsFrame g atoms t b o ns vs cells → IsTrue (concerns_of g atoms (var_of l)) → IsTrue (is_open_in t l) → length t + 1 ≤ cells
 room_for_one {g = g} {atoms = atoms} {t = t} l s c f =
     let few : length (t ++ l ∷ []) ≤ length (vars_of g atoms) = few_vars (t ++ l ∷ []) (vars_of g atoms) (is_partial-push t l s.partial (lit_by l (concerned_is_var g atoms (nat_abs l) s.graph s.known c)) (open_is_new t l f))
     (λ v m. list_any-append (λ e. eqb e v) (edge_vars g) (atom_vars atoms) ∙ has-both g atoms v ∙ concerned-push g atoms t l s.concerned c v m) in
     omega (arith, few, length-append (edge_vars g) (atom_vars atoms), length-map g.edges (λ e. e.var), length-map atoms (λ x. x.var), s.room, length-append t (l ∷ []))
 
-pub IsFrame-push : {g : Digraph} {atoms : List Atom} {t : List ℤ} {b o : Bound} {ns : List ℕ} {cells : ℕ} (l : ℤ) (more : ℕ) → IsFrame g atoms t b o ns cells → IsTrue (concerns_of g atoms (var_of l)) → IsTrue (is_open_in t l) → cells ≤ more
-    → IsFrame g atoms (t ++ l ∷ []) (assigned b l) (assigned o l) ns more
+pub IsFrame-push : {g : Digraph} {atoms : List Atom} {t : List ℤ} {b o : Bound} {ns vs : List ℕ} {cells : ℕ} (l : ℤ) (more : ℕ) → IsFrame g atoms t b o ns vs cells → IsTrue (concerns_of g atoms (var_of l)) → IsTrue (is_open_in t l) → cells ≤ more
+    → IsFrame g atoms (t ++ l ∷ []) (assigned b l) (assigned o l) ns vs more
 IsFrame-push {g = g} {atoms = atoms} {t = t} {b = b} {o = o} l more s c f wider =
     let var : IsTrue (is_lit l) = lit_by l (concerned_is_var g atoms (nat_abs l) s.graph s.known c) in
     record {
@@ -118,12 +136,13 @@ IsFrame-push {g = g} {atoms = atoms} {t = t} {b = b} {o = o} l more s c f wider 
       edges = assigned_is_bound b (edge_vars g) t l var s.edges;
       own = assigned_is_bound o (atom_vars atoms) t l var s.own;
       numbered = s.numbered;
+      vars = s.vars;
       room = omega (arith, s.room, wider);
       few = s.few;
     }
 
-pub IsFrame-take : {g : Digraph} {atoms : List Atom} {t : List ℤ} {b o : Bound} {ns : List ℕ} {cells : ℕ} (b' o' : Bound) (k : ℕ) → IsFrame g atoms t b o ns cells → IsBoundOf b' (edge_vars g) (take k t) → IsBoundOf o' (atom_vars atoms) (take k t)
-    → IsFrame g atoms (take k t) b' o' ns cells
+pub IsFrame-take : {g : Digraph} {atoms : List Atom} {t : List ℤ} {b o : Bound} {ns vs : List ℕ} {cells : ℕ} (b' o' : Bound) (k : ℕ) → IsFrame g atoms t b o ns vs cells → IsBoundOf b' (edge_vars g) (take k t) → IsBoundOf o' (atom_vars atoms) (take k t)
+    → IsFrame g atoms (take k t) b' o' ns vs cells
 IsFrame-take {t = t} b' o' k s h i = record {
   graph = s.graph;
   known = s.known;
@@ -132,6 +151,7 @@ IsFrame-take {t = t} b' o' k s h i = record {
   edges = h;
   own = i;
   numbered = s.numbered;
+  vars = s.vars;
   room = s.room;
   few = s.few;
 }
@@ -188,6 +208,9 @@ number_is_held atoms ns n e h none = both_ways (owns_of atoms n) (sym (has-numbe
 -- the atom at the place of its number
 pub atom_place : (atoms : List Atom) (ns : List ℕ) (n k : ℕ) → ns ≡ atom_numbers atoms → IsPlaceOf ns n k → k < length atoms
 atom_place atoms ns n k e h = let lt = h.held in omega (arith, lt, ap length e, length-map atoms (λ (x : Atom). x.number))
+
+pub place_number : (atoms : List Atom) (ns : List ℕ) (n k : ℕ) → ns ≡ atom_numbers atoms → IsPlaceOf ns n k → (get_or atoms k no_atom).number ≡ n
+place_number atoms ns n k e h = sym (get_or-map (λ (y : Atom). y.number) atoms k no_atom 0 (atom_place atoms ns n k e h)) ∙ (ap (λ ms. get_or ms k 0) (sym e) ∙ h.is)
 
 pub found_by_place : (g : Digraph) (atoms : List Atom) (ns : List ℕ) (n k : ℕ) (x : Atom) → AreAtomsOf g atoms → ns ≡ atom_numbers atoms → IsPlaceOf ns n k → x ≡ get_or atoms k no_atom
     → (atom_of atoms n ≡ Some x) × IsVar x.var × IsOver g x.predicate

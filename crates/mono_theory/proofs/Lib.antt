@@ -1,7 +1,9 @@
 pub mod Pigeons
+pub mod EntryLaws
 pub mod Switches
 pub mod IndexLaws
 pub mod BoundLaws
+pub mod VarLaws
 pub mod FrameLaws
 pub mod EvidenceLaws
 pub mod TheoryLaws

@@ -1,5 +1,5 @@
 -- Witnesses against a predicate that ask something of some present edges alone: they rest on those of them that are absent.
-use Rattle.std.proofs.Common.{◌≡◌, ℕ, ◌<◌, Bool, true, false, not, ◌&&◌, cond, List, [], ◌∷◌, ◌++◌, length, refl, sym, ap, subst, ◌∙◌, ◌⊎◌, inl, inr, arith}
+use Rattle.std.proofs.Common.{◌≡◌, ℕ, ◌<◌, Bool, true, false, not, ◌&&◌, cond, List, [], ◌∷◌, ◌++◌, get_or, length, refl, sym, ap, subst, ◌∙◌, ◌⊎◌, inl, inr, arith}
 use Rattle.std.specs.Prelude.{IsTrue, flat_map}
 use Rattle.std.proofs.lemmas.Bool.{or_cases, and_parts, and_from, both_ways, not-true, not_from_false, cases_Bool, false_from_ne_true}
 use Rattle.std.specs.List.{list_all}
@@ -9,8 +9,9 @@ use Rattle.mono_graph.proofs.Membership.{has_here, has_there, has_cons, has_appe
 use Rattle.mono_graph.proofs.Places.{list_all_agree}
 use Rattle.mono_problem.specs.declared.atom.Predicate.{Predicate}
 use Rattle.mono_steps.specs.declared.lemma.Witness.{Witness}
+use Rattle.mono_steps.specs.declared.lemma.Witness.TheVariants as by
 use Rattle.mono_steps.specs.Witnesses.{is_positive, is_small, names_known, passes}
-use Rattle.mono_theory.specs.Evidences.{only, all_but, IsEvidence}
+use Rattle.mono_theory.specs.Evidences.{only, all_but, uses, IsEvidence}
 use Rattle.mono_theory.specs.Resting.{AreAbsent, AreAlike, absent_from, absent_into, absent_out, absent_across}
 use Rattle.mono_theory.proofs.EvidenceLaws.{not_in_all_but, in_all_but}
 use Rattle.mono_theory.proofs.Pigeons.{all_has}
@@ -43,6 +44,17 @@ alike_none {test = test} {g = g} {P = P} {Q = Q} h =
 
 -- ---- evidence
 
+-- a witness against a predicate uses each edge
+against_uses : (g : Digraph) (w : Witness) (k : ℕ) → is_positive w ≡ false → IsTrue (uses g w k)
+against_uses g (by.Path es) k h = refl
+against_uses g (by.Cut us) k h = refl
+against_uses g (by.Label ls) k h = refl
+against_uses g (by.Flow ms) k h = absurd cc
+against_uses g (by.FlowCut us) k h = refl
+against_uses g (by.Tree es) k h = refl
+against_uses g (by.Split us) k h = refl
+against_uses g (by.Least es) k h = refl
+
 -- a witness against a predicate whose test looks only at the edges that pass a test rests on the absent ones
 pub resting_evidence : (test : Edge → Bool) (g : Digraph) (P : List Bool) (q : Predicate) (w : Witness) (ks : List ℕ) → is_positive w ≡ false → IsTrue (names_known g w) → IsTrue (is_small w)
     → ((Q : List Bool) → AreAlike test g P Q → passes g P q w ≡ passes g Q q w) → AreAbsent test g P ks → IsTrue (passes g P q w) → IsEvidence g P q (record { witness = w; edges = ks })
@@ -50,6 +62,7 @@ resting_evidence test g P q w ks sign known small looks h p = record {
   known = known;
   small = small;
   sided = all_by (λ k. (k < length g.edges) × (present P k ≡ is_positive w)) ks (λ k t. let a = all_has (λ j. (j < length g.edges) × (present P j ≡ false)) ks k h.absent t in (a.0, a.1 ∙ sym sign));
+  used = λ i d lt. against_uses g w (get_or ks i d) sign;
   passes = ap (λ (b : Bool). passes g (cond b (only g ks) (all_but g ks)) q w) sign ∙ sym (looks (all_but g ks) (alike_without h)) ∙ p;
 }
 

@@ -23,7 +23,7 @@ use Rattle.mono_theory.proofs.Pigeons.{all_has}
 pub evidence_is_sound : (g : Digraph) (P : List Bool) (q : Predicate) (e : Evidence) (b : Bool) → is_positive e.witness ≡ b → IsEvidence g P q e → IsSound g q b e
 evidence_is_sound g P q e b s h =
     let x = by_sign s h in
-    record { sign = s; known = h.known; small = h.small; held = λ i d lt. (h.sided i d lt).0; passes = x.passes }
+    record { sign = s; known = h.known; small = h.small; held = λ i d lt. (h.sided i d lt).0; used = h.used; passes = x.passes }
 
 pub evidence_has : (g : Digraph) (P : List Bool) (q : Predicate) (e : Evidence) (b : Bool) → is_positive e.witness ≡ b → IsEvidence g P q e → AllHave P b e.edges
 evidence_has g P q e b s h = λ i d lt. (h.sided i d lt).1 ∙ s
@@ -44,6 +44,7 @@ sound_is_evidence g P q b e h have = record {
   known = h.known;
   small = h.small;
   sided = λ i d lt. (h.held i d lt, have i d lt ∙ sym h.sign);
+  used = h.used;
   passes = subst (λ (c : Bool). IsTrue (passes g (cond c (only g e.edges) (all_but g e.edges)) q e.witness)) (sym h.sign) h.passes;
 }
 

@@ -1,14 +1,15 @@
--- Switching all the places that the index lists for a key.
+-- The places that the index lists for a key, and switching them all.
 use Rattle.std.proofs.Common.{◌≡◌, ◌≢◌, ℕ, zero, suc, ◌+◌, ◌-◌, ◌<◌, ◌≤◌, Bool, true, false, cond, List, [], ◌∷◌, length, take, drop, get_or, eqb, ◌⊎◌, refl, sym, ap, subst, ◌∙◌, inl, inr, arith}
 use Rattle.std.specs.Prelude.{IsTrue}
-use Rattle.std.specs.List.{AllWithin}
 use Rattle.std.proofs.lemmas.Bool.{cases_lt}
-use Rattle.std.proofs.lemmas.List.{ext_get_or, get_or-take, get_or-drop, get_or-map, length-take-le, length-drop, length-map}
+use Rattle.std.proofs.lemmas.List.{ext_get_or, get_or_default, get_or-take, get_or-drop, get_or-map, length-take-le, length-drop, length-map}
+use Rattle.std.proofs.lemmas.List.Folds.{list_any_none}
 use Rattle.mono_graph.specs.Digraph.{has}
 use Rattle.mono_graph.proofs.Membership.{has_cons, has_get_or}
 use Rattle.std.proofs.lemmas.Bool.Decides.{eqb_tells}
-use Rattle.mono_theory.specs.declared.index.Entry.{Entry}
-use Rattle.mono_theory.specs.Index.{IsIndex, IsIndexed, IsPlaceOf, ArePlacesOf, no_entry, entry_at, switched}
+use Rattle.mono_theory.specs.declared.entries.Entry.{Entry}
+use Rattle.mono_theory.specs.Entries.{IsRange, no_entry, entry_at}
+use Rattle.mono_theory.specs.Index.{IsIndex, IsIndexed, IsPlaceOf, ArePlacesOf, switched}
 
 pub length-switched : (keys : List ℕ) (v : ℕ) (on : Bool) (P : List Bool) → length P ≡ length keys → length (switched keys v on P) ≡ length keys
 length-switched [] v on P e = refl
@@ -21,14 +22,6 @@ switched-at [] v on P k e lt = absurd (omega arith)
 switched-at (x ∷ xs) v on [] k e lt = absurd (omega arith)
 switched-at (x ∷ xs) v on (p ∷ ps) zero e lt = refl
 switched-at (x ∷ xs) v on (p ∷ ps) (suc k) e lt = switched-at xs v on ps k (omega arith) (omega arith)
-
--- the entries from start to end are those of the key
-pub record IsRange (es : List Entry) (v start end : ℕ) : Type 0 where
-  pub below : AllWithin (λ e. e.key < v) es 0 start
-  pub from : AllWithin (λ e. v ≤ e.key) es start (length es)
-  pub up_to : AllWithin (λ e. e.key ≤ v) es 0 end
-  pub above : AllWithin (λ e. v < e.key) es end (length es)
-  pub end_fits : end ≤ length es
 
 -- each place of the key stands in the range
 pub record InRange (es : List Entry) (start end k : ℕ) : Type 0 where
@@ -48,40 +41,6 @@ place_in_range keys es v start end k ix r lt e =
       is = p;
     }
 
-pub switched_by : (keys : List ℕ) (es : List Entry) (v start end : ℕ) (on : Bool) (P Q : List Bool) → IsIndex keys es → IsRange es v start end
-    → length P ≡ length keys → length Q ≡ length keys
-    → ((i : ℕ) → start ≤ i → i < end → get_or Q (entry_at es i).place false ≡ on)
-    → ((k : ℕ) → ((i : ℕ) → start ≤ i → i < end → (entry_at es i).place ≢ k) → get_or Q k false ≡ get_or P k false)
-    → Q ≡ switched keys v on P
-switched_by keys es v start end on P Q ix r lenP lenQ done others =
-    ext_get_or false Q (switched keys v on P) (lenQ ∙ sym (length-switched keys v on P lenP)) (λ k lt.
-    let lt' : k < length keys = omega (arith, lenQ) in
-    at k lt' (eqb_tells (get_or keys k 0) v) ∙ sym (switched-at keys v on P k lenP lt'))
-  where
-    var_of_entry : (i : ℕ) → i < length es → (entry_at es i).key ≡ get_or keys (entry_at es i).place 0
-    var_of_entry i lt = (ix.known i no_entry lt).1
-
-    within : (i : ℕ) → i < end → i < length es
-    within i hi = let fits = r.end_fits in omega (arith, fits)
-
-    between : (i : ℕ) → start ≤ i → i < end → (entry_at es i).key ≡ v
-    between i lo hi = let a = r.from i no_entry lo (within i hi) in let b = r.up_to i no_entry (omega arith) hi in omega (arith, a, b)
-
-    ranged : (k : ℕ) → get_or keys k 0 ≡ v → (i : ℕ) → i < length es → (entry_at es i).place ≡ k → (start ≤ i) × (i < end)
-    ranged k e i lt p =
-        let var : (entry_at es i).key ≡ v = var_of_entry i lt ∙ ap (λ j. get_or keys j 0) p ∙ e in (
-          elim (cases_lt i start) [ inl l ↦ (let h = r.below i no_entry (omega arith) l in absurd (omega (arith, h, var))) | inr ge ↦ ge ],
-          elim (cases_lt i end) [ inl l ↦ l | inr ge ↦ (let h = r.above i no_entry ge lt in absurd (omega (arith, h, var))) ],
-        )
-
-    at : (k : ℕ) → k < length keys → ((eqb (get_or keys k 0) v ≡ true) × (get_or keys k 0 ≡ v)) ⊎ ((eqb (get_or keys k 0) v ≡ false) × (get_or keys k 0 ≢ v)) → get_or Q k false ≡ cond (eqb (get_or keys k 0) v) on (get_or P k false)
-    at k lt (inl e) =
-        let (i, fits, p) = ix.each k lt in
-        let w = ranged k e.1 i fits p in
-        ap (λ j. get_or Q j false) (sym p) ∙ done i w.0 w.1 ∙ sym (ap (λ b. cond b on (get_or P k false)) e.0)
-    at k lt (inr ne) =
-        others k (λ i lo hi p. ne.1 (sym (ap (λ j. get_or keys j 0) p) ∙ sym (var_of_entry i (within i hi)) ∙ between i lo hi)) ∙ sym (ap (λ b. cond b on (get_or P k false)) ne.0)
-
 -- ---- the places of a key
 
 pub index_of : (ks : List ℕ) (v : ℕ) → IsTrue (has ks v) → (i : ℕ) × (i < length ks) × (get_or ks i 0 ≡ v)
@@ -90,6 +49,33 @@ index_of (k ∷ ks) v h = elim (has_cons k v ks h) [
   | inl e ↦ (0, omega arith, e)
   | inr t ↦ let r = index_of ks v t in (suc r.0, omega (arith, r.1), r.2)
 ]
+
+-- the first of the places of a key
+pub first_is : (keys ks : List ℕ) (v : ℕ) → ArePlacesOf keys v ks → 0 < length ks → IsPlaceOf keys v (get_or ks 0 0)
+first_is keys ks v places some = places.each (get_or ks 0 0) (has_get_or ks 0 0 some)
+
+pub none_is : (keys ks : List ℕ) (v : ℕ) → ArePlacesOf keys v ks → length ks ≡ 0 → has keys v ≡ false
+none_is keys ks v places none = list_any_none (λ x. eqb x v) keys (λ k d lt. at k d lt (eqb_tells (get_or keys k d) v))
+  where
+    at : (k d : ℕ) → k < length keys → ((eqb (get_or keys k d) v ≡ true) × (get_or keys k d ≡ v)) ⊎ ((eqb (get_or keys k d) v ≡ false) × (get_or keys k d ≢ v)) → eqb (get_or keys k d) v ≡ false
+    at k d lt (inr e) = e.0
+    at k d lt (inl e) = let w = index_of ks k (places.all k lt (get_or_default keys k 0 d lt ∙ e.1)) in absurd (omega (arith, w.1, none))
+
+pub switched_by : (keys ks : List ℕ) (v : ℕ) (on : Bool) (P Q : List Bool) → ArePlacesOf keys v ks → length P ≡ length keys → length Q ≡ length keys
+    → ((i : ℕ) → i < length ks → get_or Q (get_or ks i 0) false ≡ on)
+    → ((k : ℕ) → ((i : ℕ) → i < length ks → get_or ks i 0 ≢ k) → get_or Q k false ≡ get_or P k false)
+    → Q ≡ switched keys v on P
+switched_by keys ks v on P Q places lenP lenQ done others =
+    ext_get_or false Q (switched keys v on P) (lenQ ∙ sym (length-switched keys v on P lenP)) (λ k lt.
+    let lt' : k < length keys = omega (arith, lenQ) in
+    at k lt' (eqb_tells (get_or keys k 0) v) ∙ sym (switched-at keys v on P k lenP lt'))
+  where
+    at : (k : ℕ) → k < length keys → ((eqb (get_or keys k 0) v ≡ true) × (get_or keys k 0 ≡ v)) ⊎ ((eqb (get_or keys k 0) v ≡ false) × (get_or keys k 0 ≢ v)) → get_or Q k false ≡ cond (eqb (get_or keys k 0) v) on (get_or P k false)
+    at k lt (inl e) =
+        let w = index_of ks k (places.all k lt e.1) in
+        ap (λ j. get_or Q j false) (sym w.2) ∙ done w.0 w.1 ∙ sym (ap (λ b. cond b on (get_or P k false)) e.0)
+    at k lt (inr ne) =
+        others k (λ i fits is. ne.1 (places.each k (subst (λ (j : ℕ). IsTrue (has ks j)) is (has_get_or ks i 0 fits))).is) ∙ sym (ap (λ b. cond b on (get_or P k false)) ne.0)
 
 pub places_are : (keys : List ℕ) (es : List Entry) (ks : List ℕ) (v start end : ℕ) → IsIndexed keys es ks → IsRange es v start end → ArePlacesOf keys v (take (end - start) (drop start ks))
 places_are keys es ks v start end ix r = record {

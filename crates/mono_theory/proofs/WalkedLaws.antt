@@ -64,5 +64,6 @@ walk_is_evidence g P q u v limit ks serves ok known h =
       known = numbers-known g ks ok known;
       small = refl;
       sided = all_by (λ k. (k < length g.edges) × (present P k ≡ true)) ks (λ k t. (all_has (λ j. j < length g.edges) ks k known t, all_at (present P) ks k there t));
+      used = λ i d lt. refl;
       passes = serves (only g ks) (numbers_of g ks) ∙ ap (is_path g (only g ks) u v limit) (placed-numbers g ks ok known) ∙ own_path g P u v limit ks known h;
     }

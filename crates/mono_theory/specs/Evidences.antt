@@ -1,11 +1,14 @@
 -- Evidence: a witness for or against a predicate, and the edges on which it rests.
-use Rattle.std.specs.Prelude.{◌≡◌, ℕ, ◌<◌, Bool, true, false, not, ℤ, pos, int_lt, List, ◌∷◌, length, map, IsTrue, All, if◌then◌else◌}
+use Rattle.std.specs.Prelude.{◌≡◌, ℕ, ◌<◌, nat_lt, Bool, true, false, not, ℤ, pos, int_lt, List, ◌∷◌, length, map, IsTrue, All, if◌then◌else◌}
 use Rattle.mono_graph.specs.Digraph.{Digraph, edge_at, places, present, has}
+use Rattle.mono_graph.specs.Flows.{amount_at}
 use Rattle.mono_problem.specs.declared.atom.Atom.{Atom}
 use Rattle.mono_problem.specs.declared.atom.Predicate.{Predicate}
 use Rattle.mono_problem.specs.Holds.{Holds}
 use Rattle.mono_problem.specs.Quiet.{under, over}
 use Rattle.mono_steps.specs.declared.lemma.Lemma.{Lemma}
+use Rattle.mono_steps.specs.declared.lemma.Witness.{Witness}
+use Rattle.mono_steps.specs.declared.lemma.Witness.TheVariants as by
 use Rattle.mono_steps.specs.Switching.{literal_of}
 use Rattle.mono_steps.specs.Witnesses.{is_positive, names_known, is_small, passes}
 use Rattle.mono_theory.specs.declared.evidence.Evidence.{Evidence}
@@ -22,12 +25,18 @@ only g ks = map (has ks) (places g)
 abbrev pub all_but : Digraph → List ℕ → List Bool
 all_but g ks = map (λ k. not (has ks k)) (places g)
 
--- The witness names what is there. Where it shows that the predicate holds, the edges are present and it passes over
--- them alone. Else the edges are absent, and it passes over all others.
+-- the witness uses the edge: a flow gives it something. Any other uses each edge on which it rests
+abbrev pub uses : Digraph → Witness → ℕ → Bool
+uses g (by.Flow amounts) k = nat_lt 0 (amount_at amounts (edge_at g k).number)
+uses g w k = true
+
+-- The witness names what is there, and uses the edges. Where it shows that the predicate holds, they are present and it
+-- passes over them alone. Else they are absent, and it passes over all others.
 pub record IsEvidence (g : Digraph) (P : List Bool) (q : Predicate) (e : Evidence) : Type 0 where
   pub known : IsTrue (names_known g e.witness)
   pub small : IsTrue (is_small e.witness)
   pub sided : All (λ k. (k < length g.edges) × (present P k ≡ is_positive e.witness)) e.edges
+  pub used : All (λ k. IsTrue (uses g e.witness k)) e.edges
   pub passes : IsTrue (passes g (if is_positive e.witness then only g e.edges else all_but g e.edges) q e.witness)
 
 -- the atom's variable has the value that the witness shows, or an edge on which it rests is otherwise

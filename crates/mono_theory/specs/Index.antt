@@ -1,14 +1,9 @@
--- The places of each key, found by a binary search.
-use Rattle.std.specs.Prelude.{◌≡◌, ℕ, ◌<◌, ◌==◌, Bool, List, [], ◌∷◌, length, map, slice_index_or, slice_index, All, IsTrue, if◌then◌else◌}
+-- The places of each key.
+use Rattle.std.specs.Prelude.{◌≡◌, ℕ, ◌<◌, ◌==◌, Bool, List, [], ◌∷◌, length, map, slice_index, All, IsTrue, if◌then◌else◌}
 use Rattle.std.specs.List.Sorted.{IsNonDecreasingBy}
 use Rattle.mono_graph.specs.Digraph.{has}
-use Rattle.mono_theory.specs.declared.index.Entry.{Entry}
-
-abbrev pub no_entry : Entry
-no_entry = record { key = 0; place = 0 }
-
-abbrev pub entry_at : List Entry → ℕ → Entry
-entry_at es i = slice_index_or es i no_entry
+use Rattle.mono_theory.specs.declared.entries.Entry.{Entry}
+use Rattle.mono_theory.specs.Entries.{entry_at}
 
 -- the entries are the places with their keys, each at least once, in the order of the keys
 pub record IsIndex (keys : List ℕ) (es : List Entry) : Type 0 where

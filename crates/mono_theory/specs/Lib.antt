@@ -1,4 +1,6 @@
 pub mod Theories
+pub mod Entries
+pub mod Variables
 pub mod Index
 pub mod Bound
 pub mod Evidences

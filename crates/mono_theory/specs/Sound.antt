@@ -7,7 +7,7 @@ use Rattle.mono_problem.specs.Read.{no_atom}
 use Rattle.mono_steps.specs.declared.lemma.Witness.{Witness}
 use Rattle.mono_steps.specs.Witnesses.{is_positive, names_known, is_small, passes}
 use Rattle.mono_theory.specs.declared.evidence.Evidence.{Evidence}
-use Rattle.mono_theory.specs.Evidences.{only, all_but}
+use Rattle.mono_theory.specs.Evidences.{only, all_but, uses}
 
 -- the edges all have the value in the part
 abbrev pub AllHave : List Bool → Bool → List ℕ → Type 0
@@ -23,6 +23,7 @@ pub record IsSound (g : Digraph) (q : Predicate) (value : Bool) (e : Evidence) :
   pub known : IsTrue (names_known g e.witness)
   pub small : IsTrue (is_small e.witness)
   pub held : All (λ k. k < length g.edges) e.edges
+  pub used : All (λ k. IsTrue (uses g e.witness k)) e.edges
   pub passes : IsTrue (passes g (if value then only g e.edges else all_but g e.edges) q e.witness)
 
 -- a witness for the predicate, or against it, that passes over the part

@@ -33,7 +33,7 @@ impl Model for Bounds {
 }
 
 /// The variables of the edges.
-fn vars_of(alloc: Global, graph: &Graph) -> Result<Vec<u32>, AllocError>
+pub(crate) fn vars_of(alloc: Global, graph: &Graph) -> Result<Vec<u32>, AllocError>
     ensures vars { IfOk result (λ v. v.items ≡ edge_vars graph.now) }
     ensures few { length graph.now.edges < 2 ^ 32 }
 {

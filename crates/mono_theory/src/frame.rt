@@ -4,6 +4,7 @@
 //! atoms' own variables, and the list has room for one literal of each variable. So a literal comes without memory.
 
 ghost use Rattle.std.specs.Prelude.{◌≡◌, ◌==◌, ◌<◌, ◌≤◌, ◌++◌, ◌∷◌, ◌^◌, [], ℕ, pos, map, not, false, take, length, find, All, Some, IfOk, IfSome, IsSome, IsTrue, int_lt, slice_index_or, vec_len, vec_capacity};
+ghost use Rattle.std.specs.List.Sorted.{IsStrictlyIncreasing};
 ghost use Rattle.mono_base.specs.Literal.{var_of};
 ghost use Rattle.mono_base.specs.Partial.{is_true_in, is_false_in, is_open_in, is_partial};
 ghost use Rattle.mono_graph.specs.Digraph.{IsGraph, has};
@@ -12,8 +13,10 @@ ghost use Rattle.mono_problem.specs.Read.{no_atom};
 ghost use Rattle.mono_theory.specs.Bound.{edge_vars, IsBoundOf};
 ghost use Rattle.mono_steps.specs.Switching.{literal_of};
 ghost use Rattle.mono_theory.specs.Frames.{atom_vars, atom_numbers};
+ghost use Rattle.mono_theory.specs.Variables.{AreVarsOf};
 ghost use Rattle.mono_theory.specs.Supports.{IsSettled, part_of};
 
+use crate::bounds::vars_of as edge_vars_of;
 use crate::index::Index;
 use crate::past::evidence_by;
 use crate::{Bounds, Evidence, Kind};
@@ -35,6 +38,7 @@ pub struct Frame {
     lits: Vec<Lit>,
     edges: Bounds,
     own: Bounds,
+    vars: Vec<u32>,
 }
 
 impl Model for Frame {
@@ -46,7 +50,7 @@ impl Model for Frame {
 
     ghost view = { λ s. record { graph = s.graph; atoms = s.atoms.items; seen = s.lits.items } };
 
-    ghost invariant = { λ s. IsFrame s.graph s.atoms.items s.lits.items s.edges s.own s.numbers (vec_capacity s.lits) };
+    ghost invariant = { λ s. IsFrame s.graph s.atoms.items s.lits.items s.edges s.own s.numbers s.vars.items (vec_capacity s.lits) };
 }
 
 /// The variables of the atoms.
@@ -61,6 +65,44 @@ fn numbers_of(alloc: Global, atoms: &[Atom]) -> Result<Vec<u32>, AllocError>
     ensures { IfOk result (λ numbers. numbers.items ≡ atom_numbers atoms.now) }
 {
     atoms.iter().map(|x| x.number).collect(alloc)
+}
+
+/// The bounds of the atoms' own variables, none of which has a value.
+fn own_bounds(alloc: Global, atoms: &[Atom]) -> Result<Bounds, AllocError>
+    requires { length atoms.now ≤ MAX_ATOMS }
+    ensures { IfOk result (λ b. IsBoundOf b (atom_vars atoms.now) []) }
+{
+    let vars = vars_of(alloc, atoms)?;
+    Bounds::of_vars(alloc, vars)
+}
+
+/// The index of the atoms' numbers.
+fn number_index(alloc: Global, atoms: &[Atom]) -> Result<Index, AllocError>
+    requires { length atoms.now ≤ MAX_ATOMS }
+    ensures { IfOk result (λ index. index ≡ atom_numbers atoms.now) }
+{
+    let numbers = numbers_of(alloc, atoms)?;
+    Index::new(alloc, numbers)
+}
+
+/// Sorts the numbers, and leaves each of them once.
+fn sort_once(numbers: &mut Vec<u32>)
+    ensures rising { IsStrictlyIncreasing numbers.new.items }
+    ensures same { (v : ℕ) → has numbers.new.items v ≡ has numbers.old.items v }
+{
+    numbers.sort_unstable();
+    numbers.dedup();
+}
+
+/// The variables of the graph's edges and of the atoms, rising, each once.
+fn variables_of(alloc: Global, graph: &Graph, atoms: &[Atom]) -> Result<Vec<u32>, AllocError>
+    ensures { IfOk result (λ vars. AreVarsOf graph.now atoms.now vars.items) }
+{
+    let mut vars = edge_vars_of(alloc, graph)?;
+    let own = vars_of(alloc, atoms)?;
+    vars.extend_from_slice(own.as_slice())?;
+    sort_once(&mut vars);
+    Ok(vars)
 }
 
 /// The first literals stay, and the bounds are theirs.
@@ -109,11 +151,10 @@ impl Frame {
         ensures { IfOk result (λ s. s ≡ record { graph = graph; atoms = atoms.items; seen = [] }) }
     {
         let _ = graph.nodes();
-        let vars = vars_of(alloc, atoms.as_slice())?;
-        let own = Bounds::of_vars(alloc, vars)?;
-        let its_numbers = numbers_of(alloc, atoms.as_slice())?;
-        let numbers = Index::new(alloc, its_numbers)?;
+        let own = own_bounds(alloc, atoms.as_slice())?;
+        let numbers = number_index(alloc, atoms.as_slice())?;
         let edges = Bounds::new(alloc, &graph)?;
+        let vars = variables_of(alloc, &graph, atoms.as_slice())?;
         let lits = Vec::with_capacity(alloc, graph.edge_count() as usize + atoms.len())?;
         Ok(Frame {
             graph,
@@ -122,6 +163,7 @@ impl Frame {
             lits,
             edges,
             own,
+            vars,
         })
     }
 
@@ -130,6 +172,13 @@ impl Frame {
         ensures { result ≡ concerns_of self.now.graph self.now.atoms var }
     {
         self.edges.has(var) || self.own.has(var)
+    }
+
+    /// The variables of the edges and of the atoms, rising, each once.
+    pub(crate) fn variables(&self) -> &[u32]
+        ensures { AreVarsOf self.now.graph self.now.atoms result.now }
+    {
+        self.vars.as_slice()
     }
 
     /// How many literals were seen.
@@ -206,6 +255,7 @@ impl Frame {
         requires { IsSome (atom_of self.now.atoms number) }
         ensures held { result < length self.now.atoms }
         ensures is { atom_of self.now.atoms number ≡ Some (slice_index_or self.now.atoms result no_atom) }
+        ensures alone { (k : ℕ) → k < length self.now.atoms → (slice_index_or self.now.atoms k no_atom).number ≡ number → k ≡ result }
     {
         let Some(place) = self.numbers.place(number) else {
             unreachable!()

@@ -236,6 +236,10 @@ impl<K: Kind, S: SureSide<K>> Theory for GraphTheory<K, S> {
         self.frame.concerns(var)
     }
 
+    fn variables(&self) -> &[u32] {
+        self.frame.variables()
+    }
+
     fn seen(&self) -> usize {
         self.frame.seen()
     }

@@ -1,28 +1,20 @@
-//! Places by key. The places stand in a list that is sorted by key, so those of one key are found by a binary search and
-//! stand side by side.
+//! Places by key. The places stand in a list in the order of their keys, where those of one key stand side by side.
 
 ghost use Rattle.std.specs.Prelude.{◌≡◌, ◌≢◌, ◌<◌, ◌≤◌, ◌-◌, ◌^◌, ℕ, length, map, take, drop, All, IfOk, MatchOption, slice_index, false};
-ghost use Rattle.std.specs.List.{AllWithin};
-ghost use Rattle.std.specs.List.Sorted.{IsNonDecreasingBy};
 ghost use Rattle.mono_graph.specs.Digraph.{present, has};
-ghost use Rattle.mono_theory.specs.Index.{IsIndex, IsIndexed, IsPlaceOf, ArePlacesOf, entry_at, switched};
+ghost use Rattle.mono_theory.specs.Entries.{entry_at};
+ghost use Rattle.mono_theory.specs.Index.{IsIndex, IsIndexed, IsPlaceOf, ArePlacesOf, switched};
 
+use crate::entries::{Entries, Entry};
 use mono_graph::Part;
 use std::alloc::{AllocError, Global};
 use std::marker::Model;
-
-/// A place and its key.
-#[derive(Clone, Copy)]
-pub(crate) struct Entry {
-    pub(crate) key: u32,
-    pub(crate) place: u32,
-}
 
 /// The keys of some places, and the places of each key. Contracts see the list of the keys.
 #[derive(Drop)]
 pub(crate) struct Index {
     keys: Vec<u32>,
-    entries: Vec<Entry>,
+    entries: Entries,
     /// The places of the entries, in their order.
     places: Vec<u32>,
 }
@@ -35,40 +27,19 @@ impl Model for Index {
 
     ghost view = { λ i. i.keys.items };
 
-    ghost invariant = { λ i. IsIndexed i.keys.items i.entries.items i.places.items };
+    ghost invariant = { λ i. IsIndexed i.keys.items i.entries i.places.items };
 }
 
-/// The first entry whose key isn't below.
-pub(crate) fn first_from(entries: &[Entry], key: u32) -> usize
-    requires { IsNonDecreasingBy (λ e. e.key) entries.now }
-    ensures bound { result ≤ length entries.now }
-    ensures below { AllWithin (λ e. e.key < key) entries.now 0 result }
-    ensures from { AllWithin (λ e. key ≤ e.key) entries.now result (length entries.now) }
-{
-    entries.partition_point(|e| e.key < key)
-}
-
-/// The first entry whose key is above.
-pub(crate) fn first_above(entries: &[Entry], key: u32) -> usize
-    requires { IsNonDecreasingBy (λ e. e.key) entries.now }
-    ensures bound { result ≤ length entries.now }
-    ensures up_to { AllWithin (λ e. e.key ≤ key) entries.now 0 result }
-    ensures above { AllWithin (λ e. key < e.key) entries.now result (length entries.now) }
-{
-    entries.partition_point(|e| e.key <= key)
-}
-
-/// A place that has the key.
-fn place_of(keys: &[u32], entries: &[Entry], key: u32) -> Option<u32>
-    requires { IsIndex keys.now entries.now }
+/// The first of the places of a key.
+fn first_of(keys: &[u32], places: &[u32], key: u32) -> Option<u32>
+    requires { ArePlacesOf keys.now key places.now }
     ensures { MatchOption result (has keys.now key ≡ false) (IsPlaceOf keys.now key) }
 {
     let _ = keys;
-    let at = first_from(entries, key);
-    if at < entries.len() && entries[at].key == key {
-        Some(entries[at].place)
-    } else {
+    if places.is_empty() {
         None
+    } else {
+        Some(places[0])
     }
 }
 
@@ -86,34 +57,28 @@ fn set(part: &mut Part, place: u32, on: bool)
     }
 }
 
-/// Puts the places of some entries into the part, or takes them out.
-fn set_between(entries: &[Entry], start: usize, end: usize, part: &mut Part, on: bool)
-    requires places { All (λ e. e.place < length part.old) entries.now }
-    requires order { start ≤ end }
-    requires end { end ≤ length entries.now }
+/// Puts some places into the part, or takes them out.
+fn set_all(places: &[u32], part: &mut Part, on: bool)
+    requires { All (λ k. k < length part.old) places.now }
     ensures size { length part.new ≡ length part.old }
-    ensures done { (i : ℕ) → start ≤ i → i < end → present part.new (entry_at entries.now i).place ≡ on }
-    ensures others { (k : ℕ) → ((i : ℕ) → start ≤ i → i < end → (entry_at entries.now i).place ≢ k) → present part.new k ≡ present part.old k }
+    ensures done { (i : ℕ) → i < length places.now → present part.new (slice_index places.now i) ≡ on }
+    ensures others { (k : ℕ) → ((i : ℕ) → i < length places.now → slice_index places.now i ≢ k) → present part.new k ≡ present part.old k }
 {
-    for i in start..end {
-        let entry = entries[i];
-        set(part, entry.place, on);
+    for i in 0..places.len() {
+        let place = places[i];
+        set(part, place, on);
     }
 }
 
-/// Puts all places of a key into the part, or takes them out.
-fn switch(keys: &[u32], entries: &[Entry], part: &mut Part, key: u32, on: bool)
-    requires index { IsIndex keys.now entries.now }
+/// Puts the places of a key, which are all of it, into the part, or takes them out.
+fn switch(keys: &[u32], places: &[u32], part: &mut Part, key: u32, on: bool)
+    requires places { ArePlacesOf keys.now key places.now }
     requires size { length part.old ≡ length keys.now }
     ensures part { part.new ≡ switched keys.now key on part.old }
     ensures size { length part.new ≡ length part.old }
 {
     let _ = keys;
-    let start = first_from(entries, key);
-    let end = first_above(entries, key);
-    if start < end {
-        set_between(entries, start, end, part, on);
-    }
+    set_all(places, part, on);
 }
 
 /// The places with their keys.
@@ -134,12 +99,12 @@ fn entries_of(alloc: Global, keys: &[u32]) -> Result<Vec<Entry>, AllocError>
 }
 
 /// The places in the order of their keys.
-fn sorted_entries(alloc: Global, keys: &[u32]) -> Result<Vec<Entry>, AllocError>
+fn sorted_entries(alloc: Global, keys: &[u32]) -> Result<Entries, AllocError>
     requires { length keys.now < 2 ^ 32 }
-    ensures { IfOk result (λ v. IsIndex keys.now v.items) }
+    ensures { IfOk result (λ entries. IsIndex keys.now entries) }
 {
-    let mut entries = entries_of(alloc, keys)?;
-    entries.sort_unstable_by_key(|e| e.key);
+    let list = entries_of(alloc, keys)?;
+    let entries = Entries::new(alloc, list)?;
     Ok(entries)
 }
 
@@ -162,13 +127,12 @@ fn items_between(items: &[u32], start: usize, end: usize) -> &[u32]
 }
 
 /// The places of a key.
-fn places_between<'a>(keys: &[u32], entries: &[Entry], places: &'a [u32], key: u32) -> &'a [u32]
+fn places_between<'a>(keys: &[u32], entries: &Entries, places: &'a [u32], key: u32) -> &'a [u32]
     requires { IsIndexed keys.now entries.now places.now }
     ensures { ArePlacesOf keys.now key result.now }
 {
     let _ = keys;
-    let start = first_from(entries, key);
-    let end = first_above(entries, key);
+    let (start, end) = entries.range_of(key);
     items_between(places, start, end)
 }
 
@@ -191,7 +155,7 @@ impl Index {
     pub(crate) fn place(&self, key: u32) -> Option<u32>
         ensures { MatchOption result (has self.now key ≡ false) (IsPlaceOf self.now key) }
     {
-        place_of(self.keys.as_slice(), self.entries.as_slice(), key)
+        first_of(self.keys.as_slice(), self.places_of(key), key)
     }
 
     /// Whether a place has the key.
@@ -208,20 +172,13 @@ impl Index {
         self.keys.as_slice()
     }
 
-    /// The places in the order of their keys.
-    pub(crate) fn entries(&self) -> &[Entry]
-        ensures { IsIndex self.now result.now }
-    {
-        self.entries.as_slice()
-    }
-
     /// The places of a key, each at least once.
     pub(crate) fn places_of(&self, key: u32) -> &[u32]
         ensures { ArePlacesOf self.now key result.now }
     {
         places_between(
             self.keys.as_slice(),
-            self.entries.as_slice(),
+            &self.entries,
             self.places.as_slice(),
             key,
         )
@@ -233,6 +190,6 @@ impl Index {
         ensures part { part.new ≡ switched self.now key on part.old }
         ensures size { length part.new ≡ length part.old }
     {
-        switch(self.keys.as_slice(), self.entries.as_slice(), part, key, on);
+        switch(self.keys.as_slice(), self.places_of(key), part, key, on);
     }
 }

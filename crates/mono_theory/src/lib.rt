@@ -3,6 +3,8 @@
 
 /// The edges that are surely and possibly present.
 mod bounds;
+/// Places in the order of their keys.
+mod entries;
 /// What shows that a predicate holds or fails, as a lemma.
 mod evidence;
 /// A graph, atoms over it, and the literals that were seen.

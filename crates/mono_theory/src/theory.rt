@@ -38,6 +38,7 @@ pub trait Theory: Drop {
     ghost use Rattle.mono_graph.specs.Digraph.{Digraph};
     ghost use Rattle.mono_problem.specs.declared.atom.Atom.{Atom};
     ghost use Rattle.mono_theory.specs.Theories.{concerns_of, owns_of, ForcesBy, IsLemmaOf, ForceIs, FindingIs};
+    ghost use Rattle.mono_theory.specs.Variables.{AreVarsOf};
 
     /// The graph.
     ghost graph: { Self → Digraph };
@@ -49,6 +50,10 @@ pub trait Theory: Drop {
     /// Whether the variable is one of the graph's edges or of the atoms.
     fn concerns(&self, var: u32) -> bool
         ensures { result ≡ concerns_of (graph self.now) (atoms self.now) var };
+
+    /// The variables of the graph's edges and of the atoms, rising, each once.
+    fn variables(&self) -> &[u32]
+        ensures { AreVarsOf (graph self.now) (atoms self.now) result.now };
 
     /// How many literals were seen.
     fn seen(&self) -> usize

@@ -35,6 +35,7 @@ tree_shows g P most ks ok known h =
       known = numbers-known g ks ok known;
       small = refl;
       sided = all_by (λ k. (k < length g.edges) × (present P k ≡ true)) ks (λ k t. (all_has (λ j. j < length g.edges) ks k known t, all_at (present P) ks k b.0 t));
+      used = λ i d lt. refl;
       passes = ap (is_tree g (only g ks) most) (placed-numbers g ks ok known) ∙ own;
     }
 

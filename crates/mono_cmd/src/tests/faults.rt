@@ -18,6 +18,8 @@ const MODEL: &[u8] = b"s SATISFIABLE\nv -1 2 0\n";
 
 const OTHER: &[u8] = b"s SATISFIABLE\nv 1 2 0\n";
 
+const BAD: &[u8] = b"bad\n\n\n\n\n\n\n\n";
+
 /// The run of these words over a shelf that holds the file `f` alone ends so.
 fn ends_without_answer(
     rt: &(impl Abort + AllocGlobal),
@@ -116,11 +118,15 @@ fn each_call_on_the_shelf_may_fail(rt: HostRuntime) -> Result<(), Fail> {
     let check = ["check", "f", "a"];
     // A file is begun once and read to its end: two calls, and one more for the end. It is read to its end behind a line
     // at fault too.
-    each_read_fails(&rt, &check, MODEL, 0, 7, Status::Accepted)?;
-    each_read_fails(&rt, &check, OTHER, 0, 7, Status::Rejected)?;
-    each_read_fails(&rt, &check, b"bad\n\n\n\n\n\n\n\n", 7, 9, Status::Rejected)?;
     // 11 and 23 bytes in pieces of 7: begin, two or four pieces, the end.
-    each_read_fails(&rt, &check, MODEL, 7, 11, Status::Accepted)?;
+    for (answer, most, calls, status) in [
+        (MODEL, 0, 7, Status::Accepted),
+        (OTHER, 0, 7, Status::Rejected),
+        (BAD, 7, 9, Status::Rejected),
+        (MODEL, 7, 11, Status::Accepted),
+    ] {
+        each_read_fails(&rt, &check, answer, most, calls, status)?;
+    }
     each_read_fails(&rt, &["solve", "f"], b"", 0, 4, Status::Satisfiable)
 }
 

@@ -1,6 +1,6 @@
 //! Inputs, read, refused and printed.
 
-use super::{checks, outcome_of, prints};
+use super::{outcome_of, prints_each, refuses};
 use crate::status::Status;
 use std::test::Fail;
 
@@ -8,170 +8,140 @@ const GRAPH: &[u8] = b"digraph int 2 1 0\n";
 
 #[test]
 fn an_input_is_printed_in_one_form(rt: HostRuntime) -> Result<(), Fail> {
-    prints(&rt, b"", b"p gnf 0 0\n", Status::Printed)?;
-    prints(
+    prints_each(
         &rt,
-        b"digraph 1 9 5\ndistance_lt 5 0 0 1 5\n",
-        b"p gnf 1 0\ndigraph int 1 0 5\ndistance_leq 5 0 0 1 4\n",
-        Status::Printed,
-    )?;
-    prints(
-        &rt,
-        b"digraph 1 0 0\ndistance_lt 0 0 0 1 0\n",
-        b"p gnf 1 0\ndigraph int 1 0 0\ndistance_lt 0 0 0 1 0\n",
-        Status::Printed,
-    )?;
-    prints(
-        &rt,
-        b"digraph 2 0 0\nmaximum_flow_gt 0 0 1 2 3\n",
-        b"p gnf 2 0\ndigraph int 2 0 0\nmaximum_flow_geq 0 0 1 2 4\n",
-        Status::Printed,
-    )?;
-    prints(
-        &rt,
-        b"digraph 2 0 0\nmaximum_flow_gt 0 0 1 2 9007199254740992\n",
-        b"p gnf 2 0\ndigraph int 2 0 0\nmaximum_flow_gt 0 0 1 2 9007199254740992\n",
-        Status::Printed,
-    )?;
-    prints(
-        &rt,
-        b"0 2 02 0 -0\n",
-        b"p gnf 2 3\n0\n2 2 0\n0\n",
-        Status::Printed,
-    )?;
-    prints(
-        &rt,
-        b"p cnf 4 9\n1 0\n",
-        b"p gnf 4 1\n1 0\n",
-        Status::Printed,
-    )?;
-    prints(
-        &rt,
-        b"1 2\nc middle\n-3 0\n",
-        b"p gnf 3 1\n1 2 -3 0\n",
-        Status::Printed,
-    )?;
-    prints(
-        &rt,
-        b"digraph int 1000000 1 0\nedge 0 0 999999 1\n",
-        b"p gnf 1 0\ndigraph int 1000000 1 0\nedge 0 0 999999 1 1\n",
-        Status::Printed,
-    )?;
-    prints(
-        &rt,
-        b"digraph int 2 1 0\nedge 0 0 1 1 4294967295\n",
-        b"p gnf 1 0\ndigraph int 2 1 0\nedge 0 0 1 1 4294967295\n",
-        Status::Printed,
+        &[
+            ("", "p gnf 0 0\n"),
+            (
+                "digraph 1 9 5\ndistance_lt 5 0 0 1 5\n",
+                "p gnf 1 0\ndigraph int 1 0 5\ndistance_leq 5 0 0 1 4\n",
+            ),
+            (
+                "digraph 1 0 0\ndistance_lt 0 0 0 1 0\n",
+                "p gnf 1 0\ndigraph int 1 0 0\ndistance_lt 0 0 0 1 0\n",
+            ),
+            (
+                "digraph 2 0 0\nmaximum_flow_gt 0 0 1 2 3\n",
+                "p gnf 2 0\ndigraph int 2 0 0\nmaximum_flow_geq 0 0 1 2 4\n",
+            ),
+            (
+                "digraph 2 0 0\nmaximum_flow_gt 0 0 1 2 9007199254740992\n",
+                "p gnf 2 0\ndigraph int 2 0 0\nmaximum_flow_gt 0 0 1 2 9007199254740992\n",
+            ),
+            ("0 2 02 0 -0\n", "p gnf 2 3\n0\n2 2 0\n0\n"),
+            ("p cnf 4 9\n1 0\n", "p gnf 4 1\n1 0\n"),
+            ("1 2\nc middle\n-3 0\n", "p gnf 3 1\n1 2 -3 0\n"),
+            (
+                "digraph int 1000000 1 0\nedge 0 0 999999 1\n",
+                "p gnf 1 0\ndigraph int 1000000 1 0\nedge 0 0 999999 1 1\n",
+            ),
+            (
+                "digraph int 2 1 0\nedge 0 0 1 1 4294967295\n",
+                "p gnf 1 0\ndigraph int 2 1 0\nedge 0 0 1 1 4294967295\n",
+            ),
+        ],
     )
 }
 
 #[test]
 fn edges_are_printed_in_the_order_of_their_numbers(rt: HostRuntime) -> Result<(), Fail> {
-    let input =
-        b"digraph int 2 0 7\ndigraph int 3 0 3\nedge 7 0 1 1 5\nedge 3 2 0 2\nmst_weight_lt 3 9 4\nedge 7 1 0 1 0\n1 -9 0\n";
     let text =
-        b"p gnf 9 1\ndigraph int 2 2 7\ndigraph int 3 1 3\nedge 7 0 1 1 5\nedge 3 2 0 2 1\nedge 7 1 0 1 0\nmst_weight_leq 3 9 3\n1 -9 0\n";
-    prints(&rt, input, text, Status::Printed)?;
-    prints(&rt, text, text, Status::Printed)
-}
-
-fn refused(
-    rt: &(impl std::process::Abort + AllocGlobal),
-    input: &[u8],
-    text: &[u8],
-) -> Result<(), Fail> {
-    checks(rt, input, b"", text, Status::Refused)?;
-    prints(rt, input, text, Status::Refused)
+        "p gnf 9 1\ndigraph int 2 2 7\ndigraph int 3 1 3\nedge 7 0 1 1 5\nedge 3 2 0 2 1\nedge 7 1 0 1 0\nmst_weight_leq 3 9 3\n1 -9 0\n";
+    let input =
+        "digraph int 2 0 7\ndigraph int 3 0 3\nedge 7 0 1 1 5\nedge 3 2 0 2\nmst_weight_lt 3 9 4\nedge 7 1 0 1 0\n1 -9 0\n";
+    prints_each(&rt, &[(input, text), (text, text)])
 }
 
 #[test]
 fn the_first_malformed_line_is_named(rt: HostRuntime) -> Result<(), Fail> {
-    refused(&rt, b"bv 1 2\n", b"refused 1 UnknownWord\n")?;
-    refused(&rt, b"p sat 3 1\n", b"refused 1 UnknownWord\n")?;
-    refused(&rt, b"1 0\n%\n", b"refused 2 UnknownWord\n")?;
-    refused(&rt, b"1 x 0\n", b"refused 1 NotNumber\n")?;
-    refused(&rt, b"edge 7 9 x 0\n", b"refused 1 NotNumber\n")?;
-    refused(&rt, b"1000001 0\n", b"refused 1 TooLarge\n")?;
-    refused(&rt, b"p cnf 3\n", b"refused 1 FieldCount\n")?;
-    refused(&rt, b"digraph int 2 1 0 name\n", b"refused 1 FieldCount\n")?;
-    refused(&rt, b"edge 0 0 1 1\n", b"refused 1 UnknownGraph\n")?;
-    refused(
+    refuses(
         &rt,
-        b"digraph int 2 0 0\ndigraph 3 0 0\n",
-        b"refused 2 DuplicateGraph\n",
-    )?;
-    refused(&rt, b"digraph int 0 0 0\n", b"refused 1 NodeOutOfRange\n")?;
-    refused(
-        &rt,
-        b"digraph int 2 1 0\nedge 0 5 0 0\n",
-        b"refused 2 NodeOutOfRange\n",
+        &[
+            ("bv 1 2\n", "refused 1 UnknownWord\n"),
+            ("p sat 3 1\n", "refused 1 UnknownWord\n"),
+            ("1 0\n%\n", "refused 2 UnknownWord\n"),
+            ("1 x 0\n", "refused 1 NotNumber\n"),
+            ("edge 7 9 x 0\n", "refused 1 NotNumber\n"),
+            ("1000001 0\n", "refused 1 TooLarge\n"),
+            ("p cnf 3\n", "refused 1 FieldCount\n"),
+            ("digraph int 2 1 0 name\n", "refused 1 FieldCount\n"),
+            ("edge 0 0 1 1\n", "refused 1 UnknownGraph\n"),
+            (
+                "digraph int 2 0 0\ndigraph 3 0 0\n",
+                "refused 2 DuplicateGraph\n",
+            ),
+            ("digraph int 0 0 0\n", "refused 1 NodeOutOfRange\n"),
+            (
+                "digraph int 2 1 0\nedge 0 5 0 0\n",
+                "refused 2 NodeOutOfRange\n",
+            ),
+        ],
     )
 }
 
 #[test]
 fn the_first_check_that_fails_names_the_fault(rt: HostRuntime) -> Result<(), Fail> {
-    refused(
+    refuses(
         &rt,
-        b"digraph int 2 1 0\nedge 0 0 1 0\n",
-        b"refused 2 BadVariable\n",
-    )?;
-    refused(&rt, b"digraph float 2 1 0\n", b"refused 1 WeightWord\n")?;
-    refused(&rt, b"p cnf 1 0\np gnf 1 0\n", b"refused 2 SecondHeader\n")?;
-    refused(&rt, b"1 2\np cnf 2 1\n", b"refused 2 OpenClause\n")?;
-    refused(&rt, b"1 2\nbogus\n", b"refused 2 OpenClause\n")?;
-    refused(&rt, b"1 2\nc end\n", b"refused 1 UnfinishedClause\n")?;
-    refused(
-        &rt,
-        b"digraph int 2 0 0\nmaximum_flow_geq 0 1 1 5 2\n",
-        b"refused 2 SameEnds\n",
-    )?;
-    refused(
-        &rt,
-        b"digraph int 2 0 0\nmaximum_flow_geq 0 1 1 0 2\n",
-        b"refused 2 BadVariable\n",
-    )?;
-    refused(
-        &rt,
-        b"digraph int 2 1 0\nedge 0 0 1 1\n1 0\nreach 0 0 2 3\nbogus\n",
-        b"refused 4 NodeOutOfRange\n",
-    )?;
-    refused(
-        &rt,
-        b"digraph int 2 1 0\nedge 0 0 1 1 4294967296\n",
-        b"refused 2 TooLarge\n",
-    )?;
-    refused(
-        &rt,
-        b"digraph int 1000000 1 0\nedge 0 0 1000000 1\n",
-        b"refused 2 NodeOutOfRange\n",
-    )?;
-    refused(&rt, b"cfoo\n", b"refused 1 UnknownWord\n")
-}
-
-#[test]
-fn a_number_line_is_judged_token_by_token(rt: HostRuntime) -> Result<(), Fail> {
-    refused(&rt, b"-\n", b"refused 1 NotNumber\n")?;
-    refused(&rt, b"--1 0\n", b"refused 1 NotNumber\n")?;
-    refused(&rt, b"1x 0\n", b"refused 1 NotNumber\n")?;
-    refused(&rt, b"+1 0\n", b"refused 1 UnknownWord\n")?;
-    refused(&rt, b"1 1000001 x 0\n", b"refused 1 TooLarge\n")?;
-    refused(&rt, b"1 x 1000001 0\n", b"refused 1 NotNumber\n")?;
-    refused(&rt, b"1 \x0b2 0\n", b"refused 1 NotNumber\n")?;
-    prints(
-        &rt,
-        b"1\t2\r\n-000003 0",
-        b"p gnf 3 1\n1 2 -3 0\n",
-        Status::Printed,
+        &[
+            (
+                "digraph int 2 1 0\nedge 0 0 1 0\n",
+                "refused 2 BadVariable\n",
+            ),
+            ("digraph float 2 1 0\n", "refused 1 WeightWord\n"),
+            ("p cnf 1 0\np gnf 1 0\n", "refused 2 SecondHeader\n"),
+            ("1 2\np cnf 2 1\n", "refused 2 OpenClause\n"),
+            ("1 2\nbogus\n", "refused 2 OpenClause\n"),
+            ("1 2\nc end\n", "refused 1 UnfinishedClause\n"),
+            (
+                "digraph int 2 0 0\nmaximum_flow_geq 0 1 1 5 2\n",
+                "refused 2 SameEnds\n",
+            ),
+            (
+                "digraph int 2 0 0\nmaximum_flow_geq 0 1 1 0 2\n",
+                "refused 2 BadVariable\n",
+            ),
+            (
+                "digraph int 2 1 0\nedge 0 0 1 1\n1 0\nreach 0 0 2 3\nbogus\n",
+                "refused 4 NodeOutOfRange\n",
+            ),
+            (
+                "digraph int 2 1 0\nedge 0 0 1 1 4294967296\n",
+                "refused 2 TooLarge\n",
+            ),
+            (
+                "digraph int 1000000 1 0\nedge 0 0 1000000 1\n",
+                "refused 2 NodeOutOfRange\n",
+            ),
+            ("cfoo\n", "refused 1 UnknownWord\n"),
+        ],
     )
 }
 
 #[test]
+fn a_number_line_is_judged_token_by_token(rt: HostRuntime) -> Result<(), Fail> {
+    refuses(
+        &rt,
+        &[
+            ("-\n", "refused 1 NotNumber\n"),
+            ("--1 0\n", "refused 1 NotNumber\n"),
+            ("1x 0\n", "refused 1 NotNumber\n"),
+            ("+1 0\n", "refused 1 UnknownWord\n"),
+            ("1 1000001 x 0\n", "refused 1 TooLarge\n"),
+            ("1 x 1000001 0\n", "refused 1 NotNumber\n"),
+            ("1 \x0b2 0\n", "refused 1 NotNumber\n"),
+        ],
+    )?;
+    prints_each(&rt, &[("1\t2\r\n-000003 0", "p gnf 3 1\n1 2 -3 0\n")])
+}
+
+#[test]
 fn there_are_at_most_1024_graphs(rt: HostRuntime) -> Result<(), Fail> {
-    let mut text = Vec::new(rt.alloc());
+    let mut text = String::new(rt.alloc());
     for identity in 0..1025u32 {
-        text.extend_from_slice(format!(in rt.alloc(); "digraph int 1 0 {identity}\n")?.as_bytes())?;
+        text.push_str(&format!(in rt.alloc(); "digraph int 1 0 {identity}\n")?)?;
     }
-    refused(&rt, text.as_slice(), b"refused 1025 TooMany\n")
+    refuses(&rt, &[(text.as_str(), "refused 1025 TooMany\n")])
 }
 
 #[test]

@@ -16,13 +16,19 @@ const PIPES: &str =
 const TRIANGLE: &str =
     "digraph int 3 3 0\nedge 0 0 1 1\nedge 0 1 2 2\nedge 0 2 0 3\nmst_weight_leq 0 4 1\n";
 
+/// Two graphs of one edge each, under one variable.
+const GRAPHS: &str = "digraph int 2 1 0\ndigraph int 2 1 1\nedge 0 0 1 1\nedge 1 0 1 1\n";
+
+/// A cycle of weight 0, and a walk along it within weight 0.
+const LOOP: &str =
+    "digraph int 2 2 0\nedge 0 0 1 1 0\nedge 0 1 0 2 0\nweighted_distance_leq 0 0 1 3 0\n";
+
 /// All clauses over three variables: no assignment satisfies them.
-const EIGHT: &[u8] =
-    b"1 2 3 0 1 2 -3 0 1 -2 3 0 1 -2 -3 0 -1 2 3 0 -1 2 -3 0 -1 -2 3 0 -1 -2 -3 0\n";
+const EIGHT: &str = "1 2 3 0 1 2 -3 0 1 -2 3 0 1 -2 -3 0 -1 2 3 0 -1 2 -3 0 -1 -2 3 0 -1 -2 -3 0\n";
 
 /// Five pigeons in four holes, each in one and no two in the same.
-const PIGEONS: &[u8] =
-    b"1 2 3 4 0 5 6 7 8 0 9 10 11 12 0 13 14 15 16 0 17 18 19 20 0\n-1 -5 0 -1 -9 0 -1 -13 0 -1 -17 0 -5 -9 0 -5 -13 0 -5 -17 0 -9 -13 0 -9 -17 0 -13 -17 0\n-2 -6 0 -2 -10 0 -2 -14 0 -2 -18 0 -6 -10 0 -6 -14 0 -6 -18 0 -10 -14 0 -10 -18 0 -14 -18 0\n-3 -7 0 -3 -11 0 -3 -15 0 -3 -19 0 -7 -11 0 -7 -15 0 -7 -19 0 -11 -15 0 -11 -19 0 -15 -19 0\n-4 -8 0 -4 -12 0 -4 -16 0 -4 -20 0 -8 -12 0 -8 -16 0 -8 -20 0 -12 -16 0 -12 -20 0 -16 -20 0\n";
+const PIGEONS: &str =
+    "1 2 3 4 0 5 6 7 8 0 9 10 11 12 0 13 14 15 16 0 17 18 19 20 0\n-1 -5 0 -1 -9 0 -1 -13 0 -1 -17 0 -5 -9 0 -5 -13 0 -5 -17 0 -9 -13 0 -9 -17 0 -13 -17 0\n-2 -6 0 -2 -10 0 -2 -14 0 -2 -18 0 -6 -10 0 -6 -14 0 -6 -18 0 -10 -14 0 -10 -18 0 -14 -18 0\n-3 -7 0 -3 -11 0 -3 -15 0 -3 -19 0 -7 -11 0 -7 -15 0 -7 -19 0 -11 -15 0 -11 -19 0 -15 -19 0\n-4 -8 0 -4 -12 0 -4 -16 0 -4 -20 0 -8 -12 0 -8 -16 0 -8 -20 0 -12 -16 0 -12 -20 0 -16 -20 0\n";
 
 /// The run of these words ends so, and `check` says this of what it wrote.
 fn answers(
@@ -37,9 +43,20 @@ fn answers(
     checks(rt, input, found.text.as_slice(), verdict, Status::Accepted)
 }
 
-fn refutes(rt: &(impl Abort + AllocGlobal), input: &[u8]) -> Result<(), Fail> {
-    let text = b"accepted refutation\n";
-    answers(rt, &["solve", "f"], input, Status::Unsatisfiable, text)
+/// Each row is an input in two parts that nothing satisfies.
+fn refutes_each(rt: &(impl Abort + AllocGlobal), rows: &[(&str, &str)]) -> Result<(), Fail> {
+    for (start, rest) in rows {
+        let input = format!(in rt.alloc(); "{start}{rest}")?;
+        let text = b"accepted refutation\n";
+        answers(
+            rt,
+            &["solve", "f"],
+            input.as_bytes(),
+            Status::Unsatisfiable,
+            text,
+        )?;
+    }
+    Ok(())
 }
 
 /// The one model of the input is found.
@@ -50,84 +67,77 @@ fn finds(rt: &(impl Abort + AllocGlobal), input: &[u8], text: &[u8]) -> Result<(
     checks(rt, input, text, b"accepted model\n", Status::Accepted)
 }
 
+/// Each row is an input in two parts, and its one model.
+fn finds_each(rt: &(impl Abort + AllocGlobal), rows: &[(&str, &str, &str)]) -> Result<(), Fail> {
+    for (start, rest, model) in rows {
+        let input = format!(in rt.alloc(); "{start}{rest}")?;
+        let text = format!(in rt.alloc(); "s SATISFIABLE\nv {model} 0\n")?;
+        finds(rt, input.as_bytes(), text.as_bytes())?;
+    }
+    Ok(())
+}
+
 #[test]
 fn clauses_are_solved(rt: HostRuntime) -> Result<(), Fail> {
     finds(&rt, b"", b"s SATISFIABLE\nv 0\n")?;
-    finds(
-        &rt,
-        b"-1 0\n1 2 2 0\n3 -3 0 3 0\n",
-        b"s SATISFIABLE\nv -1 2 3 0\n",
-    )?;
-    let model = b"accepted model\n";
+    finds_each(&rt, &[("-1 0\n1 2 2 0\n", "3 -3 0 3 0\n", "-1 2 3")])?;
     answers(
         &rt,
         &["solve", "f"],
         b"p cnf 4 0\n2 3 0\n",
         Status::Satisfiable,
-        model,
+        b"accepted model\n",
     )?;
-    refutes(&rt, b"0\n")?;
-    refutes(&rt, b"1 0\n-1 0\n")?;
-    refutes(&rt, EIGHT)?;
-    refutes(&rt, PIGEONS)
-}
-
-#[test]
-fn walks_are_solved(rt: HostRuntime) -> Result<(), Fail> {
-    let alloc = rt.alloc();
-    let laid = format!(in alloc; "{ROUTE}1 0\n2 0\n")?;
-    finds(&rt, laid.as_bytes(), b"s SATISFIABLE\nv 1 2 3 0\n")?;
-    refutes(
+    refutes_each(
         &rt,
-        format!(in alloc; "{ROUTE}1 0\n2 0\n-3 0\n")?.as_bytes(),
-    )?;
-    refutes(&rt, format!(in alloc; "{ROUTE}-1 0\n3 0\n")?.as_bytes())?;
-    refutes(&rt, b"digraph int 1 0 0\nreach 0 0 0 1\n-1 0\n")?;
-    finds(
-        &rt,
-        b"digraph int 2 1 0\ndigraph int 2 1 1\nedge 0 0 1 1\nedge 1 0 1 1\nreach 0 0 1 2\nreach 1 0 1 3\n2 0\n",
-        b"s SATISFIABLE\nv 1 2 3 0\n",
-    )?;
-    finds(
-        &rt,
-        b"digraph int 2 1 0\nedge 0 0 1 1\n1 0\n",
-        b"s SATISFIABLE\nv 1 0\n",
+        &[("0\n", ""), ("1 0\n", "-1 0\n"), (EIGHT, ""), (PIGEONS, "")],
     )
 }
 
 #[test]
-fn every_kind_is_solved(rt: HostRuntime) -> Result<(), Fail> {
-    let alloc = rt.alloc();
-    finds(
+fn inputs_with_one_model_are_solved(rt: HostRuntime) -> Result<(), Fail> {
+    finds_each(
         &rt,
-        b"digraph int 2 2 0\nedge 0 0 1 1 0\nedge 0 1 0 2 0\nweighted_distance_leq 0 0 1 3 0\n1 0\n2 0\n",
-        b"s SATISFIABLE\nv 1 2 3 0\n",
-    )?;
-    refutes(&rt, b"digraph int 1 0 0\ndistance_lt 0 0 0 1 0\n1 0\n")?;
-    let pipes = format!(in alloc; "{PIPES}3 0\n")?;
-    finds(&rt, pipes.as_bytes(), b"s SATISFIABLE\nv 1 2 3 -4 0\n")?;
-    refutes(&rt, format!(in alloc; "{PIPES}4 0\n")?.as_bytes())?;
-    let joined = format!(in alloc; "{TRIANGLE}1 0\n2 0\n3 0\n")?;
-    finds(&rt, joined.as_bytes(), b"s SATISFIABLE\nv 1 2 3 -4 0\n")?;
-    refutes(
+        &[
+            (ROUTE, "1 0\n2 0\n", "1 2 3"),
+            (GRAPHS, "reach 0 0 1 2\nreach 1 0 1 3\n2 0\n", "1 2 3"),
+            ("digraph int 2 1 0\nedge 0 0 1 1\n", "1 0\n", "1"),
+            (LOOP, "1 0\n2 0\n", "1 2 3"),
+            (PIPES, "3 0\n", "1 2 3 -4"),
+            (TRIANGLE, "1 0\n2 0\n3 0\n", "1 2 3 -4"),
+        ],
+    )
+}
+
+#[test]
+fn inputs_without_a_model_are_refuted(rt: HostRuntime) -> Result<(), Fail> {
+    refutes_each(
         &rt,
-        format!(in alloc; "{TRIANGLE}1 0\n2 0\n3 0\n4 0\n")?.as_bytes(),
-    )?;
-    refutes(&rt, b"digraph int 1 0 0\nmst_weight_leq 0 1 0\n-1 0\n")
+        &[
+            (ROUTE, "1 0\n2 0\n-3 0\n"),
+            (ROUTE, "-1 0\n3 0\n"),
+            ("digraph int 1 0 0\n", "reach 0 0 0 1\n-1 0\n"),
+            ("digraph int 1 0 0\n", "distance_lt 0 0 0 1 0\n1 0\n"),
+            (PIPES, "4 0\n"),
+            (TRIANGLE, "1 0\n2 0\n3 0\n4 0\n"),
+            ("digraph int 1 0 0\n", "mst_weight_leq 0 1 0\n-1 0\n"),
+        ],
+    )
 }
 
 /// Three conflicts above level 0 are met, whatever is decided.
 #[test]
 fn a_budget_is_spent_or_enough(rt: HostRuntime) -> Result<(), Fail> {
+    let input = EIGHT.as_bytes();
     for budget in 1..=27u64 {
         let number = format!(in rt.alloc(); "{budget}")?;
         let verdict = format!(in rt.alloc(); "accepted progress {budget}\n")?;
         let line = ["solve", "f", "--conflicts", number.as_str()];
         if budget < 3 {
-            answers(&rt, &line, EIGHT, Status::Unknown, verdict.as_bytes())?;
+            answers(&rt, &line, input, Status::Unknown, verdict.as_bytes())?;
         } else {
             let text = b"accepted refutation\n";
-            answers(&rt, &line, EIGHT, Status::Unsatisfiable, text)?;
+            answers(&rt, &line, input, Status::Unsatisfiable, text)?;
         }
     }
     Ok(())
@@ -135,19 +145,8 @@ fn a_budget_is_spent_or_enough(rt: HostRuntime) -> Result<(), Fail> {
 
 #[test]
 fn two_runs_write_the_same(rt: HostRuntime) -> Result<(), Fail> {
-    let first = outcome_of(rt.alloc(), &["solve", "f"], PIGEONS, b"")?;
-    let second = outcome_of(rt.alloc(), &["solve", "f"], PIGEONS, b"")?;
+    let first = outcome_of(rt.alloc(), &["solve", "f"], PIGEONS.as_bytes(), b"")?;
+    let second = outcome_of(rt.alloc(), &["solve", "f"], PIGEONS.as_bytes(), b"")?;
     assert_eq!(rt; first.text.as_slice(), second.text.as_slice());
-    Ok(())
-}
-
-#[test]
-fn the_input_is_refused_first(rt: HostRuntime) -> Result<(), Fail> {
-    let fault = outcome_of(rt.alloc(), &["solve", "f"], b"1 0\nbogus\n", b"")?;
-    assert_eq!(rt;
-        fault.text.as_slice(),
-        b"refused 2 UnknownWord\n".as_slice()
-    );
-    assert_eq!(rt; fault.status, Status::Refused);
     Ok(())
 }

@@ -1,15 +1,22 @@
-use Rattle.std.proofs.Common.{sym, subst, ◌∙◌}
+use Rattle.std.proofs.Common.{true, refl, sym, subst, ◌∙◌}
 use Rattle.mono_problem.specs.Quiet.{over}
 use Rattle.mono_problem.specs.Read.{no_atom}
 use Rattle.mono_theory.specs.Evidences.{Decides}
 use Rattle.mono_theory.specs.Supports.{atom_at}
-use Rattle.mono_reach.proofs.ReaderLaws.{cut_fails, shown_decides, unshown_decides}
+use Rattle.mono_reach.proofs.ReaderLaws.{cut_fails, shown_decides, shown_is_over, unshown_decides, unshown_is_over}
 use Rattle.mono_reach.proofs.marks.is_possible.Goals as goal
+
+pub returns-in-None-clause-value : goal.returns-in-None-clause-value
+returns-in-None-clause-value c = unshown_is_over c.args.possibly.now c.args.place c.args.node c.requires.thorough (c.in-None.ensures.none c.requires.thorough)
+
+pub returns-in-Some-clause-value : goal.returns-in-Some-clause-value
+returns-in-Some-clause-value c =
+    c.is_inside.ensures ∙ shown_is_over c.args.possibly.now c.args.place c.args.node c.in-Some.witness.now c.requires.thorough (c.in-Some.ensures.shows refl) c.in-Some.ensures.its
 
 pub returns-in-None-clause-decides : goal.returns-in-None-clause-decides
 returns-in-None-clause-decides c none last =
     let atoms = c.graph.ensures.atoms in
-    unshown_decides c.args.place c.requires.place c.graph.ensures.known (atoms.over c.args.place no_atom c.requires.place).1 c.requires.side none (c.in-None.ensures.none c.requires.thorough)
+    unshown_decides true c.args.place c.requires.place c.graph.ensures.known (atoms.over c.args.place no_atom c.requires.place).1 c.requires.side none (c.in-None.ensures.none c.requires.thorough)
 
 pub returns-in-Some-clause-fails : goal.returns-in-Some-clause-fails
 returns-in-Some-clause-fails c off =

@@ -1,5 +1,5 @@
 use Rattle.std.proofs.Common.{◌≡◌, ℕ, ◌<◌, length, get_or}
-use Rattle.mono_theory.specs.Index.{entry_at}
+use Rattle.mono_theory.specs.Entries.{entry_at}
 use Rattle.mono_theory.proofs.index.entries_of.Given as goal
 
 abbrev pub invariant-loop-place : goal.invariant-loop-place

@@ -1,5 +1,5 @@
-use Rattle.std.proofs.Common.{refl}
-use Rattle.mono_theory.proofs.FrameLaws.{number_is_held, atom_place, found_by_place}
+use Rattle.std.proofs.Common.{refl, sym, ◌∙◌}
+use Rattle.mono_theory.proofs.FrameLaws.{number_is_held, atom_place, place_number, found_by_place}
 use Rattle.mono_theory.proofs.frame.Frame.place_of.Goals as goal
 
 pub unreachable-requires : goal.unreachable-requires
@@ -11,3 +11,9 @@ returns-clause-held c = rw (← c.self.view_is) (atom_place c.self.inside.atoms.
 pub returns-clause-is : goal.returns-clause-is
 returns-clause-is c = rw (← c.self.view_is)
     (found_by_place c.self.inside.graph c.self.inside.atoms.items c.self.inside.numbers c.args.number c.in-Some.place _ c.self.invariant.known c.self.invariant.numbered c.in-Some.ensures refl).0
+
+pub returns-clause-alone : goal.returns-clause-alone
+returns-clause-alone c =
+    let held = atom_place c.self.inside.atoms.items c.self.inside.numbers c.args.number c.in-Some.place c.self.invariant.numbered c.in-Some.ensures in
+    let own = place_number c.self.inside.atoms.items c.self.inside.numbers c.args.number c.in-Some.place c.self.invariant.numbered c.in-Some.ensures in
+    rw (← c.self.view_is) (λ k lt same. c.self.invariant.known.apart k c.in-Some.place lt held (same ∙ sym own))

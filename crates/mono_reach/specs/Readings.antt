@@ -1,0 +1,46 @@
+-- What a theory of reachability knows of nodes.
+use Rattle.std.specs.Prelude.{ℕ, ◌==◌, ◌&&◌, Bool, true, false, Option, None, Some, if◌then◌else◌}
+use Rattle.mono_graph.specs.Digraph.{has}
+use Rattle.mono_problem.specs.declared.atom.Predicate.{Predicate}
+use Rattle.mono_rows.specs.declared.either_side.EitherSide.{EitherSide}
+use Rattle.mono_rows.specs.declared.either_side.EitherSide.TheVariants as either
+use Rattle.mono_rows.specs.EitherSides.{IsEitherDecided}
+use Rattle.mono_steps.specs.declared.lemma.Witness.{Witness}
+use Rattle.mono_steps.specs.declared.lemma.Witness.TheVariants as by
+use Rattle.mono_theory.specs.declared.evidence.Evidence.{Evidence}
+use Rattle.mono_theory.specs.Sound.{evidence_at}
+use Rattle.mono_theory.specs.Stages.{NoneWaits, shows, stage_at}
+use Rattle.mono_theory.specs.Supports.{GraphTheoryView, SideView, atom_at, facts_in}
+use Rattle.mono_reach.specs.Marks.{SureMarks, last_node, under_mark}
+use Rattle.mono_reach.specs.declared.marks.Marks.{Marks}
+
+-- whether the node is in the set of nodes that the witness is, if it is one
+abbrev pub in_cut : Witness → ℕ → Bool
+in_cut (by.Cut us) v = has us v
+in_cut w v = true
+
+abbrev pub in_kept_cut : Option Evidence → ℕ → Bool
+in_kept_cut None v = true
+in_kept_cut (Some e) v = in_cut e.witness v
+
+-- whether the node isn't known to be cut off from the atom's first node along the possibly present edges
+abbrev pub over_mark : SideView → ℕ → ℕ → Bool
+over_mark s a v = if s.thorough && shows (stage_at s.stages a) then in_kept_cut (evidence_at s.shown a) v else true
+
+-- whether a walk to the node was found along the surely present edges: it is one to the last node
+abbrev pub found_mark : SideView → Predicate → ℕ → ℕ → Bool
+found_mark s q a v = if s.thorough && shows (stage_at s.stages a) then v == last_node q else false
+
+-- whether the node is known to be reached from the atom's first node along the surely present edges
+abbrev pub sure_mark : EitherSide SureMarks → Predicate → ℕ → ℕ → Bool
+sure_mark (either.Rows s) q a v = under_mark s.rows a v
+sure_mark (either.Searches s) q a v = found_mark s q a v
+
+-- what is known of a node, for the atom at a place
+abbrev pub marks_at : GraphTheoryView (EitherSide SureMarks) → ℕ → ℕ → Marks
+marks_at s a v = record { under = sure_mark s.surely (atom_at s.atoms a).predicate a v; over = over_mark s.possibly a v }
+
+-- what is kept decides each predicate with the surely present edges, and with the possibly present ones
+pub record AreBothDecided (s : GraphTheoryView (EitherSide SureMarks)) : Type 0 where
+  pub surely : IsEitherDecided (facts_in s) s.surely
+  pub possibly : NoneWaits s.possibly.stages

@@ -1,0 +1,3 @@
+pub mod RowSides
+pub mod EitherSides
+pub mod SureParts

@@ -1,0 +1,5 @@
+mod ProblemRows
+mod TrailRows
+mod ClauseRows
+mod LearnRows
+mod TrimmedRows

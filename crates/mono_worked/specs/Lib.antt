@@ -1,0 +1,5 @@
+pub mod SmallTrail
+pub mod TwoClauses
+pub mod TwoGraphs
+pub mod SecondGraph
+pub mod Refutations
