@@ -18,8 +18,6 @@ mod lists;
 mod print;
 /// Lines of an answer, read one by one.
 mod reader;
-#[cfg(test)]
-mod tests;
 /// The words of lemmas.
 mod word;
 /// Rows that were worked by hand, as the definitions compute them.

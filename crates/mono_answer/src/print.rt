@@ -28,13 +28,21 @@ fn push_number(out: &mut Vec<u8>, number: u64) -> Result<(), AllocError>
     Ok(())
 }
 
+/// A space and the literal.
+fn push_lit(out: &mut Vec<u8>, lit: Lit) -> Result<(), AllocError>
+    ensures { OnOk result (out.new.items ≡ out.old.items ++ behind (signed_decimal lit ∷ [])) }
+{
+    out.push(b' ')?;
+    push_signed(out, i64::from(lit.number()))?;
+    Ok(())
+}
+
 /// A space and each literal, and the ending 0.
 fn push_lits(out: &mut Vec<u8>, lits: &[Lit]) -> Result<(), AllocError>
     ensures { OnOk result (out.new.items ≡ out.old.items ++ behind (numbers_text (with_zero lits.now))) }
 {
     for lit in lits {
-        out.push(b' ')?;
-        push_signed(out, i64::from(lit.number()))?;
+        push_lit(out, *lit)?;
     }
     out.extend_from_slice(b" 0")?;
     Ok(())

@@ -12,8 +12,6 @@ mod lit;
 mod lit_set;
 mod name;
 mod row;
-#[cfg(test)]
-mod tests;
 mod value;
 /// What the definitions make of small literals, clauses and partial assignments.
 pub mod worked;

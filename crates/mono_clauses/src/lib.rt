@@ -18,8 +18,6 @@ pub mod laws;
 mod scan;
 /// The store.
 mod store;
-#[cfg(test)]
-mod tests;
 /// Clauses one of whose watched literals became false.
 mod walk;
 /// Watch lists.

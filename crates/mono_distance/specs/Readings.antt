@@ -13,12 +13,12 @@ use Rattle.mono_theory.specs.declared.evidence.Evidence.{Evidence}
 use Rattle.mono_theory.specs.declared.stage.Stage.{Stage}
 use Rattle.mono_theory.specs.declared.stage.Stage.TheVariants as stage
 use Rattle.mono_theory.specs.Sound.{evidence_at}
-use Rattle.mono_theory.specs.Stages.{shows, stage_at}
-use Rattle.mono_theory.specs.Supports.{GraphTheoryView, atom_at}
+use Rattle.mono_theory.specs.Stages.{NoneWaits, shows, stage_at}
+use Rattle.mono_theory.specs.Supports.{GraphTheoryView, atom_at, facts_in}
 use Rattle.mono_theory.specs.Theories.{Facts}
 use Rattle.mono_rows.specs.declared.either_side.EitherSide.{EitherSide}
 use Rattle.mono_rows.specs.declared.either_side.EitherSide.TheVariants as side
-use Rattle.mono_rows.specs.EitherSides.{IsEitherRight}
+use Rattle.mono_rows.specs.EitherSides.{IsEitherDecided, IsEitherRight}
 use Rattle.mono_distance.specs.Distances.{is_distance}
 use Rattle.mono_distance.specs.declared.node_labels.Labels.{Labels}
 use Rattle.mono_distance.specs.Labels.{entry_in, value_by}
@@ -84,3 +84,8 @@ labels_at s a q v = record { under = under_in s.surely a q v; over = over_of (li
 
 abbrev pub labels_in : GraphTheoryView (EitherSide SureLabels) → ℕ → ℕ → Labels
 labels_in s n v = labels_at s (place_in s.atoms n) (atom_at s.atoms (place_in s.atoms n)).predicate v
+
+-- what is kept decides each predicate with the surely present edges, and with the possibly present ones
+pub record AreBothDecided (s : GraphTheoryView (EitherSide SureLabels)) : Type 0 where
+  pub surely : IsEitherDecided (facts_in s) s.surely
+  pub possibly : NoneWaits s.possibly.stages

@@ -37,16 +37,21 @@ pub struct Labels {
 /// atom's last node decide: the atom's predicate holds with the surely present edges exactly where `under` is there, and with
 /// the possibly present ones exactly where `over` is within the bound.
 pub trait HasLabels {
+    ghost use Rattle.std.specs.Option.{is_some};
     ghost use Rattle.std.specs.Prelude.{◌≡◌, ◌<◌, ℕ, IfSome, IsSome, MatchOption};
     ghost use Rattle.mono_problem.specs.Quiet.{under, over};
+    ghost use Rattle.mono_theory.specs.Evidences.{Decides};
     ghost use Rattle.mono_theory.specs.Theories.{Facts, atom_of};
     ghost use Rattle.mono_distance.specs.Readings.{IsReached, IsLeast};
+    ghost use Rattle.mono_distance.specs.SureLabels.{is_within, last_node, limit_of};
     ghost use Rattle.mono_distance.specs.declared.node_labels.Labels.{Labels};
 
     /// The graph, the atoms and the literals seen.
     ghost facts: { Self → Facts };
     /// What is known of a node, for the atom of a number.
     ghost labels_of: { Self → ℕ → ℕ → Labels };
+    /// What is kept decides each predicate.
+    ghost is_decided: { Self → Type 0 };
 
     /// What is known of the node, for the theory's atom of this number. The node is one of the graph. It asks for no search.
     fn labels(&self, atom: u32, node: u32) -> Labels
@@ -54,7 +59,9 @@ pub trait HasLabels {
         requires node { node < (facts self.now).graph.nodes }
         ensures value { result ≡ labels_of self.now atom node }
         ensures under { IfSome result.under (λ d. MatchOption (atom_of (facts self.now).atoms atom) ⊥ (λ x. IsReached (facts self.now).graph (under (facts self.now).graph (facts self.now).seen) x.predicate node d)) }
-        ensures over { MatchOption (atom_of (facts self.now).atoms atom) ⊥ (λ x. IsLeast (facts self.now).graph (over (facts self.now).graph (facts self.now).seen) x.predicate node result.over) };
+        ensures over { MatchOption (atom_of (facts self.now).atoms atom) ⊥ (λ x. IsLeast (facts self.now).graph (over (facts self.now).graph (facts self.now).seen) x.predicate node result.over) }
+        ensures decided_under { is_decided self.now → MatchOption (atom_of (facts self.now).atoms atom) ⊥ (λ x. node ≡ last_node x.predicate → Decides (facts self.now).graph (under (facts self.now).graph (facts self.now).seen) x.predicate (is_some result.under)) }
+        ensures decided_over { is_decided self.now → MatchOption (atom_of (facts self.now).atoms atom) ⊥ (λ x. node ≡ last_node x.predicate → Decides (facts self.now).graph (over (facts self.now).graph (facts self.now).seen) x.predicate (is_within result.over (limit_of x.predicate))) };
 }
 
 /// The label of a node in a list, and this one where it isn't listed.
@@ -180,14 +187,17 @@ fn under_by(
 
 impl HasLabels for GraphTheory<Distance, EitherSide<LeastRows>> {
     ghost use Rattle.mono_theory.specs.Supports.{facts_in};
-    ghost use Rattle.mono_distance.specs.Readings.{labels_in};
+    ghost use Rattle.mono_distance.specs.Readings.{AreBothDecided, labels_in};
 
     ghost facts = { facts_in };
 
     ghost labels_of = { labels_in };
 
+    ghost is_decided = { AreBothDecided };
+
     fn labels(&self, atom: u32, node: u32) -> Labels {
         let frame = self.frame();
+        let _ = frame.graph();
         let place = frame.place_of(atom);
         let side = self.surely();
         let held = frame.atom_at(place as usize);

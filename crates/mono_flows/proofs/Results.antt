@@ -14,6 +14,7 @@ use Rattle.mono_graph.proofs.Membership.{has_filter, filter_has, has_range, rang
 use Rattle.mono_graph.proofs.FlowLaws.{total_is, flow_value_bounded}
 use Rattle.mono_flows.proofs.OneEdge.{none, same_inflow, same_outflow, flow_value_reached}
 use Rattle.mono_graph.specs.declared.amount.Amount.{Amount}
+use Rattle.mono_flows.specs.Answers.{IsFlowOfValue}
 use Rattle.mono_flows.specs.Flowing.{IsFlowing}
 use Rattle.mono_flows.specs.Residual.{capacity, amount_of}
 use Rattle.mono_flows.specs.Visits.{is_marked, IsBlocked}
@@ -217,6 +218,9 @@ flow_value g P s t fs value flow =
     let f' : ℕ → ℕ = amount_at (listed fs (carrying fs (length g.edges))) in
     let same : (k : ℕ) → k < length g.edges → f' k ≡ f k = λ k lt. amount_is fs 0 (length g.edges) k (omega arith) (omega arith) in
     value_exact (inflow g f' s) (outflow g f' s) value (let source = flow.source in omega (arith, source, same_inflow g f f' s same, same_outflow g f f' s same))
+
+pub flow_is : (g : Digraph) (P : List Bool) (s t : ℕ) (fs : List ℕ) (value : ℕ) → IsFlowing g P s t (amount_of fs) value → IsFlowOfValue g P s t value (listed fs (carrying fs (length g.edges)))
+flow_is g P s t fs value flow = record { passes = flow_passes g P s t fs value value (pos value) flow refl (omega arith); value = flow_value g P s t fs value flow }
 
 pub carried_known : (fs : List ℕ) (n : ℕ) → All (λ (a : Amount). a.edge < n) (map (carried_by fs) (carrying fs n))
 carried_known fs n = All-map (λ (a : Amount). a.edge < n) (carried_by fs) (carrying fs n)

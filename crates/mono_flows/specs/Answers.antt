@@ -2,6 +2,7 @@
 use Rattle.std.specs.Prelude.{◌≡◌, ℕ, ℤ, pos, ◌<◌, ◌≤◌, Bool, true, false, List, All, IsTrue, length}
 use Rattle.mono_base.specs.declared.limits.TheConstants.{MAX_WITNESS_VALUE}
 use Rattle.mono_graph.specs.Digraph.{Digraph, leads_out, present_by, weight_of}
+use Rattle.mono_graph.specs.declared.amount.Amount.{Amount}
 use Rattle.mono_graph.specs.Flows.{amount_at, is_flow_of, is_flow_cut, value_of}
 use Rattle.mono_flows.specs.declared.found.FlowOrCut.{FlowOrCut}
 use Rattle.mono_flows.specs.declared.found.FlowOrCut.TheVariants as found
@@ -30,3 +31,8 @@ IsSmall (found.Cut set) = Unit
 abbrev pub HasValue : Digraph → List Bool → ℕ → ℕ → FlowOrCut → Type 0
 HasValue g P s value (found.Flow amounts) = value_of g s (amount_at amounts.items) ≡ pos value
 HasValue g P s value (found.Cut set) = value ≡ weight_of g (present_by (leads_out set.items) g P)
+
+-- the amounts are a flow of exactly this value
+pub record IsFlowOfValue (g : Digraph) (P : List Bool) (s t v : ℕ) (amounts : List Amount) : Type 0 where
+  pub passes : IsTrue (is_flow_of g P s t (pos v) amounts)
+  pub value : value_of g s (amount_at amounts) ≡ pos v

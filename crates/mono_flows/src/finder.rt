@@ -13,7 +13,7 @@ ghost use Rattle.mono_flows.specs.Visits.{IsSearch, IsBlocked};
 ghost use Rattle.mono_flows.specs.Flowing.{IsFlow};
 ghost use Rattle.mono_flows.specs.Levels.{AreLevels};
 ghost use Rattle.mono_flows.specs.Sums.{AreSums, AreZero};
-ghost use Rattle.mono_flows.specs.Answers.{Passes, IsKnown, IsSmall, HasValue};
+ghost use Rattle.mono_flows.specs.Answers.{Passes, IsKnown, IsSmall, HasValue, IsFlowOfValue};
 
 use crate::blocking_flow::add_blocking_flow;
 use crate::flow::Flow;
@@ -124,6 +124,7 @@ impl FlowFinder {
         ensures known { IfOk result (λ found. IsKnown graph.now found.answer) }
         ensures small { IfOk result (λ found. IsSmall found.answer) }
         ensures value { IfOk result (λ found. HasValue graph.now part.now source found.value found.answer) }
+        ensures flow { IfOk result (λ found. IsFlowOfValue graph.now part.now source sink found.value kept.new.items) }
         ensures kept { All (λ a. a.edge < length graph.now.edges) kept.new.items }
         ensures finder { self.new ≡ self.old }
     {

@@ -31,8 +31,6 @@ mod network;
 mod node_sums;
 /// The breadth-first search.
 mod search;
-#[cfg(test)]
-mod tests;
 /// Visits of a search.
 mod visit;
 /// What the words of contracts make of small graphs.

@@ -29,7 +29,36 @@ fn load(amounts: &mut Vec<u64>, listed: &[Amount])
     }
 }
 
-/// Lets the listed edges that aren't present carry nothing. What they carried is missing at their ends from then on.
+/// Lets an edge carry nothing. What it carried is missing at its ends from then on.
+fn cancel(
+    network: &Network,
+    amounts: &mut Vec<u64>,
+    pending: &mut Vec<Imbalance>,
+    lost: Amount,
+) -> Result<(), AllocError>
+    requires known { lost.edge < length network.now.graph.now.edges }
+    requires amounts { length amounts.old.items ≡ length network.now.graph.now.edges }
+    requires pending { All (λ i. i.node < network.now.graph.now.nodes) pending.old.items }
+    ensures amounts { length amounts.new.items ≡ length network.now.graph.now.edges }
+    ensures pending { All (λ i. i.node < network.now.graph.now.nodes) pending.new.items }
+{
+    let _ = network.graph.nodes();
+    let edge = network.graph.edge(lost.edge);
+    amounts[lost.edge as usize] = 0;
+    pending.push(Imbalance {
+        node: edge.from,
+        amount: lost.amount,
+        is_excess: true,
+    })?;
+    pending.push(Imbalance {
+        node: edge.to,
+        amount: lost.amount,
+        is_excess: false,
+    })?;
+    Ok(())
+}
+
+/// Lets the listed edges that aren't present carry nothing.
 fn cancel_lost(
     network: &Network,
     amounts: &mut Vec<u64>,
@@ -42,25 +71,40 @@ fn cancel_lost(
     ensures amounts { length amounts.new.items ≡ length network.now.graph.now.edges }
     ensures pending { All (λ i. i.node < network.now.graph.now.nodes) pending.new.items }
 {
-    let _ = network.graph.nodes();
     for lost in listed {
-        if network.part.has(lost.edge) {
-            continue;
+        if !network.part.has(lost.edge) {
+            cancel(network, amounts, pending, *lost)?;
         }
-        let edge = network.graph.edge(lost.edge);
-        amounts[lost.edge as usize] = 0;
-        pending.push(Imbalance {
-            node: edge.from,
-            amount: lost.amount,
-            is_excess: true,
-        })?;
-        pending.push(Imbalance {
-            node: edge.to,
-            amount: lost.amount,
-            is_excess: false,
-        })?;
     }
     Ok(())
+}
+
+/// Takes what is left, or as much as there is, from what an edge carries. It is missing at the edge's other end from then on.
+/// What is left after that.
+fn take_at(
+    network: &Network,
+    amounts: &mut Vec<u64>,
+    pending: &mut Vec<Imbalance>,
+    edge: ResidualEdge,
+    left: u64,
+) -> Result<u64, AllocError>
+    requires place { edge.place < length network.now.graph.now.edges }
+    requires amounts { length amounts.old.items ≡ length network.now.graph.now.edges }
+    requires pending { All (λ i. i.node < network.now.graph.now.nodes) pending.old.items }
+    ensures amounts { length amounts.new.items ≡ length network.now.graph.now.edges }
+    ensures pending { All (λ i. i.node < network.now.graph.now.nodes) pending.new.items }
+{
+    let taken = left.min(amounts[edge.place as usize]);
+    if taken == 0 {
+        return Ok(left);
+    }
+    amounts[edge.place as usize] -= taken;
+    pending.push(Imbalance {
+        node: network.end(edge),
+        amount: taken,
+        is_excess: edge.back,
+    })?;
+    Ok(left - taken)
 }
 
 /// Takes what is too much at a node from what these edges carry. It is missing at their other ends from then on.
@@ -79,21 +123,11 @@ fn take_from(
 {
     let mut left = at.amount;
     for place in places {
-        let taken = left.min(amounts[*place as usize]);
-        if taken == 0 {
-            continue;
-        }
-        amounts[*place as usize] -= taken;
-        left -= taken;
-        let node = network.end(ResidualEdge {
+        let edge = ResidualEdge {
             place: *place,
             back: at.is_excess,
-        });
-        pending.push(Imbalance {
-            node,
-            amount: taken,
-            is_excess: at.is_excess,
-        })?;
+        };
+        left = take_at(network, amounts, pending, edge, left)?;
     }
     Ok(())
 }

@@ -28,13 +28,21 @@ pub(crate) fn push_line(out: &mut Vec<u8>, word: &[u8], numbers: &[u64]) -> Resu
     Ok(())
 }
 
+// A number and a space.
+fn push_literal(out: &mut Vec<u8>, lit: i64) -> Result<(), AllocError>
+    ensures { OnOk result (out.new.items ≡ out.old.items ++ signed_decimal lit ++ codes " ") }
+{
+    push_signed(out, lit)?;
+    out.push(b' ')?;
+    Ok(())
+}
+
 // A number and a space, for each of the literals.
 fn push_literals(out: &mut Vec<u8>, lits: &[i64]) -> Result<(), AllocError>
     ensures { OnOk result (out.new.items ≡ out.old.items ++ flat_map (λ l. signed_decimal l ++ codes " ") lits.now) }
 {
     for lit in lits {
-        push_signed(out, *lit)?;
-        out.push(b' ')?;
+        push_literal(out, *lit)?;
     }
     Ok(())
 }

@@ -17,12 +17,6 @@ mod reader;
 mod refusal;
 /// What a word line says.
 mod statement;
-/// Texts that were printed by hand.
-#[cfg(test)]
-mod print_tests;
-/// A text that was read by hand, and the limits of an input.
-#[cfg(test)]
-mod tests;
 
 /// Laws of what a text stands for.
 pub mod laws;

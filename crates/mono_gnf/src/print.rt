@@ -235,13 +235,21 @@ fn push_atoms(out: &mut Vec<u8>, problem: &Problem) -> Result<(), AllocError>
     Ok(())
 }
 
+// A number and a space.
+fn push_literal(out: &mut Vec<u8>, lit: Lit) -> Result<(), AllocError>
+    ensures { OnOk result (out.new.items ≡ out.old.items ++ signed_decimal lit ++ codes " ") }
+{
+    push_signed(out, i64::from(lit.number()))?;
+    out.push(b' ')?;
+    Ok(())
+}
+
 // A number and a space, for each of the literals.
 fn push_literals(out: &mut Vec<u8>, lits: &[Lit]) -> Result<(), AllocError>
     ensures { OnOk result (out.new.items ≡ out.old.items ++ flat_map (λ l. signed_decimal l ++ codes " ") lits.now) }
 {
     for lit in lits {
-        push_signed(out, i64::from(lit.number()))?;
-        out.push(b' ')?;
+        push_literal(out, *lit)?;
     }
     Ok(())
 }

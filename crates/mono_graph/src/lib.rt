@@ -19,8 +19,6 @@ mod limit;
 mod marking;
 /// Parts of a graph.
 mod part;
-#[cfg(test)]
-mod tests;
 /// What the definitions make of small graphs.
 pub mod worked;
 

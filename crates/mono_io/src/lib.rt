@@ -38,6 +38,3 @@ pub use shelf::Shelf;
 pub use sink::Sink;
 pub use std_sink::StdSink;
 pub use writing::write_whole;
-
-#[cfg(test)]
-mod tests;

@@ -96,6 +96,7 @@ pub record IsAsked (p : Instance) (shown : ℕ → List ℤ) (t0 : TrailView) (j
   pub asks : AsksFor p t0 j0 t j
   pub reasons : HasReasons p (clauses_after p j) shown t
   pub is : WasUnit (clauses_after p j) t.lits place n
+  pub why : reason_at t.marks place ≡ Clause n
 
 -- a literal's reason is late
 pub late_there : (t : TrailView) (place atom kept v : ℕ) (x : ℤ) → IsSound t → place < length t.lits → x ≡ lit_at t.lits place → v ≡ var_of x → reason_at t.marks place ≡ Late atom kept → HasLate t v
@@ -121,6 +122,7 @@ late_asked p shown t t' j j' place atom kept n v x m s lt ex ev r late e ej en k
   };
   reasons = reasons_settled p (clauses_after p j') shown t t' settles (subst (λ (ds : List (List ℤ)). HasReasons p ds shown t) (sym more) (reasons_more p (clauses_after p j) (m.clause ∷ []) shown t r));
   is = subst (λ (u : TrailView). WasUnit (clauses_after p j') u.lits place n) (sym at_place) unit;
+  why = ap (λ (u : TrailView). reason_at u.marks place) at_place ∙ reason_settled t place n s.as_many lt;
 }
   where
     more : clauses_after p j' ≡ clauses_after p j ++ m.clause ∷ []
@@ -157,7 +159,7 @@ asks_same p t t' j e = subst (λ (u : TrailView). AsksFor p t j u j) (sym e) (as
 
 -- ---- a chain after more clauses
 
-named_more : (cs more : List (List ℤ)) (ns : List ℕ) → IsTrue (names_clauses cs ns) → clauses_named (cs ++ more) ns ≡ clauses_named cs ns
+pub named_more : (cs more : List (List ℤ)) (ns : List ℕ) → IsTrue (names_clauses cs ns) → clauses_named (cs ++ more) ns ≡ clauses_named cs ns
 named_more cs more [] h = refl
 named_more cs more (n ∷ ns) h =
     let a = and_parts (nat_le 1 n && nat_le n (length cs)) (names_clauses cs ns) h in

@@ -5,7 +5,7 @@ use Rattle.std.specs.Result.{OnErr, IfOk}
 use Rattle.std.specs.Ordering.{int_eq}
 use Rattle.std.proofs.lemmas.Bool.{and_from, le-leb, or_left, cases_lt}
 use Rattle.std.proofs.lemmas.Option.{same_Some}
-use Rattle.mono_base.specs.Literal.{var_of, has_lit, without, within, lit_at}
+use Rattle.mono_base.specs.Literal.{var_of, has_lit, without, lit_at}
 use Rattle.mono_problem.specs.Instance.{Instance, numbered}
 use Rattle.mono_steps.specs.declared.step.Chain.{Chain}
 use Rattle.mono_steps.specs.Chains.{chain_end}
@@ -181,7 +181,7 @@ chains_one j j' c e = record { chains = c ∷ []; pushed = e }
 
 -- ---- lemmas that were asked for, and then a chain
 
-clauses_grown : (p : Instance) (j j' : List Step) → (g : AddsChains j j') → clauses_after p j' ≡ clauses_after p j ++ map clause_of (map (λ (c : Chain). step.Chain c) g.chains)
+pub clauses_grown : (p : Instance) (j j' : List Step) → (g : AddsChains j j') → clauses_after p j' ≡ clauses_after p j ++ map clause_of (map (λ (c : Chain). step.Chain c) g.chains)
 clauses_grown p j j' g = ap (clauses_after p) g.pushed ∙ clauses_more p j (map (λ (c : Chain). step.Chain c) g.chains)
 
 pub reasons_grown : (p : Instance) (j j' : List Step) (shown : ℕ → List ℤ) (t : TrailView) → AddsChains j j' → HasReasons p (clauses_after p j) shown t → HasReasons p (clauses_after p j') shown t

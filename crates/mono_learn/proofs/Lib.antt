@@ -8,6 +8,8 @@ pub mod Walking
 pub mod Settling
 pub mod Asking
 pub mod Shrinking
+pub mod Dropping
 pub mod Learning
+pub mod Points
 pub mod KeptReasons
 pub mod WorkedRows

@@ -7,7 +7,7 @@ use Rattle.std.proofs.lemmas.List.Folds.{list_all-append}
 use Rattle.std.proofs.lemmas.Option.{same_Some}
 use Rattle.mono_base.specs.Literal.{var_of, has_lit, without, lit_at}
 use Rattle.mono_problem.specs.Instance.{numbered}
-use Rattle.mono_steps.specs.Chains.{chain_end, resolvent}
+use Rattle.mono_steps.specs.Chains.{chain_end}
 use Rattle.mono_steps.specs.ChainSteps.{clauses_named, names_clauses}
 use Rattle.mono_base.specs.Partial.{is_partial}
 use Rattle.mono_trail.specs.TrailView.{TrailView, IsSound}

@@ -1,4 +1,4 @@
-use Rattle.std.specs.Prelude.{◌≡◌, ℕ, ◌+◌, ◌<◌, ◌≤◌, Bool, ℤ, neg_ℤ, List, [], ◌∷◌, ◌++◌, length, IsTrue}
+use Rattle.std.specs.Prelude.{◌≡◌, ℕ, ◌≤◌, ℤ, List, ◌++◌, length, IsTrue}
 use Rattle.mono_base.specs.Literal.{has_lit}
 use Rattle.mono_learn.specs.declared.resolvent.Resolvent.{Resolvent}
 use Rattle.mono_learn.specs.Resolvents.{FalseBy, IsResolvent, marked_from}

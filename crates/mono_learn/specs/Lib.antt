@@ -9,4 +9,5 @@ pub mod Resolvents
 pub mod Joins
 pub mod Walks
 pub mod Shrinks
+pub mod FirstPoint
 pub mod Worked

@@ -1,5 +1,5 @@
 -- Marks on the places of a trail, and the clause that they stand for.
-use Rattle.std.specs.Prelude.{◌≡◌, ℕ, zero, suc, ◌+◌, ◌<◌, ◌≤◌, Bool, true, false, if◌then◌else◌, ℤ, pos, neg_ℤ, List, [], ◌∷◌, length, IsTrue, Contains}
+use Rattle.std.specs.Prelude.{◌≡◌, ℕ, zero, suc, ◌+◌, ◌<◌, ◌≤◌, Bool, true, if◌then◌else◌, ℤ, neg_ℤ, List, [], ◌∷◌, length, IsTrue, Contains}
 use Rattle.mono_base.specs.Literal.{has_lit, lit_at}
 use Rattle.mono_trail.specs.Seen.{is_marked}
 

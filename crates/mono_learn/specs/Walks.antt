@@ -1,14 +1,13 @@
 -- The state of a chain that walks back along a trail, and of one that drops what the rest implies.
-use Rattle.std.specs.Prelude.{◌≡◌, ℕ, ◌+◌, ◌<◌, ◌≤◌, Bool, true, false, ℤ, neg_ℤ, List, [], ◌∷◌, ◌++◌, length, IsTrue, Some, Contains}
+use Rattle.std.specs.Prelude.{◌≡◌, ℕ, ◌+◌, ◌<◌, ◌≤◌, Bool, true, ℤ, List, [], length, IsTrue, Some, Contains}
 use Rattle.mono_trail.specs.declared.reason.Reason.TheVariants.{Decided}
 use Rattle.mono_trail.specs.Places.{reason_at}
 use Rattle.mono_trail.specs.TrailView.{TrailView}
 use Rattle.mono_trail.specs.Seen.{is_marked, IsUnseen}
-use Rattle.mono_base.specs.Literal.{has_lit}
 use Rattle.mono_steps.specs.Chains.{chain_end}
 use Rattle.mono_steps.specs.ChainSteps.{clauses_named, names_clauses}
 use Rattle.mono_learn.specs.declared.resolvent.Resolvent.{Resolvent}
-use Rattle.mono_learn.specs.Resolvents.{FalseBy, IsMarked}
+use Rattle.mono_learn.specs.Resolvents.{IsMarked}
 use Rattle.mono_learn.specs.Joins.{StandsFor}
 
 -- nothing is marked

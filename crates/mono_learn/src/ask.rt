@@ -3,7 +3,7 @@
 ghost use Rattle.std.specs.Prelude.{◌≡◌, ◌≢◌, ℕ, ◌<◌, ◌≤◌, length, IfOk};
 ghost use Rattle.mono_base.specs.Literal.{lit_at};
 ghost use Rattle.mono_steps.specs.Steps.{clauses_after};
-ghost use Rattle.mono_trail.specs.declared.reason.Reason.TheVariants.{Decided, Late};
+ghost use Rattle.mono_trail.specs.declared.reason.Reason.TheVariants.{Decided, Clause, Late};
 ghost use Rattle.mono_trail.specs.Places.{reason_at};
 ghost use Rattle.mono_trail.specs.TrailView.{IsSound};
 ghost use Rattle.mono_learn.specs.Reasons.{WasUnit, HasReasons};
@@ -38,6 +38,7 @@ fn late_reason<E: Explainer>(
     ensures sound { IsSound trail.new }
     ensures reasons { HasReasons problem.now (clauses_after problem.now journal.new) (E.shown by.old) trail.new }
     ensures is { IfOk result (λ n. WasUnit (clauses_after problem.now journal.new) trail.new.lits place n) }
+    ensures why { IfOk result (λ n. reason_at trail.new.marks place ≡ Clause n) }
 {
     let lemma = by.explain(atom, lit, kept)?;
     let number = journal.push_lemma(problem, lemma)?;
@@ -64,6 +65,7 @@ pub fn reason_of<E: Explainer>(
     ensures sound { IsSound trail.new }
     ensures reasons { HasReasons problem.now (clauses_after problem.now journal.new) (E.shown by.old) trail.new }
     ensures is { IfOk result (λ n. WasUnit (clauses_after problem.now journal.new) trail.new.lits place n) }
+    ensures why { IfOk result (λ n. reason_at trail.new.marks place ≡ Clause n) }
 {
     match places::reason(trail, place) {
         Reason::Decided => unreachable!(),

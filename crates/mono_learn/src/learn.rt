@@ -7,6 +7,7 @@ ghost use Rattle.mono_steps.specs.Journals.{AddsLemmas};
 ghost use Rattle.mono_learn.specs.Reasons.{HasReasons, IsFalseClause, IsConflict};
 ghost use Rattle.mono_learn.specs.Settled.{Settles, AreAskedFor};
 ghost use Rattle.mono_learn.specs.Learned.{Learns, IsLearnt, IsMinimal};
+ghost use Rattle.mono_learn.specs.FirstPoint.{HasWalked, IsTaught};
 ghost use Rattle.mono_learn.specs.Asked.{AsksFor, AddsChains, PushesChain, IsDerived};
 ghost use Rattle.mono_learn.specs.Walks.{IsFresh, HasCome, IsAtLast};
 ghost use Rattle.mono_learn.specs.Shrinks.{AreReasons};
@@ -50,6 +51,7 @@ pub(crate) fn begin(
     requires unused { used.old.items ≡ [] }
     ensures come { OnOk result (HasCome (clauses_after problem.now journal.now) trail.now.lits start (length trail.now.lits) resolvent.new used.new.items) }
     ensures some { OnOk result (IsConflict (clauses_after problem.now journal.now) trail.now conflict → 1 ≤ trail.now.level → start ≡ count_to (trail.now.level - 1) trail.now.marks → 1 ≤ resolvent.new.count) }
+    ensures walked { OnOk result (HasWalked (clauses_after problem.now journal.now) trail.now conflict used.new.items) }
 {
     // A true literal, which the false clause doesn't have: nothing is left out.
     let lit = places::literal(trail, start);
@@ -66,7 +68,7 @@ struct Derived {
     back_to: u32,
 }
 
-/// The clause at the first unique implication point, without the literals that the rest implies.
+/// The clause at the first unique implication point, without its redundant literals.
 fn finish(
     alloc: Global,
     problem: &Problem,
@@ -82,6 +84,7 @@ fn finish(
     requires last { IsAtLast (clauses_after problem.now journal.now) trail.old.lits (count_to (trail.old.level - 1) trail.old.marks) last resolvent used.items }
     ensures same { trail.new ≡ trail.old }
     ensures derived { IfOk result (λ d. IsDerived (clauses_after problem.now journal.now) trail.old d.lits.items d.used.items d.back_to) }
+    ensures taught { IfOk result (λ d. (conflict : ℕ) → HasWalked (clauses_after problem.now journal.now) trail.old conflict used.items → IsTaught (clauses_after problem.now journal.now) trail.old conflict d.lits.items) }
 {
     shrink(problem, trail, journal, &mut resolvent, &mut used)?;
     let Resolvent { mut seen, kept, .. } = resolvent;
@@ -116,6 +119,7 @@ fn derive<E: Explainer>(
     ensures sound { IsSound trail.new }
     ensures reasons { HasReasons problem.now (clauses_after problem.now journal.new) (E.shown by.old) trail.new }
     ensures derived { IfOk result (λ d. IsDerived (clauses_after problem.now journal.new) trail.new d.lits.items d.used.items d.back_to) }
+    ensures taught { IfOk result (λ d. IsTaught (clauses_after problem.now journal.new) trail.new conflict d.lits.items) }
 {
     let start = trail.count_to(trail.level() - 1);
     let mut resolvent = Resolvent::new(alloc, trail)?;
@@ -152,6 +156,7 @@ fn push(
     requires sound { IsSound trail.now }
     requires vars { trail.now.vars ≡ problem.now.vars }
     requires derived { IsDerived (clauses_after problem.now journal.old) trail.now derived.lits.items derived.used.items derived.back_to }
+    ensures same { IfOk result (λ r. r.clause ≡ derived.lits.items) }
     ensures pushes { IfOk result (λ r. PushesChain problem.now journal.old journal.new r.clause r.number) }
     ensures learnt { IfOk result (λ r. IsLearnt trail.now r.clause r.back_to) }
     ensures minimal { IfOk result (λ r. IsMinimal (clauses_after problem.now journal.old) trail.now r.clause) }
@@ -180,8 +185,9 @@ fn push(
 /// The clause that a conflict above level 0 teaches, with its chain in the journal.
 ///
 /// The clause of number `conflict` is resolved with the reasons of its literals, the last one on the trail first, until
-/// one literal of the present level is left (the first unique implication point), and then with each reason that takes a
-/// literal of a lower level away and brings none (Een and Sorensson's MiniSat).
+/// one literal of the present level is left (the first unique implication point, Een and Sorensson's MiniSat), and then
+/// with each reason that takes a literal of a lower level away and brings none (local minimization, Sorensson and Biere
+/// 2009). So the clause is that of the first unique implication point without its redundant literals, and nothing else.
 ///
 /// Lemmas that are asked for join the journal first, and their literals' reasons are settled. After want of memory the
 /// journal's steps are justified, and the trail differs in settled reasons alone.
@@ -200,6 +206,7 @@ pub fn analyse<E: Explainer>(
     requires conflict { IsConflict (clauses_after problem.now journal.old) trail.old conflict }
     ensures learns { IfOk result (Learns problem.now trail.old journal.old journal.new) }
     ensures minimal { IfOk result (λ r. IsMinimal (clauses_after problem.now journal.new) trail.new r.clause) }
+    ensures taught { IfOk result (λ r. IsTaught (clauses_after problem.now journal.new) trail.new conflict r.clause) }
     ensures err { OnErr result (AddsLemmas journal.old journal.new) }
     ensures keeps { IsTrue (are_justified problem.now journal.old) → IsTrue (are_justified problem.now journal.new) }
     ensures settles { Settles (clauses_after problem.now journal.new) trail.old trail.new }

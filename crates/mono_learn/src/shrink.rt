@@ -1,7 +1,9 @@
 //! Literals that the rest of a clause implies are dropped.
 //!
-//! It goes from the highest place down. The reason of a literal has its other literals at lower places, so nothing that
-//! was dropped before counts for it, and one pass drops all that can be dropped. Late reasons aren't asked for here.
+//! A literal is redundant where its reason's other literals are all in the clause (local minimization, Sorensson and Biere
+//! 2009). It goes from the highest place down. The reason of a literal has its other literals at lower places, so nothing
+//! that was dropped before counts for it, and one pass drops all literals that are redundant in the whole clause, and no
+//! others. Late reasons aren't asked for here.
 
 ghost use Rattle.std.specs.Prelude.{◌≡◌, ◌≢◌, ℕ, ◌+◌, ◌<◌, ◌≤◌, List, ℤ, length, true, false, slice_index_or, IsTrue, OnOk, IfOk, Contains};
 ghost use Rattle.mono_base.specs.Literal.{without};
@@ -10,7 +12,7 @@ ghost use Rattle.mono_steps.specs.Steps.{clauses_after};
 ghost use Rattle.mono_learn.specs.Resolvents.{FalseBy, AllFalse, MarkedBy};
 ghost use Rattle.mono_learn.specs.Walks.{IsAtLast, HasShrunk};
 ghost use Rattle.mono_trail.specs.Seen.{is_marked};
-ghost use Rattle.mono_learn.specs.Shrinks.{AreReasons, IsCovered, IsUncovered, IsUnmarkedBy, IsKeptFor, AreKept, AreLeft};
+ghost use Rattle.mono_learn.specs.Shrinks.{AreReasons, IsCovered, IsUncovered, IsUnmarkedBy, IsKeptFor, IsDropped, AreDropped, AreKept, AreLeft};
 
 use crate::places;
 use crate::places::place_of_false;
@@ -50,7 +52,7 @@ fn is_covered(trail: &Trail, seen: &[bool], clause: &[Lit], skip: Lit) -> bool
     true
 }
 
-/// Drops the literal at a place, where the others of its reason are in the clause.
+/// Drops the literal at a place, where the others of its reason are in the clause, and leaves all others.
 fn try_drop(
     problem: &Problem,
     trail: &Trail,
@@ -70,6 +72,8 @@ fn try_drop(
         → HasShrunk (clauses_after problem.now journal.now) trail.now.lits start last resolvent.new.seen.items resolvent.old.kept.items used.new.items) }
     ensures fewer { (k : ℕ) → is_marked resolvent.new.seen.items k ≡ true → is_marked resolvent.old.seen.items k ≡ true }
     ensures needed { OnOk result (IsKeptFor (clauses_after problem.now journal.now) trail.now resolvent.new.seen.items place) }
+    ensures others { (k : ℕ) → k ≢ place → is_marked resolvent.new.seen.items k ≡ is_marked resolvent.old.seen.items k }
+    ensures exact { OnOk result (IsDropped (clauses_after problem.now journal.now) trail.now resolvent.old.seen.items resolvent.new.seen.items place) }
 {
     let Reason::Clause(number) = places::reason(trail, place) else {
         return Ok(());
@@ -91,7 +95,7 @@ fn try_drop(
     Ok(())
 }
 
-/// Drops the literals below the present level that the rest implies.
+/// Drops the literals below the present level that are redundant.
 pub fn shrink(
     problem: &Problem,
     trail: &Trail,
@@ -107,6 +111,7 @@ pub fn shrink(
     ensures shrunk { OnOk result ((start last : ℕ) → IsAtLast (clauses_after problem.now journal.now) trail.now.lits start last resolvent.old used.old.items
         → HasShrunk (clauses_after problem.now journal.now) trail.now.lits start last resolvent.new.seen.items resolvent.new.kept.items used.new.items) }
     ensures needed { OnOk result ((j : ℕ) → j < length resolvent.new.kept.items → IsKeptFor (clauses_after problem.now journal.now) trail.now resolvent.new.seen.items (slice_index_or resolvent.new.kept.items j 0)) }
+    ensures exact { OnOk result (AreDropped (clauses_after problem.now journal.now) trail.now resolvent.old.seen.items resolvent.new.seen.items resolvent.new.kept.items 0) }
 {
     resolvent.kept.sort_unstable();
     let mut rest = resolvent.kept.len();

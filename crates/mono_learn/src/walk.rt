@@ -1,13 +1,14 @@
 //! The walk back along a trail.
 
-ghost use Rattle.std.specs.Prelude.{◌≡◌, ◌≢◌, ℕ, ◌+◌, ◌<◌, ◌≤◌, List, ℤ, length, true, OnOk, IfOk};
+ghost use Rattle.std.specs.Prelude.{◌≡◌, ◌≢◌, ℕ, ◌+◌, ◌-◌, ◌<◌, ◌≤◌, ◌∷◌, ◌++◌, [], List, ℤ, length, true, OnOk, IfOk};
 ghost use Rattle.mono_trail.specs.declared.reason.Reason.TheVariants.{Decided};
-ghost use Rattle.mono_trail.specs.TrailView.{IsSound};
+ghost use Rattle.mono_trail.specs.TrailView.{IsSound, count_to};
 ghost use Rattle.mono_trail.specs.Places.{reason_at};
 ghost use Rattle.mono_trail.specs.Seen.{is_marked};
 ghost use Rattle.mono_steps.specs.Steps.{clauses_after};
 ghost use Rattle.mono_learn.specs.Reasons.{HasReasons, WasUnit};
 ghost use Rattle.mono_learn.specs.Asked.{AsksFor};
+ghost use Rattle.mono_learn.specs.FirstPoint.{HasWalked, GoesOnWith};
 ghost use Rattle.mono_learn.specs.Walks.{HasCome, AllImplied, IsAtLast};
 
 use crate::ask::reason_of;
@@ -37,6 +38,7 @@ fn resolve(
     requires come { HasCome (clauses_after problem.now journal.now) trail.now.lits start (place + 1) resolvent.old used.old.items }
     ensures come { OnOk result (HasCome (clauses_after problem.now journal.now) trail.now.lits start place resolvent.new used.new.items) }
     ensures grows { OnOk result (resolvent.old.count ≤ resolvent.new.count + 1) }
+    ensures pushed { OnOk result (used.new.items ≡ used.old.items ++ number ∷ []) }
 {
     let lit = places::literal(trail, place);
     used.push(number)?;
@@ -71,6 +73,7 @@ pub fn step<E: Explainer>(
     ensures reasons { HasReasons problem.now (clauses_after problem.now journal.new) (E.shown by.old) trail.new }
     ensures come { OnOk result (HasCome (clauses_after problem.now journal.new) trail.new.lits start place resolvent.new used.new.items) }
     ensures grows { OnOk result (resolvent.old.count ≤ resolvent.new.count + 1) }
+    ensures goes_on { OnOk result (GoesOnWith (clauses_after problem.now journal.new) trail.new place used.old.items used.new.items) }
 {
     let number = reason_of(problem, trail, journal, by, place)?;
     resolve(
@@ -91,6 +94,8 @@ pub fn walk<E: Explainer>(
     requires sound { IsSound trail.old }
     requires problem { E.problem by.old ≡ problem.now }
     requires reasons { HasReasons problem.now (clauses_after problem.now journal.old) (E.shown by.old) trail.old }
+    requires level { 1 ≤ trail.old.level }
+    requires start { start ≡ count_to (trail.old.level - 1) trail.old.marks }
     requires implied { AllImplied trail.old start }
     requires some { 1 ≤ resolvent.old.count }
     requires come { HasCome (clauses_after problem.now journal.old) trail.old.lits start (length trail.old.lits) resolvent.old used.old.items }
@@ -99,6 +104,7 @@ pub fn walk<E: Explainer>(
     ensures sound { IsSound trail.new }
     ensures reasons { HasReasons problem.now (clauses_after problem.now journal.new) (E.shown by.old) trail.new }
     ensures last { IfOk result (λ place. IsAtLast (clauses_after problem.now journal.new) trail.new.lits start place resolvent.new used.new.items) }
+    ensures walked { OnOk result ((conflict : ℕ) → HasWalked (clauses_after problem.now journal.old) trail.old conflict used.old.items → HasWalked (clauses_after problem.now journal.new) trail.new conflict used.new.items) }
 {
     let mut place = trail.lits().len();
     loop {

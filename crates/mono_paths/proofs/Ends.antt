@@ -26,7 +26,7 @@ use Rattle.mono_paths.specs.Searches.{IsSearch, source_of}
 is_reached : (g : Digraph) (labels : List ℕ) (cap : ℕ) (us : List ℕ) → AreReached g.nodes cap labels us → (u : ℕ) → u < g.nodes → label_of labels u < cap → IsTrue (has us u)
 is_reached g labels cap us r u lt low = r.below u lt ∙ lt-ltb (label_of labels u) cap low
 
-reached_low : (g : Digraph) (labels : List ℕ) (cap : ℕ) (us : List ℕ) → AreReached g.nodes cap labels us → (u : ℕ) → u < g.nodes → IsTrue (has us u) → label_of labels u < cap
+pub reached_low : (g : Digraph) (labels : List ℕ) (cap : ℕ) (us : List ℕ) → AreReached g.nodes cap labels us → (u : ℕ) → u < g.nodes → IsTrue (has us u) → label_of labels u < cap
 reached_low g labels cap us r u lt h = ltb-true (label_of labels u) cap (sym (r.below u lt) ∙ h)
 
 within : (p a b : Bool) → (IsTrue p → IsTrue a → IsTrue b) → IsTrue (not (p && (a && not b)))

@@ -1,6 +1,6 @@
 -- What the labels of a search say of the walks from where it began.
 use Rattle.std.proofs.Common.{◌≡◌, ℕ, zero, suc, ◌+◌, ◌<◌, ◌≤◌, Bool, true, false, ◌&&◌, List, [], ◌∷◌, ◌++◌, length, get_or, sum_by, refl, sym, ap, subst, ◌∙◌, inl, inr, arith, ℤ, pos, negsuc, ◌≤ℤ◌, ◌<ℤ◌, int_le, ◌↔◌}
-use Rattle.std.specs.Prelude.{IsTrue, ◌==◌, Some, None}
+use Rattle.std.specs.Prelude.{IsTrue, ◌==◌, Some, None, All}
 use Rattle.std.specs.List.{list_all}
 use Rattle.std.proofs.lemmas.Bool.{and_from, and_parts, eq-eqb, eqb-true, lt-ltb, ltb-true, cases_eq, cases_lt, cases_Bool}
 use Rattle.std.proofs.lemmas.List.{get_or_append_left, get_or_push, get_or_default}
@@ -10,18 +10,20 @@ use Rattle.std.proofs.lemmas.Int.{ints}
 use Rattle.mono_graph.specs.declared.limit.Limit.{Limit}
 use Rattle.mono_graph.specs.declared.limit.Limit.TheVariants as limit
 use Rattle.mono_graph.specs.Digraph.{Digraph, present, is_place, edge_at, weight_of}
-use Rattle.mono_graph.specs.Walks.{leads, is_walk, is_light, cost_of}
+use Rattle.mono_graph.specs.Walks.{leads, is_walk, is_light, cost_of, bound_of}
 use Rattle.mono_paths.specs.declared.measure.Measure.{Measure}
 use Rattle.mono_paths.specs.declared.measure.Measure.TheVariants as measure
 use Rattle.mono_paths.specs.declared.search.Search.{Search}
 use Rattle.mono_paths.specs.declared.visit.Visit.{Visit}
-use Rattle.mono_paths.specs.Found.{IsBound}
+use Rattle.mono_paths.specs.Found.{IsBound, with_bound}
 use Rattle.mono_paths.specs.Trails.{visit_at, IsTrail, cost_along}
 use Rattle.mono_paths.specs.Spread.{label_of, IsTight, AreTight}
 use Rattle.mono_paths.specs.Searches.{IsSearch, source_of}
 use Rattle.mono_paths.specs.declared.target.Target.{Target}
 use Rattle.mono_paths.specs.Asked.{limit_by, target_at, HasPath}
-use Rattle.mono_paths.proofs.Ends.{ones, light}
+use Rattle.mono_paths.specs.NodeLabels.{AreReached}
+use Rattle.mono_graph.proofs.Membership.{has_get_or}
+use Rattle.mono_paths.proofs.Ends.{ones, light, reached_low}
 
 -- ---- a walk costs at least what the labels rise along it
 
@@ -181,3 +183,44 @@ answer_more g P m u w ts old new i t d b same lt is len pushed before now j low 
 
 pub raised : (x : ℤ) (a b : ℕ) → x <ℤ pos a → a ≤ b → x <ℤ pos b
 raised x a b low le = omega (arith, ints, low, le)
+
+-- ---- a walk to each node that is listed
+
+light_at : (l : Limit) (g : Digraph) (n : ℕ) (ks : List ℕ) → cost_along l g ks ≤ n → IsTrue (is_light (with_bound l (pos n)) g ks)
+light_at limit.Free g n ks low = refl
+light_at (limit.Steps most) g n ks low = light (limit.Steps (pos n)) g n ks refl (let le : cost_along (limit.Steps (pos n)) g ks ≤ n = low in omega arith)
+light_at (limit.Weight most) g n ks low = light (limit.Weight (pos n)) g n ks refl (let le : cost_along (limit.Weight (pos n)) g ks ≤ n = low in omega arith)
+
+walk_by : (g : Digraph) (P : List Bool) (l : Limit) (u v : ℕ) (s : Search) → IsSearch g P l s → source_of s ≡ u → v < g.nodes → label_of s.labels.each v < s.labels.cap
+    → HasPath g P u v (with_bound l (pos (label_of s.labels.each v)))
+walk_by g P l u v s search source v-in low =
+    let w = search.labelled.made v v-in low in
+    let r = way_to g P l s.visits.items search.trail (length s.visits.items) w.0 w.1 w.1 in
+    let from : IsTrue (leads g u r.0 v) =
+    subst (λ (x : ℕ). IsTrue (leads g x r.0 v)) source (subst (λ (x : ℕ). IsTrue (leads g (source_of s) r.0 x)) w.2 r.1.way) in
+    let cost : cost_along l g r.0 ≡ label_of s.labels.each v = r.1.cost ∙ w.3 in (
+      r.0,
+      and_from (is_walk g P u v r.0) (is_light (with_bound l (pos (label_of s.labels.each v))) g r.0)
+          (and_from (list_all (is_place g) r.0 && list_all (present P) r.0) (leads g u r.0 v) (and_from (list_all (is_place g) r.0) (list_all (present P) r.0) r.1.places r.1.here) from)
+          (light_at l g (label_of s.labels.each v) r.0 (omega (arith, cost))),
+    )
+
+pub all_reached : (g : Digraph) (P : List Bool) (l : Limit) (u : ℕ) (s : Search) (us : List ℕ) → IsSearch g P l s → source_of s ≡ u → AreReached (length s.labels.each) s.labels.cap s.labels.each us
+    → All (λ v. HasPath g P u v (with_bound l (pos (label_of s.labels.each v)))) us
+all_reached g P l u s us search source reached =
+    let r : AreReached g.nodes s.labels.cap s.labels.each us = subst (λ (n : ℕ). AreReached n s.labels.cap s.labels.each us) search.labelled.len reached in
+    λ i d lt.
+    let v : ℕ = get_or us i d in
+    let v-in : v < g.nodes = r.known i d lt in
+    walk_by g P l u v s search source v-in (reached_low g s.labels.each s.labels.cap us r v v-in (has_get_or us i d lt))
+
+in_bound : (x : ℤ) (a n : ℕ) → x ≡ pos n → a < n + 1 → pos a ≤ℤ x
+in_bound x a n e lt = omega (arith, ints, e, lt)
+
+pub all_within : (g : Digraph) (P : List Bool) (l : Limit) (u n : ℕ) (s : Search) (us : List ℕ) → IsSearch g P l s → source_of s ≡ u → IsBound l (Some n) → s.labels.cap ≡ n + 1
+    → AreReached (length s.labels.each) s.labels.cap s.labels.each us → All (λ v. (pos (label_of s.labels.each v) ≤ℤ bound_of l) × HasPath g P u v (with_bound l (pos (label_of s.labels.each v)))) us
+all_within g P l u n s us search source bound at_cap reached =
+    let r : AreReached g.nodes s.labels.cap s.labels.each us = subst (λ (n : ℕ). AreReached n s.labels.cap s.labels.each us) search.labelled.len reached in
+    λ i d lt.
+    let low = reached_low g s.labels.each s.labels.cap us r (get_or us i d) (r.known i d lt) (has_get_or us i d lt) in
+    (in_bound (bound_of l) (label_of s.labels.each (get_or us i d)) n bound (omega (arith, low, at_cap)), all_reached g P l u s us search source reached i d lt)

@@ -3,8 +3,9 @@ use Rattle.std.specs.Prelude.{◌≡◌, ◌≤◌, ◌<◌, ℕ, ℤ, pos, negs
 use Rattle.mono_base.specs.declared.limits.TheConstants.{MAX_BOUND, MAX_WITNESS_VALUE}
 use Rattle.mono_graph.specs.declared.limit.Limit.{Limit}
 use Rattle.mono_graph.specs.declared.limit.Limit.TheVariants as limit
-use Rattle.mono_graph.specs.Digraph.{Digraph}
+use Rattle.mono_graph.specs.Digraph.{Digraph, is_distinct}
 use Rattle.mono_graph.specs.Walks.{is_cut, is_path, is_labelling, bound_of}
+use Rattle.mono_paths.specs.Asked.{HasPath}
 use Rattle.mono_paths.specs.declared.find.PathOrCut.{PathOrCut}
 use Rattle.mono_paths.specs.declared.find.PathOrCut.TheVariants as any
 use Rattle.mono_paths.specs.declared.find.PathOrLabels.{PathOrLabels}
@@ -29,6 +30,22 @@ IsPathOrLabels g P u v l (light.Labels ls) = IsTrue (is_labelling g P u v l ls.i
 abbrev pub HasKnownLabels : Digraph → PathOrLabels → Type 0
 HasKnownLabels g (light.Path ks) = All (λ k. k < length g.edges) ks.items
 HasKnownLabels g (light.Labels ls) = All (λ l. (l.node < g.nodes) × (l.value ≤ MAX_WITNESS_VALUE)) ls.items
+
+-- the nodes of a set are those to which a walk leads, each once
+abbrev pub IsReachedSet : Digraph → List Bool → ℕ → PathOrCut → Type 0
+IsReachedSet g P u (any.Path ks) = Unit {0}
+IsReachedSet g P u (any.Cut s) = IsTrue (is_distinct s.items) × All (λ v. HasPath g P u v limit.Free) s.items
+
+-- the limit with another bound
+abbrev pub with_bound : Limit → ℤ → Limit
+with_bound limit.Free most = limit.Free
+with_bound (limit.Steps old) most = limit.Steps most
+with_bound (limit.Weight old) most = limit.Weight most
+
+-- each label is within the bound, and is what some walk costs at most
+abbrev pub HasReachedLabels : Digraph → List Bool → ℕ → Limit → PathOrLabels → Type 0
+HasReachedLabels g P u l (light.Path ks) = Unit {0}
+HasReachedLabels g P u l (light.Labels ls) = All (λ x. (pos x.value ≤ℤ bound_of l) × HasPath g P u x.node (with_bound l (pos x.value))) ls.items
 
 -- a walk was found
 abbrev pub is_path_found : PathOrCut → Bool

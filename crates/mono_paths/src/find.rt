@@ -5,7 +5,7 @@
 
 ghost use Rattle.std.specs.Prelude.{◌≡◌, ◌<◌, IfOk, length};
 ghost use Rattle.mono_graph.specs.Digraph.{IsPartOf};
-ghost use Rattle.mono_paths.specs.Found.{IsPathOrCut, IsPathOrLabels, HasKnownNames, HasKnownLabels, HasBound, IsBound, IsBoundOf};
+ghost use Rattle.mono_paths.specs.Found.{IsPathOrCut, IsPathOrLabels, HasKnownNames, HasKnownLabels, IsReachedSet, HasReachedLabels, HasBound, IsBound, IsBoundOf};
 
 use crate::search::Search;
 use mono_graph::{Graph, Label, Limit, Part};
@@ -45,6 +45,7 @@ pub fn path_or_cut(
     ensures len { length search.new.labels.each ≡ length search.old.labels.each }
     ensures passes { IfOk result (IsPathOrCut graph.now part.now from to) }
     ensures known { IfOk result (HasKnownNames graph.now) }
+    ensures reached { IfOk result (IsReachedSet graph.now part.now from) }
 {
     // The edges of a graph lead between its nodes.
     let _ = graph.nodes();
@@ -75,6 +76,7 @@ pub fn path_or_labels(
     ensures len { length search.new.labels.each ≡ length search.old.labels.each }
     ensures passes { IfOk result (IsPathOrLabels graph.now part.now from to limit) }
     ensures known { IfOk result (HasKnownLabels graph.now) }
+    ensures reached { IfOk result (HasReachedLabels graph.now part.now from limit) }
 {
     // The edges of a graph lead between its nodes.
     let _ = graph.nodes();

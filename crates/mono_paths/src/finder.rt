@@ -6,7 +6,7 @@
 ghost use Rattle.std.specs.Prelude.{◌≡◌, ◌<◌, All, IfOk};
 ghost use Rattle.mono_paths.specs.Asked.{IsTarget, AreAnswers};
 ghost use Rattle.mono_graph.specs.Digraph.{IsPartOf};
-ghost use Rattle.mono_paths.specs.Found.{IsPathOrCut, IsPathOrLabels, HasKnownNames, HasKnownLabels, HasBound};
+ghost use Rattle.mono_paths.specs.Found.{IsPathOrCut, IsPathOrLabels, HasKnownNames, HasKnownLabels, IsReachedSet, HasReachedLabels, HasBound};
 
 use crate::asked::which_are_reached;
 use crate::find::{PathOrCut, PathOrLabels, path_or_cut, path_or_labels};
@@ -57,6 +57,7 @@ impl WalkFinder {
         requires to { to < graph.now.nodes }
         ensures passes { IfOk result (IsPathOrCut graph.now part.now from to) }
         ensures known { IfOk result (HasKnownNames graph.now) }
+        ensures reached { IfOk result (IsReachedSet graph.now part.now from) }
         ensures finder { self.new ≡ self.old }
     {
         let alloc = *self.search.visits.allocator();
@@ -79,6 +80,7 @@ impl WalkFinder {
         requires limit { HasBound limit }
         ensures passes { IfOk result (IsPathOrLabels graph.now part.now from to limit) }
         ensures known { IfOk result (HasKnownLabels graph.now) }
+        ensures reached { IfOk result (HasReachedLabels graph.now part.now from limit) }
         ensures finder { self.new ≡ self.old }
     {
         let alloc = *self.search.visits.allocator();
@@ -125,6 +127,7 @@ pub fn find_path(
     requires to { to < graph.now.nodes }
     ensures passes { IfOk result (IsPathOrCut graph.now part.now from to) }
     ensures known { IfOk result (HasKnownNames graph.now) }
+    ensures reached { IfOk result (IsReachedSet graph.now part.now from) }
 {
     WalkFinder::new(alloc, graph.nodes())?.find_path(graph, part, from, to)
 }
@@ -148,6 +151,7 @@ pub fn find_light(
     requires limit { HasBound limit }
     ensures passes { IfOk result (IsPathOrLabels graph.now part.now from to limit) }
     ensures known { IfOk result (HasKnownLabels graph.now) }
+    ensures reached { IfOk result (HasReachedLabels graph.now part.now from limit) }
 {
     WalkFinder::new(alloc, graph.nodes())?.find_light(graph, part, from, to, limit)
 }

@@ -31,8 +31,6 @@ mod spread;
 mod table;
 /// Nodes that are asked for.
 mod target;
-#[cfg(test)]
-mod tests;
 /// Visits, and the walks that they make.
 mod visit;
 /// Which visit is taken next.

@@ -10,8 +10,6 @@ mod draft;
 /// What holds of the definitions alone.
 pub mod laws;
 mod problem;
-#[cfg(test)]
-mod tests;
 mod totals;
 mod uses;
 /// Worked rows of the definitions.

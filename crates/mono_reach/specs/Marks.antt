@@ -1,5 +1,5 @@
 -- What is kept of the nodes that are reached along the surely present edges: a row for each first node of an atom.
-use Rattle.std.specs.Prelude.{◌≡◌, ℕ, ◌<◌, Bool, List, Option, None, IfSome, length, slice_index_or, All}
+use Rattle.std.specs.Prelude.{◌≡◌, ℕ, ◌<◌, Bool, List, Option, Some, None, IfSome, length, slice_index_or, All}
 use Rattle.mono_dynamic.specs.Arrivals.{is_reached}
 use Rattle.mono_dynamic.specs.Reached.{Reached}
 use Rattle.mono_dynamic.specs.Rows.{row_at, AreAllReached}
@@ -51,6 +51,11 @@ AreMarksOf s f = AreMarks f (length f.seen) s
 pub record IsRowTable (table : List (Option ℕ)) (sources : List ℕ) : Type 0 where
   pub known : All (λ u. u < length table) sources
   pub each : (u : ℕ) → u < length table → IfSome (slice_index_or table u None) (λ r. (r < length sources) × (slice_index_or sources r 0 ≡ u))
+  pub listed : (r : ℕ) → r < length sources → slice_index_or table (slice_index_or sources r 0) None ≡ Some r
+
+-- no node is listed twice
+abbrev pub AreApart : List ℕ → Type 0
+AreApart nodes = (i j : ℕ) → i < length nodes → j < length nodes → slice_index_or nodes i 0 ≡ slice_index_or nodes j 0 → i ≡ j
 
 -- each of the first n atoms has a row, whose source is its first node
 pub record HaveRows (atoms : List Atom) (n : ℕ) (row_of sources : List ℕ) : Type 0 where

@@ -31,7 +31,8 @@ pub struct Marks {
 /// A theory that knows of nodes whether walks lead to them.
 ///
 /// No mark changes by `assign` or `explain`. After a `force` or `propagate` that answered Quiet, the marks of an atom's last
-/// node are whether its predicate holds with the surely present edges, and with the possibly present ones.
+/// node are whether its predicate holds with the surely present edges, and with the possibly present ones. Where the theory
+/// searches, since rows would be many, `under` is true of an atom's last node at most.
 pub trait HasMarks {
     ghost use Rattle.std.specs.Prelude.{◌≡◌, ◌<◌, ℕ, List, false, length, IsTrue, IsSome, MatchOption};
     ghost use Rattle.mono_graph.specs.Walks.{is_walk};

@@ -5,7 +5,7 @@ ghost use Rattle.mono_problem.specs.Read.{no_atom};
 ghost use Rattle.mono_problem.specs.WellFormed.{IsOver};
 ghost use Rattle.mono_theory.specs.Frames.{AreAtomsOf};
 ghost use Rattle.mono_theory.specs.Supports.{AreCovered};
-ghost use Rattle.mono_reach.specs.Marks.{first_node, last_node, IsRowTable, HaveRows};
+ghost use Rattle.mono_reach.specs.Marks.{first_node, last_node, AreApart, IsRowTable, HaveRows};
 ghost use Rattle.mono_reach.specs.Reaches.{is_reach};
 
 use mono_problem::Predicate;
@@ -60,6 +60,7 @@ impl Sources {
     pub(crate) fn of_frame(alloc: Global, frame: &Frame) -> Result<Sources, AllocError>
         requires { AreCovered is_reach frame.now.atoms }
         ensures known { IfOk result (λ s. All (λ u. u < frame.now.graph.nodes) s.nodes.items) }
+        ensures apart { IfOk result (λ s. AreApart s.nodes.items) }
         ensures rows { IfOk result (λ s. HaveRows frame.now.atoms (length frame.now.atoms) s.row_of.items s.nodes.items) }
     {
         let count = frame.graph().nodes();

@@ -1,6 +1,6 @@
 -- How the theories follow the trail, and that their lemmas are justified.
 use Rattle.mono_search.proofs.ConcernTables.{table_kept}
-use Rattle.std.proofs.Common.{zero, suc, ◌≡◌, ℕ, ◌+◌, ◌<◌, ◌≤◌, eqb, eqb-true, false, ◌&&◌, List, [], ◌∷◌, ◌++◌, length, take, map, arith, refl, sym, ◌∙◌, ap, get_or, subst, inl, inr, ℤ, pos, All}
+use Rattle.std.proofs.Common.{Bool, zero, suc, ◌≡◌, ℕ, ◌+◌, ◌<◌, ◌≤◌, eqb, eqb-true, false, ◌&&◌, List, [], ◌∷◌, ◌++◌, length, take, map, arith, refl, sym, ◌∙◌, ap, get_or, subst, inl, inr, ℤ, pos, All}
 use Rattle.std.specs.Prelude.{Option, Some, None, MatchOption, IsTrue, Result, Ok, Err, IfOk, nat_le}
 use Rattle.std.specs.List.{list_any}
 use Rattle.std.proofs.lemmas.List.{take-take, take_more, length-map}
@@ -18,7 +18,7 @@ use Rattle.mono_steps.specs.declared.lemma.Lemma.{Lemma}
 use Rattle.mono_steps.specs.ChainSteps.{names_vars}
 use Rattle.mono_steps.specs.Witnesses.{justifies_by, is_shown}
 use Rattle.mono_theory.specs.Theories.{Facts, concerns_of, IsLemmaOf}
-use Rattle.mono_search.specs.TheoryLists.{seen_of, IsCurrent, with_seen, handed_on, IsLemmaBy}
+use Rattle.mono_search.specs.TheoryLists.{seen_of, IsCurrent, AreQuietMarks, with_seen, handed_on, IsLemmaBy}
 use Rattle.mono_learn.specs.Explain.{AtomForces, IsExplanation}
 use Rattle.mono_theory.specs.Owners.{OwnsEach}
 use Rattle.mono_search.specs.Theories.{TheoriesView, HaveSeen, having_seen, IsKept}
@@ -43,12 +43,17 @@ handed_step b0 now lits l new from lt at e =
     }
 
 -- what keeps graphs, atoms and the room keeps all that is kept
-pub all_kept : (h : Facts → Facts) (p : Instance) (fs new : List Facts) (table : List (List ℕ)) (n m : ℕ) → ((f : Facts) → (h f).graph ≡ f.graph) → ((f : Facts) → (h f).atoms ≡ f.atoms) → new ≡ map h fs → m ≡ n → IsKept p fs table n → IsKept p new table m
-all_kept h p fs new table n m hg ha e room k = subst (λ (gs : List Facts). IsKept p gs table m) (sym e) (record {
+pub all_kept : (h : Facts → Facts) (p : Instance) (fs new : List Facts) (table : List (List ℕ)) (n m : ℕ) (marks now : List Bool) → ((f : Facts) → (h f).graph ≡ f.graph) → ((f : Facts) → (h f).atoms ≡ f.atoms) → new ≡ map h fs → m ≡ n → AreQuietMarks new now → IsKept p fs table n marks → IsKept p new table m now
+all_kept h p fs new table n m marks now hg ha e room quiet k = subst (λ (gs : List Facts). IsKept p gs table m now) (sym e) (record {
   owns = owns_kept h p fs hg ha k.owns;
   concerned = table_kept h p.vars fs table hg ha k.concerned;
   room_for = room ∙ k.room_for ∙ sym (length-map fs h);
+  quiet = subst (λ (gs : List Facts). AreQuietMarks gs now) e quiet;
 })
+
+-- where the theories have seen the same, other marks may be right too
+pub remarked : {p : Instance} {fs new : List Facts} {table : List (List ℕ)} {n : ℕ} {marks now : List Bool} → new ≡ fs → AreQuietMarks fs now → IsKept p fs table n marks → IsKept p new table n now
+remarked {p = p} {table = table} {n = n} {now = now} e quiet k = subst (λ (gs : List Facts). IsKept p gs table n now) (sym e) (record { owns = k.owns; concerned = k.concerned; room_for = k.room_for; quiet = quiet })
 
 -- where as much is handed on as was
 pub handed_already : (b : TheoriesView) (lits : List ℤ) → HaveSeen b lits → b ≡ having_seen b lits b.handed

@@ -7,6 +7,7 @@ pub mod Growing
 pub mod Updates
 pub mod ConcernTables
 pub mod Sweeps
+pub mod QuietMarks
 pub mod Owners
 pub mod HandedOn
 pub mod Quiets

@@ -6,5 +6,6 @@ pub mod State
 pub mod Outcomes
 pub mod Search
 pub mod Runs
+pub mod Beginnings
 pub mod Restarts
 pub mod Worked

@@ -1,6 +1,6 @@
 -- Lists of theories: what each has seen of a trail, who owns an atom, and what one of them forces or explains.
 use Rattle.mono_base.specs.Partial.{is_open_in}
-use Rattle.std.specs.Prelude.{◌≡◌, ℕ, ◌≤◌, ℤ, List, [], ◌∷◌, ◌++◌, length, take, filter, find, Option, MatchOption, Any, if◌then◌else◌, ◌+◌, ◌-◌, IsTrue, slice_index_or}
+use Rattle.std.specs.Prelude.{◌≡◌, ℕ, ◌<◌, ◌≤◌, Bool, false, ℤ, List, [], ◌∷◌, ◌++◌, length, take, filter, find, Option, MatchOption, Any, if◌then◌else◌, ◌+◌, ◌-◌, IsTrue, slice_index_or}
 use Rattle.mono_base.specs.Literal.{var_of}
 use Rattle.mono_base.specs.declared.limits.TheConstants.{MAX_VARS}
 use Rattle.mono_graph.specs.Digraph.{has}
@@ -45,6 +45,11 @@ IsQuietTheory f = TheoryQuiet f.graph f.atoms f.seen
 -- the theory has seen so few literals that their number is a u32
 abbrev pub IsShort : Facts → Type 0
 IsShort f = length f.seen ≤ MAX_VARS
+
+-- each theory that is marked is quiet
+pub record AreQuietMarks (fs : List Facts) (marks : List Bool) : Type 0 where
+  pub count : length marks ≡ length fs
+  pub quiet : (i : ℕ) (f : Facts) → i < length fs → IsTrue (slice_index_or marks i false) → IsQuietTheory (slice_index_or fs i f)
 
 -- ---- what concerns whom
 

@@ -1,8 +1,8 @@
 //! What one of a list of theories forces, and its lemmas.
 
-ghost use Rattle.std.specs.Prelude.{◌≡◌, All, IfOk, MatchOption};
+ghost use Rattle.std.specs.Prelude.{◌≡◌, All, IfOk, IsTrue, MatchOption};
 ghost use Rattle.mono_theory.specs.Owners.{fact_of, facts_of};
-ghost use Rattle.mono_search.specs.TheoryLists.{IsQuietTheory, IsShort, AnyForces, ForcesIt, CanExplain, IsLemmaBy};
+ghost use Rattle.mono_search.specs.TheoryLists.{IsQuietTheory, AreQuietMarks, IsShort, AnyForces, ForcesIt, CanExplain, IsLemmaBy};
 
 use crate::theories::Forced;
 use mono_base::Lit;
@@ -10,12 +10,16 @@ use mono_steps::Lemma;
 use mono_theory::{Force, Theory};
 use std::alloc::AllocError;
 
-/// A literal that an atom of the theory forces, or none where it is quiet.
-fn force_one<T: Theory>(theory: &mut T) -> Result<Option<Forced>, AllocError>
-    requires { IsShort (fact_of T.graph T.atoms T.seen theory.old) }
+/// A literal that an atom of the theory forces, or none where it is quiet. It isn't asked where it is known to be quiet.
+fn force_one<T: Theory>(theory: &mut T, quiet: bool) -> Result<Option<Forced>, AllocError>
+    requires quiet { IsTrue quiet → IsQuietTheory (fact_of T.graph T.atoms T.seen theory.old) }
+    requires short { IsShort (fact_of T.graph T.atoms T.seen theory.old) }
     ensures same { fact_of T.graph T.atoms T.seen theory.new ≡ fact_of T.graph T.atoms T.seen theory.old }
     ensures answer { IfOk result (λ r. MatchOption r (IsQuietTheory (fact_of T.graph T.atoms T.seen theory.old)) (λ r. ForcesIt r (fact_of T.graph T.atoms T.seen theory.old))) }
 {
+    if quiet {
+        return Ok(None);
+    }
     let kept = theory.seen();
     match theory.force()? {
         Force::Quiet => Ok(None),
@@ -27,17 +31,23 @@ fn force_one<T: Theory>(theory: &mut T) -> Result<Option<Forced>, AllocError>
     }
 }
 
-/// The first literal that a theory forces, or none where all are quiet.
-pub(crate) fn force_any<T: Theory>(theories: &mut Vec<T>) -> Result<Option<Forced>, AllocError>
-    requires { All IsShort (facts_of T.graph T.atoms T.seen theories.old.items) }
+/// The first literal that a theory forces, or none where all are quiet. Theories that are marked as quiet aren't asked.
+pub(crate) fn force_any<T: Theory>(
+    theories: &mut Vec<T>,
+    quiet: &mut Vec<bool>,
+) -> Result<Option<Forced>, AllocError>
+    requires quiet { AreQuietMarks (facts_of T.graph T.atoms T.seen theories.old.items) quiet.old.items }
+    requires short { All IsShort (facts_of T.graph T.atoms T.seen theories.old.items) }
     ensures same { facts_of T.graph T.atoms T.seen theories.new.items ≡ facts_of T.graph T.atoms T.seen theories.old.items }
+    ensures quiet { AreQuietMarks (facts_of T.graph T.atoms T.seen theories.old.items) quiet.new.items }
     ensures answer { IfOk result (λ r. MatchOption r (All IsQuietTheory (facts_of T.graph T.atoms T.seen theories.old.items)) (AnyForces (facts_of T.graph T.atoms T.seen theories.old.items))) }
 {
     for i in 0..theories.len() {
         let theory = &mut theories[i];
-        if let Some(forced) = force_one(theory)? {
+        if let Some(forced) = force_one(theory, quiet[i])? {
             return Ok(Some(forced));
         }
+        quiet[i] = true;
     }
     Ok(None)
 }

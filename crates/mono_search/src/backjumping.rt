@@ -23,6 +23,8 @@ impl<'p, T: Theory> State<'p, T> {
         requires level { 1 ≤ self.old.trail.level }
         ensures problem { self.new.theories.problem ≡ self.old.theories.problem }
         ensures steps { self.new.steps ≡ self.old.steps }
+        ensures back { self.new.trail ≡ lowered 0 self.old.trail }
+        ensures order { Releases self.old.order self.new.order (drop (count_to 0 self.old.trail.marks) self.old.trail.lits) }
         ensures ready { IsReady self.new }
     {
         backjump(&mut self.theories, &mut self.trail, &mut self.order, 0);

@@ -6,19 +6,27 @@ ghost use Rattle.mono_base.specs.Literal.{IsLitWithin, var_of};
 ghost use Rattle.mono_base.specs.Partial.{is_open_in};
 ghost use Rattle.mono_search.specs.Updates.{update_all, CanUpdate};
 ghost use Rattle.mono_theory.specs.Owners.{fact_of, facts_of};
-ghost use Rattle.mono_search.specs.TheoryLists.{concerning, concerned_from, IsConcernTable, with_seen, without_last, IsCurrent, handed_on};
+ghost use Rattle.mono_search.specs.TheoryLists.{concerning, concerned_from, IsConcernTable, AreQuietMarks, with_seen, without_last, IsCurrent, handed_on};
 
 use mono_base::Lit;
 use mono_graph::Buckets;
 use mono_theory::Theory;
 
-/// Hands a literal to the theories that it concerns, which stand at these places.
-pub(crate) fn hand_to<T: Theory>(theories: &mut Vec<T>, places: &[usize], lit: Lit)
+/// Hands a literal to the theories that it concerns, which stand at these places. They are no longer marked as quiet.
+pub(crate) fn hand_to<T: Theory>(
+    theories: &mut Vec<T>,
+    quiet: &mut Vec<bool>,
+    places: &[usize],
+    lit: Lit,
+)
     requires places { places.now ≡ concerned_from 0 (facts_of T.graph T.atoms T.seen theories.old.items) (var_of lit) }
     requires fresh { All (λ f. IsTrue (is_open_in f.seen lit)) (facts_of T.graph T.atoms T.seen theories.old.items) }
-    ensures { facts_of T.graph T.atoms T.seen theories.new.items ≡ map (handed_on lit) (facts_of T.graph T.atoms T.seen theories.old.items) }
+    requires quiet { AreQuietMarks (facts_of T.graph T.atoms T.seen theories.old.items) quiet.old.items }
+    ensures quiet { AreQuietMarks (facts_of T.graph T.atoms T.seen theories.new.items) quiet.new.items }
+    ensures facts { facts_of T.graph T.atoms T.seen theories.new.items ≡ map (handed_on lit) (facts_of T.graph T.atoms T.seen theories.old.items) }
 {
     for place in places {
+        quiet[*place] = false;
         let theory = &mut theories[*place];
         theory.assign(lit);
     }

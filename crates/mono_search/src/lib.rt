@@ -16,8 +16,12 @@ mod concerns;
 mod deciding;
 /// Handing literals to theories, and taking them back.
 mod handing;
+/// What a search begins with, beside its theories.
+mod inputs;
 /// What a conflict leads to.
 mod learning;
+/// Which theories are known to be quiet.
+mod marks;
 /// What follows from the literals of the trail.
 mod propagation;
 /// When the search begins anew.

@@ -5,10 +5,10 @@
 //! it teaches is new. The clauses in the store are those of the problem and of the journal's chains.
 
 ghost use Rattle.std.specs.Prelude.{◌≡◌, [], All, IfOk};
-ghost use Rattle.mono_trail.specs.TrailView.{no_literals};
 ghost use Rattle.mono_theory.specs.Owners.{facts_of, OwnsEach};
-ghost use Rattle.mono_search.specs.Runs.{BeginsWith, HoldsInputs};
+ghost use Rattle.mono_search.specs.Runs.{BeginsWith};
 
+use crate::inputs::Inputs;
 use crate::theories::Theories;
 use mono_clauses::ClauseStore;
 use mono_problem::Problem;
@@ -47,18 +47,14 @@ impl<'p, T: Theory> State<'p, T> {
         requires unseen { All (λ f. f.seen ≡ []) (facts_of T.graph T.atoms T.seen theories.items) }
         ensures { IfOk result (BeginsWith problem.now) }
     {
-        let vars = problem.vars();
-        let order = Order::new(alloc, vars)?;
-        let trail = Trail::new(alloc, vars)?;
-        let _ = trail.level();
-        let store = input_store(alloc, problem, &trail)?;
         let theories = Theories::new(alloc, problem, theories)?;
+        let inputs = Inputs::new(alloc, problem)?;
         Ok(State {
             theories,
-            trail,
-            store,
+            trail: inputs.trail,
+            store: inputs.store,
             journal: Journal::new(alloc),
-            order,
+            order: inputs.order,
         })
     }
 
@@ -68,16 +64,4 @@ impl<'p, T: Theory> State<'p, T> {
     {
         &self.journal
     }
-}
-
-/// A store of the problem's clauses.
-fn input_store(alloc: Global, problem: &Problem, trail: &Trail) -> Result<ClauseStore, AllocError>
-    requires { trail.now ≡ no_literals problem.now.vars }
-    ensures { IfOk result (HoldsInputs problem.now trail.now) }
-{
-    let mut store = ClauseStore::new(alloc, problem.vars())?;
-    for place in 0..problem.clause_count() {
-        store.add(u64::from(place) + 1, problem.clause(place + 1), trail)?;
-    }
-    Ok(store)
 }

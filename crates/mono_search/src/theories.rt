@@ -15,6 +15,7 @@ ghost use Rattle.mono_search.specs.Theories.{HaveSeen, having_seen};
 use crate::asking::{explain_by_owner, force_any};
 use crate::concerns::concern_table;
 use crate::handing::{hand_to, take_back_from_each};
+use crate::marks::{no_marks, unmark_all};
 use mono_base::Lit;
 use mono_graph::Buckets;
 use mono_learn::Explainer;
@@ -41,6 +42,8 @@ pub struct Theories<'p, T: Theory> {
     concerned: Buckets<usize>,
     /// Room for a number for each theory.
     counts: Vec<usize>,
+    /// Which theories forced nothing when they were last asked, and have seen the same since.
+    quiet: Vec<bool>,
     /// So many literals of the trail were handed on.
     handed: usize,
 }
@@ -54,7 +57,7 @@ impl<'p, T: Theory> Model for Theories<'p, T> {
 
     ghost view = { λ b. record { problem = b.problem.now; facts = facts_of T.graph T.atoms T.seen b.theories.items; handed = b.handed } };
 
-    ghost invariant = { λ b. IsKept b.problem.now (facts_of T.graph T.atoms T.seen b.theories.items) b.concerned (length b.counts.items) };
+    ghost invariant = { λ b. IsKept b.problem.now (facts_of T.graph T.atoms T.seen b.theories.items) b.concerned (length b.counts.items) b.quiet.items };
 }
 
 impl<'p, T: Theory> Theories<'p, T> {
@@ -69,11 +72,13 @@ impl<'p, T: Theory> Theories<'p, T> {
     {
         let concerned = concern_table(alloc, problem.vars(), theories.as_slice())?;
         let counts = vec![in alloc; 0; theories.len()]?;
+        let quiet = no_marks(alloc, theories.as_slice())?;
         Ok(Theories {
             problem,
             theories,
             concerned,
             counts,
+            quiet,
             handed: 0,
         })
     }
@@ -102,7 +107,12 @@ impl<'p, T: Theory> Theories<'p, T> {
     {
         while self.handed < lits.len() {
             let lit = lits[self.handed];
-            hand_to(&mut self.theories, self.concerned.list(lit.var()), lit);
+            hand_to(
+                &mut self.theories,
+                &mut self.quiet,
+                self.concerned.list(lit.var()),
+                lit,
+            );
             self.handed += 1;
         }
     }
@@ -121,6 +131,7 @@ impl<'p, T: Theory> Theories<'p, T> {
             &lits[..self.handed],
             kept,
         );
+        unmark_all(&mut self.quiet);
         self.handed = kept;
     }
 
@@ -130,7 +141,7 @@ impl<'p, T: Theory> Theories<'p, T> {
         ensures same { self.new ≡ self.old }
         ensures answer { IfOk result (λ r. MatchOption r (All IsQuietTheory self.old.facts) (AnyForces self.old.facts)) }
     {
-        force_any(&mut self.theories)
+        force_any(&mut self.theories, &mut self.quiet)
     }
 }
 

@@ -37,9 +37,6 @@ mod serving;
 mod step;
 /// Edges that come into a part, or leave it, with the literals of a clause.
 mod switching;
-/// Tables that were worked by hand.
-#[cfg(test)]
-mod tests;
 /// A refutation without the steps that it doesn't rest on.
 mod trimming;
 /// Whether a witness passes over a part.

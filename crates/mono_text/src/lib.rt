@@ -19,9 +19,6 @@ mod line;
 mod lines;
 /// Naturals and signed numbers.
 mod number;
-/// Tables that were worked by hand.
-#[cfg(test)]
-mod tests;
 /// The tokens of a line.
 mod tokens;
 

@@ -1,5 +1,5 @@
 -- Entries sorted by key, and where those of each bucket of keys begin.
-use Rattle.std.specs.Prelude.{ℕ, ◌-◌, ◌/◌, ◌^◌, ◌<◌, ◌≤◌, List, length, slice_index_or}
+use Rattle.std.specs.Prelude.{ℕ, ◌+◌, ◌-◌, ◌/◌, ◌^◌, ◌<◌, ◌≤◌, List, length, slice_index_or}
 use Rattle.std.specs.List.{AllWithin}
 use Rattle.std.specs.List.Sorted.{IsNonDecreasingBy}
 use Rattle.mono_theory.specs.declared.entries.Entry.{Entry}
@@ -20,11 +20,12 @@ pub record IsStart (es : List Entry) (least shift b at : ℕ) : Type 0 where
   pub below : AllWithin (λ e. bucket least shift e.key < b) es 0 at
   pub from : AllWithin (λ e. b ≤ bucket least shift e.key) es at (length es)
 
--- the entries are sorted by key, and these are the starts of the first buckets
+-- the entries are sorted by key, and these are the starts of the first buckets, of which there are few more than entries
 pub record AreBucketed (es : List Entry) (starts : List ℕ) (least shift : ℕ) : Type 0 where
   pub sorted : IsNonDecreasingBy (λ e. e.key) es
   pub shift_fits : shift < 32
   pub some : 0 < length starts
+  pub few : length starts ≤ length es + 3
   pub each : (b : ℕ) → b < length starts → IsStart es least shift b (slice_index_or starts b 0)
 
 -- all entries of the key stand between two places, those in front have smaller keys, and those behind greater ones

@@ -4,7 +4,7 @@
 //! together, each bucket has one key, and a search is a look-up. Where they don't, it is a binary search of a bucket. The
 //! room is in proportion to the entries, however great the keys are.
 
-ghost use Rattle.std.specs.Prelude.{◌≡◌, ◌<◌, ◌≤◌, ℕ, length, IfOk, slice_index_or};
+ghost use Rattle.std.specs.Prelude.{◌≡◌, ◌<◌, ◌≤◌, ◌+◌, ◌/◌, ◌^◌, ℕ, length, IfOk, slice_index_or};
 ghost use Rattle.std.specs.List.{AllWithin};
 ghost use Rattle.std.specs.List.Sorted.{IsNonDecreasingBy, IsPermutation};
 ghost use Rattle.mono_theory.specs.Entries.{AreAround, AreBucketed, IsRange, IsStart, bucket};
@@ -53,7 +53,8 @@ fn bucket_of(least: u32, shift: u32, key: u32) -> usize
 
 /// The binary logarithm of the least width with which `count` buckets and one more take in a span of keys.
 fn shift_of(span: u32, count: usize) -> u32
-    ensures { result < 32 }
+    ensures fits { result < 32 }
+    ensures few { span / 2 ^ result ≤ count + 1 }
 {
     for shift in 0..31 {
         if (span >> shift) as usize <= count {

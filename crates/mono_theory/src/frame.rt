@@ -12,7 +12,7 @@ ghost use Rattle.mono_problem.specs.Quiet.{under as under_of, over as over_of};
 ghost use Rattle.mono_problem.specs.Read.{no_atom};
 ghost use Rattle.mono_theory.specs.Bound.{edge_vars, IsBoundOf};
 ghost use Rattle.mono_steps.specs.Switching.{literal_of};
-ghost use Rattle.mono_theory.specs.Frames.{atom_vars, atom_numbers};
+ghost use Rattle.mono_theory.specs.Frames.{AreAtomsOf, IsFrame, atom_vars, atom_numbers};
 ghost use Rattle.mono_theory.specs.Variables.{AreVarsOf};
 ghost use Rattle.mono_theory.specs.Supports.{IsSettled, part_of};
 
@@ -105,6 +105,38 @@ fn variables_of(alloc: Global, graph: &Graph, atoms: &[Atom]) -> Result<Vec<u32>
     Ok(vars)
 }
 
+/// What a frame keeps beside its graph and its atoms.
+#[derive(Drop)]
+struct Tables {
+    numbers: Index,
+    lits: Vec<Lit>,
+    edges: Bounds,
+    own: Bounds,
+    vars: Vec<u32>,
+}
+
+/// What a frame keeps before anything was seen.
+fn tables_of(alloc: Global, graph: &Graph, atoms: &[Atom]) -> Result<Tables, AllocError>
+    requires known { AreAtomsOf graph.now atoms.now }
+    requires few { length atoms.now ≤ MAX_ATOMS }
+    ensures unseen { IfOk result (λ t. t.lits.items ≡ []) }
+    ensures frame { IfOk result (λ t. IsFrame graph.now atoms.now [] t.edges t.own t.numbers t.vars.items (vec_capacity t.lits)) }
+{
+    let _ = graph.nodes();
+    let lits = Vec::with_capacity(alloc, graph.edge_count() as usize + atoms.len())?;
+    let vars = variables_of(alloc, graph, atoms)?;
+    let numbers = number_index(alloc, atoms)?;
+    let own = own_bounds(alloc, atoms)?;
+    let edges = Bounds::new(alloc, graph)?;
+    Ok(Tables {
+        numbers,
+        lits,
+        edges,
+        own,
+        vars,
+    })
+}
+
 /// The first literals stay, and the bounds are theirs.
 fn rewind(lits: &mut Vec<Lit>, edges: &mut Bounds, own: &mut Bounds, kept: usize)
     requires kept { kept ≤ length lits.old.items }
@@ -141,7 +173,7 @@ impl Frame {
     ghost use Rattle.mono_problem.specs.WellFormed.{IsOver};
     ghost use Rattle.mono_theory.specs.Evidences.{IsEvidence, side};
     ghost use Rattle.mono_theory.specs.Sound.{IsSound};
-    ghost use Rattle.mono_theory.specs.Frames.{AreAtomsOf, IsVar};
+    ghost use Rattle.mono_theory.specs.Frames.{IsVar};
     ghost use Rattle.mono_theory.specs.Theories.{concerns_of, owns_of, atom_of};
 
     /// Nothing was seen yet.
@@ -151,19 +183,15 @@ impl Frame {
         ensures { IfOk result (λ s. s ≡ record { graph = graph; atoms = atoms.items; seen = [] }) }
     {
         let _ = graph.nodes();
-        let own = own_bounds(alloc, atoms.as_slice())?;
-        let numbers = number_index(alloc, atoms.as_slice())?;
-        let edges = Bounds::new(alloc, &graph)?;
-        let vars = variables_of(alloc, &graph, atoms.as_slice())?;
-        let lits = Vec::with_capacity(alloc, graph.edge_count() as usize + atoms.len())?;
+        let tables = tables_of(alloc, &graph, atoms.as_slice())?;
         Ok(Frame {
             graph,
             atoms,
-            numbers,
-            lits,
-            edges,
-            own,
-            vars,
+            numbers: tables.numbers,
+            lits: tables.lits,
+            edges: tables.edges,
+            own: tables.own,
+            vars: tables.vars,
         })
     }
 

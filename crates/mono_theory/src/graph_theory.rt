@@ -166,6 +166,50 @@ fn atoms_of(alloc: Global, problem: &Problem, numbers: &[u32]) -> Result<Vec<Ato
     Ok(atoms)
 }
 
+/// A frame of a graph of the problem and of the atoms of these numbers. Nothing was seen yet.
+fn frame_of<K: Kind>(
+    alloc: Global,
+    problem: &Problem,
+    graph: u32,
+    numbers: &[u32],
+) -> Result<Frame, AllocError>
+    requires place { graph < length problem.now.graphs }
+    requires atoms { AreNumbersOf K.covers problem.now graph numbers.now }
+    ensures { IfOk result (λ f. f ≡ record { graph = graph_at problem.now graph; atoms = map (atom_numbered problem.now) numbers.now; seen = [] }) }
+{
+    let _ = problem.vars();
+    let held = atoms_of(alloc, problem, numbers)?;
+    let own = problem.graph(graph).copy()?;
+    Frame::new(alloc, own, held)
+}
+
+/// What is kept of the atoms of a frame with the possibly present edges before anything was looked at.
+fn possible_side<K: Kind>(alloc: Global, frame: &Frame) -> Result<KeptSide, AllocError>
+    ensures { IfOk result (IsSideFor frame.now true K.IS_THOROUGH) }
+{
+    let edges = frame.graph().edge_count();
+    let atoms = frame.atom_count() as u32;
+    KeptSide::new(alloc, atoms, edges, K::IS_THOROUGH)
+}
+
+/// Room for searches in the graph of a frame that has seen nothing, and what is kept of its atoms with the surely present edges
+/// and with the possibly present ones.
+fn parts_of<K: Kind, S: SureSide<K>>(
+    alloc: Global,
+    frame: &Frame,
+) -> Result<(K, S, KeptSide), AllocError>
+    requires covered { AreCovered K.covers frame.now.atoms }
+    requires unseen { frame.now.seen ≡ [] }
+    ensures size { IfOk result (λ parts. K.nodes parts.0 ≡ frame.now.graph.nodes) }
+    ensures surely { IfOk result (λ parts. S.is_right parts.1 frame.now) }
+    ensures possibly { IfOk result (λ parts. IsSideFor frame.now true K.IS_THOROUGH parts.2) }
+{
+    let kind = K::with_nodes(alloc, frame.graph().nodes())?;
+    let surely = S::of_frame(alloc, frame)?;
+    let possibly = possible_side::<K>(alloc, frame)?;
+    Ok((kind, surely, possibly))
+}
+
 impl<K: Kind, S: SureSide<K>> GraphTheory<K, S> {
     /// The theory of some atoms over a graph of the problem. The numbers are those of different atoms of the kind over that
     /// graph. Nothing was seen yet.
@@ -179,15 +223,8 @@ impl<K: Kind, S: SureSide<K>> GraphTheory<K, S> {
         requires atoms { AreNumbersOf K.covers problem.now graph atoms.now }
         ensures { IfOk result (λ s. facts_in s ≡ record { graph = graph_at problem.now graph; atoms = map (atom_numbered problem.now) atoms.now; seen = [] }) }
     {
-        let _ = problem.vars();
-        let held = atoms_of(alloc, problem, atoms)?;
-        let own = problem.graph(graph).copy()?;
-        let kind = K::with_nodes(alloc, own.nodes())?;
-        let edges = own.edge_count();
-        let frame = Frame::new(alloc, own, held)?;
-        let count = frame.atom_count() as u32;
-        let surely = S::of_frame(alloc, &frame)?;
-        let possibly = KeptSide::new(alloc, count, edges, K::IS_THOROUGH)?;
+        let frame = frame_of::<K>(alloc, problem, graph, atoms)?;
+        let (kind, surely, possibly) = parts_of::<K, S>(alloc, &frame)?;
         Ok(GraphTheory {
             alloc,
             frame,

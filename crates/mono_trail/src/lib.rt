@@ -10,8 +10,6 @@ pub mod laws;
 mod order;
 mod reason;
 mod restarts;
-#[cfg(test)]
-mod tests;
 mod trail;
 
 pub use order::Order;

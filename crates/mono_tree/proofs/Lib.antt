@@ -1,1 +1,2 @@
 pub mod TreeEvidence
+pub mod Heaviest

@@ -106,4 +106,4 @@ least_shows g P most ks e ok known h is =
     subst (IsEvidence g P (kind.Tree most)) (sym is.is)
     (resting_evidence (is_unbridged g ks) g P (kind.Tree most) (by.Least (numbers_of g ks)) (lighter_absent g P is.heavy) refl (numbers-known g ks ok known) refl
     (λ Q same. ap (is_least g P most) own ∙ ap (λ b. is_spanning_tree g ks && int_lt most (pos (weight_of g ks)) && b) (same_bridged g P Q ks same) ∙ sym (ap (is_least g Q most) own))
-    (lighter_are_absent g P ks is.heavy ok tree is.most) (ap (is_least g P most) own ∙ h))
+    (lighter_are_absent g P ks is.heavy ok tree is.heaviest.most) (ap (is_least g P most) own ∙ h))

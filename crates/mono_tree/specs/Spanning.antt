@@ -30,8 +30,13 @@ lighter_absent g P w = filter (λ k. not (present P k) && nat_lt (edge_at g k).w
 abbrev pub is_unbridged : Digraph → List ℕ → Edge → Bool
 is_unbridged g ks e = not (is_bridged g ks e)
 
--- a lightest tree above the bound rests on the absent edges lighter than so much as none of its own exceeds
+-- the least weight that none of the edges exceeds
+pub record IsHeaviest (g : Digraph) (ks : List ℕ) (heavy : ℕ) : Type 0 where
+  pub most : All (λ k. (edge_at g k).weight ≤ heavy) ks
+  pub least : (w : ℕ) → All (λ k. (edge_at g k).weight ≤ w) ks → heavy ≤ w
+
+-- a lightest tree above the bound rests on the absent edges lighter than its heaviest
 pub record IsLeastEvidence (g : Digraph) (P : List Bool) (ks : List ℕ) (e : Evidence) : Type 0 where
   pub heavy : ℕ
   pub is : e ≡ record { witness = by.Least (numbers_of g ks); edges = lighter_absent g P heavy }
-  pub most : All (λ k. (edge_at g k).weight ≤ heavy) ks
+  pub heaviest : IsHeaviest g ks heavy

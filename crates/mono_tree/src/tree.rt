@@ -4,11 +4,11 @@
 //! set with the rest. A lightest tree above the bound rests on the absent edges that are lighter than its heaviest: any
 //! other edge has its ends joined by edges of the tree that are no heavier than it.
 
-ghost use Rattle.std.specs.Prelude.{◌≡◌, ◌<◌, ◌≤◌, ◌&&◌, not, nat_lt, All, IfOk, length};
+ghost use Rattle.std.specs.Prelude.{◌≡◌, ◌<◌, ◌&&◌, not, nat_lt, All, IfOk, length};
 ghost use Rattle.mono_graph.specs.Digraph.{IsPartOf, edge_at, present};
 ghost use Rattle.mono_problem.specs.WellFormed.{IsOver};
 ghost use Rattle.mono_theory.specs.Evidences.{IsEvidence};
-ghost use Rattle.mono_tree.specs.Spanning.{lighter_absent as lighter_absent_of, tree_evidence as tree_evidence_of, split_evidence as split_evidence_of, IsLeastEvidence};
+ghost use Rattle.mono_tree.specs.Spanning.{lighter_absent as lighter_absent_of, tree_evidence as tree_evidence_of, split_evidence as split_evidence_of, IsHeaviest, IsLeastEvidence};
 
 use mono_base::Row;
 use mono_graph::{Graph, Part};
@@ -70,10 +70,10 @@ fn split_evidence(
     })
 }
 
-/// A weight that no edge of these exceeds.
+/// The weight of the heaviest of the edges, or 0 where there are none.
 fn heaviest(graph: &Graph, places: &[u32]) -> u64
     requires { All (λ k. k < length graph.now.edges) places.now }
-    ensures { All (λ k. (edge_at graph.now k).weight ≤ result) places.now }
+    ensures { IsHeaviest graph.now places.now result }
 {
     let mut heaviest: u64 = 0;
     for place in places {

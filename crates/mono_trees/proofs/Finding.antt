@@ -11,6 +11,7 @@ use Rattle.mono_graph.specs.Trees.{joins, edges_at, is_spanning_tree, is_tree, i
 use Rattle.mono_graph.proofs.Components.{component_count-one, component_count-some}
 use Rattle.mono_graph.proofs.Joins.{has_joined, joins_by, own_edges}
 use Rattle.mono_graph.proofs.Places.{all_of, present_below, list_all_agree}
+use Rattle.mono_graph.proofs.NodeLists.{filter_same}
 use Rattle.mono_graph.proofs.Membership.{all_from, has_get_or, has_filter, filter_has, has_range, range_has, same_truth}
 use Rattle.mono_trees.specs.Tells.{same_label}
 use Rattle.mono_trees.specs.Grown.{IsGrown, IsForest}
@@ -30,6 +31,9 @@ present_order g P order len perm k h =
 
 pub chosen_present : (g : Digraph) (P : List Bool) (chosen labels : List ℕ) → IsForest g P chosen labels → (k : ℕ) → IsTrue (has chosen k) → IsTrue (present P k) × (k < length g.edges)
 chosen_present g P chosen labels forest k h = order_present g P (filter (present P) (places g)) (IsPermutation-refl (filter (present P) (places g))) k (forest.within k h)
+
+pub all_present : (g : Digraph) (P : List Bool) (chosen labels lent : List ℕ) → IsForest g P chosen labels → lent ≡ chosen → IsTrue (list_all (present P) lent)
+all_present g P chosen labels lent forest e = subst (λ (ks : List ℕ). IsTrue (list_all (present P) ks)) (sym e) (all_from (present P) chosen (λ k h. (chosen_present g P chosen labels forest k h).0))
 
 in_places : (g : Digraph) (P : List Bool) → length P ≡ length g.edges → (k : ℕ) → IsTrue (present P k) → IsTrue (has (filter (present P) (places g)) k)
 in_places g P len k h = present_order g P (filter (present P) (places g)) len (IsPermutation-refl (filter (present P) (places g))) k h
@@ -95,6 +99,14 @@ not_and : (a b : Bool) → (IsTrue a → not b ≡ true) → not (a && b) ≡ tr
 not_and true b h = h refl
 not_and false b h = refl
 
+set_has : (g : Digraph) (labels set : List ℕ) → set ≡ filter (same_label labels 0) (nodes_of g) → (u : ℕ) → u < g.nodes → has set u ≡ same_label labels 0 u
+set_has g labels set is u lt = ap (λ (s : List ℕ). has s u) is ∙ same_truth (has (filter (same_label labels 0) (nodes_of g)) u) (same_label labels 0 u)
+    (λ h. (filter_has (same_label labels 0) (nodes_of g) u h).1)
+    (λ h. has_filter (same_label labels 0) (nodes_of g) u (has_range 0 g.nodes u (omega arith) (omega arith)) h)
+
+pub set_in_order : (g : Digraph) (labels set : List ℕ) → set ≡ filter (same_label labels 0) (nodes_of g) → set ≡ filter (has set) (nodes_of g)
+set_in_order g labels set is = is ∙ filter_same (same_label labels 0) (has set) 0 g.nodes (λ u low high. sym (set_has g labels set is u (omega arith)))
+
 pub found_split : (g : Digraph) (P : List Bool) (chosen labels set : List ℕ) → IsGraph g → length P ≡ length g.edges → IsForest g P chosen labels
     → 0 < g.nodes → list_all (same_label labels 0) (range_with_len 0 (length labels)) ≡ false → set ≡ filter (same_label labels 0) (nodes_of g) → IsTrue (is_split g P set)
 found_split g P chosen labels set graph len grown some apart is =
@@ -107,9 +119,7 @@ found_split g P chosen labels set graph len grown some apart is =
     at k (omega arith) (in_places g P len k here))))
   where
     has_set : (u : ℕ) → u < g.nodes → has set u ≡ same_label labels 0 u
-    has_set u lt = ap (λ (s : List ℕ). has s u) is ∙ same_truth (has (filter (same_label labels 0) (nodes_of g)) u) (same_label labels 0 u)
-        (λ h. (filter_has (same_label labels 0) (nodes_of g) u h).1)
-        (λ h. has_filter (same_label labels 0) (nodes_of g) u (has_range 0 g.nodes u (omega arith) (omega arith)) h)
+    has_set u lt = set_has g labels set is u lt
 
     at : (k : ℕ) → k < length g.edges → IsTrue (has (filter (present P) (places g)) k) → not (crosses set (edge_at g k)) ≡ true
     at k lt h =

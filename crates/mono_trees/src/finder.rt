@@ -6,7 +6,7 @@
 
 ghost use Rattle.std.specs.Prelude.{◌≡◌, IfOk, length};
 ghost use Rattle.mono_graph.specs.Digraph.{IsPartOf};
-ghost use Rattle.mono_trees.specs.Found.{Passes, IsKnown};
+ghost use Rattle.mono_trees.specs.Found.{Passes, IsKnown, HasPresentEdges, IsInOrder};
 
 use crate::components::Components;
 use crate::edge_order::EdgeOrder;
@@ -67,6 +67,8 @@ impl TreeFinder {
         requires part { IsPartOf part.now graph.now }
         ensures passes { IfOk result (Passes graph.now part.now most) }
         ensures known { IfOk result (IsKnown graph.now) }
+        ensures present { IfOk result (HasPresentEdges part.now) }
+        ensures order { IfOk result (IsInOrder graph.now) }
         ensures finder { self.new ≡ self.old }
     {
         let alloc = self.components.allocator();
@@ -93,6 +95,8 @@ fn find(
     requires part { IsPartOf part.now graph.now }
     ensures passes { IfOk result (Passes graph.now part.now most) }
     ensures known { IfOk result (IsKnown graph.now) }
+    ensures present { IfOk result (HasPresentEdges part.now) }
+    ensures order { IfOk result (IsInOrder graph.now) }
     ensures nodes { length components.new ≡ graph.now.nodes }
 {
     let count = graph.nodes();
@@ -119,6 +123,8 @@ pub fn find_tree(
     requires part { IsPartOf part.now graph.now }
     ensures passes { IfOk result (Passes graph.now part.now most) }
     ensures known { IfOk result (IsKnown graph.now) }
+    ensures present { IfOk result (HasPresentEdges part.now) }
+    ensures order { IfOk result (IsInOrder graph.now) }
 {
     let mut finder = TreeFinder::new(alloc, graph.nodes())?;
     finder.find_tree(graph, part, most)

@@ -21,8 +21,6 @@ mod order;
 mod spanning;
 /// The test of splits.
 mod split;
-#[cfg(test)]
-mod tests;
 /// What the words of contracts make of small graphs.
 pub mod worked;
 

@@ -1,5 +1,10 @@
+mod FoundRows
+mod GraphRows
 mod ProblemRows
 mod TrailRows
 mod ClauseRows
 mod LearnRows
 mod TrimmedRows
+mod WalkRows
+mod ReasonRows
+mod InstanceRows

@@ -1,9 +1,13 @@
 //! Worked rows: what one conflict teaches, and what it doesn't.
 
-ghost use Rattle.std.specs.Prelude.{ℕ, [], ◌∷◌};
+ghost use Rattle.std.specs.Prelude.{◌≡◌, ℕ, ℤ, pos, List, [], ◌∷◌};
+ghost use Rattle.mono_problem.specs.Instance.{Instance};
 ghost use Rattle.mono_steps.specs.WorkedLemmas.{minus};
+ghost use Rattle.mono_learn.specs.FirstPoint.{HasOnePresent, IsMinimized, IsTaught, StepsBack, WalksBack};
 ghost use Rattle.mono_learn.specs.Learned.{IsLearnt, IsMinimal};
+ghost use Rattle.mono_learn.specs.Reasons.{HasReasons, IsConflict, IsFalseClause, WasForced, WasUnit};
 ghost use Rattle.mono_learn.specs.Worked.{worked_clauses, worked_trail};
+ghost use Rattle.mono_worked.specs.SmallTrail.{both_levels};
 
 /// The clause {-3, -8} goes back to level 1 and no further up, and the clause {-8} to the beginning.
 pub fn learned_clause_goes_back_as_far_as_it_may()
@@ -22,4 +26,55 @@ pub fn learned_clause_has_a_literal_of_its_level()
 pub fn other_literals_stay()
     ensures lower { IsMinimal worked_clauses worked_trail (minus 3 ∷ minus 6 ∷ minus 8 ∷ []) }
     ensures present { IsMinimal worked_clauses worked_trail (minus 6 ∷ minus 8 ∷ minus 9 ∷ []) }
+{}
+
+/// Of the clause {-3, -4, -6, -8}, -4 goes, since 3 implies 4, and nothing else: 5 implies 6, and -5 isn't there.
+pub fn redundant_literals_go()
+    ensures exact { IsMinimized worked_clauses worked_trail (minus 3 ∷ minus 4 ∷ minus 6 ∷ minus 8 ∷ []) (minus 3 ∷ minus 6 ∷ minus 8 ∷ []) }
+    ensures more { IsMinimized worked_clauses worked_trail (minus 3 ∷ minus 4 ∷ minus 6 ∷ minus 8 ∷ []) (minus 3 ∷ minus 8 ∷ []) → ⊥ }
+    ensures fewer { IsMinimized worked_clauses worked_trail (minus 3 ∷ minus 4 ∷ minus 6 ∷ minus 8 ∷ []) (minus 3 ∷ minus 4 ∷ minus 6 ∷ minus 8 ∷ []) → ⊥ }
+{}
+
+/// The false clause {-8, -9, -4, -3} teaches {-3, -6, -8}: 9 is implied by 8 and 6, and then -4 is redundant.
+pub fn conflict_teaches_the_first_point()
+    ensures { IsTaught worked_clauses worked_trail 5 (minus 3 ∷ minus 6 ∷ minus 8 ∷ []) }
+{}
+
+/// From the false clause {-7, -9} two steps lead to the first point: 9 is resolved with its reason, and then 8.
+pub fn walk_of_two_steps()
+    ensures walk { WalksBack worked_clauses worked_trail (minus 7 ∷ minus 9 ∷ []) (4 ∷ 3 ∷ []) (minus 7 ∷ minus 6 ∷ minus 7 ∷ minus 3 ∷ minus 4 ∷ []) }
+    ensures too_early { HasOnePresent worked_trail (minus 7 ∷ minus 8 ∷ minus 6 ∷ []) → ⊥ }
+    ensures too_far { (n : ℕ) (e : List ℤ) → StepsBack worked_clauses worked_trail (minus 7 ∷ minus 6 ∷ minus 7 ∷ minus 3 ∷ minus 4 ∷ []) n e → ⊥ }
+    ensures not_the_last { (e : List ℤ) → StepsBack worked_clauses worked_trail (minus 8 ∷ minus 9 ∷ []) 3 e → ⊥ }
+{}
+
+/// A literal that an atom forced stays, whatever the clauses are.
+pub fn forced_literal_stays()
+    ensures stays { (cs : List (List ℤ)) → IsMinimized cs (both_levels 0) (minus 3 ∷ minus 4 ∷ minus 6 ∷ []) (minus 3 ∷ minus 4 ∷ minus 6 ∷ []) }
+    ensures goes { (cs : List (List ℤ)) → IsMinimized cs (both_levels 0) (minus 3 ∷ minus 4 ∷ minus 6 ∷ []) (minus 3 ∷ minus 6 ∷ []) → ⊥ }
+{}
+
+/// A conflict is a false clause with a literal of the present level.
+pub fn conflicts()
+    ensures conflict { IsConflict worked_clauses worked_trail 5 }
+    ensures true_clause { IsConflict worked_clauses worked_trail 4 → ⊥ }
+    ensures no_clause { IsConflict worked_clauses worked_trail 6 → ⊥ }
+    ensures lower { IsConflict ((minus 3 ∷ minus 6 ∷ []) ∷ []) worked_trail 1 → ⊥ }
+    ensures lower_is_false { IsFalseClause ((minus 3 ∷ minus 6 ∷ []) ∷ []) worked_trail.lits 1 }
+    ensures true_is_not_false { IsFalseClause worked_clauses worked_trail.lits 4 → ⊥ }
+{}
+
+/// A reason has its literal, and its others are false by literals that came before.
+pub fn reasons_were_unit()
+    ensures unit { WasUnit worked_clauses worked_trail.lits 5 3 }
+    ensures came_later { WasUnit worked_clauses (pos 8 ∷ pos 7 ∷ pos 3 ∷ pos 4 ∷ []) 0 3 → ⊥ }
+    ensures not_in_it { WasUnit worked_clauses worked_trail.lits 4 3 → ⊥ }
+    ensures all { (p : Instance) (shown : ℕ → List ℤ) → HasReasons p worked_clauses shown worked_trail }
+    ensures without_clauses { (p : Instance) (shown : ℕ → List ℤ) → HasReasons p [] shown worked_trail → ⊥ }
+{}
+
+/// What an atom had been shown when it forced a literal stands before that literal.
+pub fn atoms_were_shown_what_came_before()
+    ensures came_later { (p : Instance) (shown : ℕ → List ℤ) → shown 2 ≡ minus 5 ∷ [] → WasForced p shown (both_levels 0).lits 1 2 1 → ⊥ }
+    ensures fewer { (p : Instance) (shown : ℕ → List ℤ) → shown 2 ≡ [] → WasForced p shown (both_levels 0).lits 1 2 1 → ⊥ }
 {}

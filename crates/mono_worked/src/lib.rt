@@ -1,18 +1,27 @@
-//! Rows worked by hand of the definitions of the crates below.
+//! Rows worked by hand of the definitions of the crates below, and tests of their calls.
 //!
-//! They belong beside those in the `worked` modules of these crates. They stand here since a row more then makes nothing
-//! else be proved again.
+//! The rows belong beside those in the `worked` modules of these crates. They stand here since a row more then makes nothing
+//! else be proved again. The tests stand here since a crate with tests is proved twice, once with them: here they are
+//! proved alone, over crates that are proved already.
 #![tactic(auto)]
 
 /// Clauses that are unit or false, and stores of clauses.
 pub mod clauses;
+/// What searches say of what they find.
+pub mod found;
+/// Flows from a later node, and the numbers of edges.
+pub mod graph;
 /// What a conflict teaches, and what it doesn't.
 pub mod learn;
 /// Problems of two graphs, and what is added to them.
 pub mod problem;
 /// Resolvents, unit propagation, new clauses, and lemmas.
 pub mod steps;
+#[cfg(test)]
+mod tests;
 /// Trails and the order of decision.
 pub mod trail;
 /// Refutations that are trimmed.
 pub mod trimmed;
+/// The wrong predicate that a verdict names.
+pub mod verdicts;

@@ -1,8 +1,8 @@
 //! Worked rows: a resolvent, unit propagation, clauses that are learned beside lemmas, and lemmas over edges and graphs with
-//! numbers of their own.
+//! numbers of their own, and with amounts that are too great.
 
-ghost use Rattle.std.specs.Prelude.{◌≡◌, [], ◌∷◌, true, false, pos, Some, None};
-ghost use Rattle.mono_graph.specs.Worked.{edge_of, single, pipe};
+ghost use Rattle.std.specs.Prelude.{◌≡◌, ◌+◌, ◌^◌, [], ◌∷◌, true, false, pos, Some, None};
+ghost use Rattle.mono_graph.specs.Worked.{edge_of, single, parallel, pipe};
 ghost use Rattle.mono_problem.specs.declared.atom.Predicate.TheVariants as kind;
 ghost use Rattle.mono_steps.specs.declared.lemma.Witness.TheVariants as by;
 ghost use Rattle.mono_steps.specs.declared.fault.StepFault.TheVariants as fault;
@@ -72,4 +72,11 @@ pub fn predicate_of_the_second_graph()
     ensures justified { justifies (asks_of_second (pipe 3 2) (single (edge_of 7 0 1 3 5)) (kind.Reach 0 1) 9) (of_1 (minus 3 ∷ pos 9 ∷ []) (by.Path (7 ∷ []))) ≡ true }
     ensures edge_of_the_first { lemma_fault (asks_of_second (pipe 3 2) (single (edge_of 7 0 1 3 5)) (kind.Reach 0 1) 9) (of_1 (minus 1 ∷ pos 9 ∷ []) (by.Path (1 ∷ []))) ≡ Some fault.UnknownNumber }
     ensures not_justified { justifies (asks_of_second (pipe 3 2) (single (edge_of 7 0 1 3 5)) (kind.Reach 0 1) 9) (of_1 (minus 1 ∷ pos 9 ∷ []) (by.Path (1 ∷ []))) ≡ false }
+{}
+
+/// Each amount of a flow is at most the greatest that a witness may name.
+pub fn great_beside_small()
+    ensures both_small { justifies (asks (parallel (2 ^ 61) 3) (kind.Flow 0 1 (pos 2)) 5) (of_1 (minus 1 ∷ minus 2 ∷ pos 5 ∷ []) (by.Flow (record { edge = 1; amount = 2 ^ 60 } ∷ record { edge = 2; amount = 1 } ∷ []))) ≡ true }
+    ensures great_first { justifies (asks (parallel (2 ^ 61) 3) (kind.Flow 0 1 (pos 2)) 5) (of_1 (minus 1 ∷ minus 2 ∷ pos 5 ∷ []) (by.Flow (record { edge = 1; amount = 2 ^ 60 + 1 } ∷ record { edge = 2; amount = 1 } ∷ []))) ≡ false }
+    ensures great_last { justifies (asks (parallel (2 ^ 61) 3) (kind.Flow 0 1 (pos 2)) 5) (of_1 (minus 1 ∷ minus 2 ∷ pos 5 ∷ []) (by.Flow (record { edge = 2; amount = 1 } ∷ record { edge = 1; amount = 2 ^ 60 + 1 } ∷ []))) ≡ false }
 {}

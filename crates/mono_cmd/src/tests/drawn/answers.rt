@@ -1,6 +1,6 @@
 //! Whether answers of a theory agree with what searches find anew.
 
-ghost use Rattle.std.specs.Prelude.{◌<◌, ◌≡◌, IfSome, length};
+ghost use Rattle.std.specs.Prelude.{◌<◌, IfSome, length};
 ghost use Rattle.mono_problem.specs.Instance.{graph_at};
 ghost use Rattle.mono_problem.specs.WellFormed.{IsOver};
 

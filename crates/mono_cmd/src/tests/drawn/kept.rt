@@ -1,6 +1,6 @@
 //! What theories keep of their atoms, as their readers tell it.
 
-ghost use Rattle.std.specs.Prelude.{◌<◌, IfSome, IsSome, length};
+ghost use Rattle.std.specs.Prelude.{IfSome, IsSome};
 ghost use Rattle.mono_problem.specs.WellFormed.{IsOver};
 ghost use Rattle.mono_theory.specs.Supports.{facts_in};
 ghost use Rattle.mono_theory.specs.Theories.{atom_of};

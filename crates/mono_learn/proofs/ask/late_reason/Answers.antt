@@ -40,3 +40,6 @@ returns-clause-reasons g c = (asked g c).reasons
 
 pub returns-clause-is : goal.returns-clause-is
 returns-clause-is g c = (asked g c).is
+
+pub returns-clause-why : goal.returns-clause-why
+returns-clause-why g c = (asked g c).why

@@ -1,6 +1,7 @@
 use Rattle.std.proofs.lemmas.Result.{IfOk-weaker, on_err_weaker}
 use Rattle.mono_learn.proofs.Asking.{are_asked, adds_lemmas}
 use Rattle.mono_learn.proofs.Learning.{learns_after, settles_grown, asked_grown, reasons_grown, minimal_grown, adds_same, on_err, all_of}
+use Rattle.mono_learn.proofs.Points.{taught_grown}
 use Rattle.mono_learn.proofs.learn.analyse.Goals as goal
 
 pub returns-in_err-derived-clause-err : goal.returns-in_err-derived-clause-err
@@ -26,3 +27,6 @@ returns-clause-reasons g c = reasons_grown c.args.problem.now c.derive.new.journ
 
 pub returns-clause-err : goal.returns-clause-err
 returns-clause-err g c = on_err_weaker c.push.result (λ same. adds_same c.args.problem.now c.args.trail.now c.derive.new.trail c.args.journal.now c.derive.new.journal c.push.new.journal c.derive.ensures.asks same) c.push.ensures.err
+
+pub returns-clause-taught : goal.returns-clause-taught
+returns-clause-taught g c = IfOk-weaker c.push.result _ _ (λ r e. taught_grown c.args.problem.now c.derive.new.journal c.push.new.journal (g.E.Explainer.shown c.args.by.now) c.derive.new.trail c.args.conflict c.in_ok-derived.derived.lits.items r.clause c.derive.ensures.reasons c.push.ensures.grows e c.in_ok-derived.ensures.taught) c.push.ensures.same

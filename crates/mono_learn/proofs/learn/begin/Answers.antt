@@ -2,6 +2,7 @@ use Rattle.std.proofs.Common.{◌∙◌, ap, length, List, ℕ, ◌++◌, ◌∷
 use Rattle.mono_steps.specs.Steps.{clauses_after}
 use Rattle.mono_learn.proofs.PlacesOfLits.{is_number}
 use Rattle.mono_learn.proofs.Learning.{fresh_counted, false_but, begins, begins_some}
+use Rattle.mono_learn.proofs.Points.{walked_none}
 use Rattle.mono_learn.proofs.learn.begin.Goals as goal
 
 pub clause-requires-clause-low : goal.clause-requires-clause-low
@@ -21,3 +22,6 @@ returns-clause-come c = begins (clauses_after c.args.problem.now c.args.journal.
 
 pub returns-clause-some : goal.returns-clause-some
 returns-clause-some c = λ w one e. begins_some (clauses_after c.args.problem.now c.args.journal.now) c.args.trail.now c.args.start c.args.conflict c.args.resolvent.now c.join_all.new.self c.clause.result.now c.literal-lit.result c.push.new.self.items c.requires.sound one e c.requires.start c.literal-lit.ensures w c.clause.ensures c.requires.fresh c.in_ok-join_all.ensures (c.in_ok-push.ensures.items ∙ ap (λ (ns : List ℕ). ns ++ c.args.conflict ∷ []) c.requires.unused)
+
+pub returns-clause-walked : goal.returns-clause-walked
+returns-clause-walked c = walked_none (clauses_after c.args.problem.now c.args.journal.now) c.args.trail.now c.args.conflict c.push.new.self.items c.requires.conflict (c.in_ok-push.ensures.items ∙ ap (λ (ns : List ℕ). ns ++ c.args.conflict ∷ []) c.requires.unused)

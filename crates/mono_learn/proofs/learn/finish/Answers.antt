@@ -7,6 +7,7 @@ use Rattle.mono_learn.specs.Resolvents.{AllFalse}
 use Rattle.mono_learn.specs.Walks.{HasShrunk}
 use Rattle.mono_learn.specs.Shrinks.{AreKept, AreLeft}
 use Rattle.mono_learn.proofs.Shrinking.{below_trail, others_are_false, all_gone, finished}
+use Rattle.mono_learn.proofs.Points.{taught}
 use Rattle.mono_learn.proofs.learn.finish.Goals as goal
 use Rattle.mono_learn.proofs.learn.finish.Goals.{In_ok-shrink, In_ok-lits}
 
@@ -46,3 +47,11 @@ returns-clause-derived c =
     let at = goal.at.returns-clause-derived c in
     finished (clauses_after c.args.problem.now c.args.journal.now) c.args.trail.now c.args.last c.highest-back_to.result c.shrink.new.resolvent.seen.items c.shrink.new.resolvent.kept.items c.shrink.new.used.items c.in_ok-lits.lits.items c.push.new.self.items c.negated.result
     c.requires.sound c.requires.level (shrunk at.In_ok-shrink) (kept at.In_ok-lits (shrunk at.In_ok-shrink)) c.in_ok-shrink.ensures.needed (c.highest-back_to.ensures ∙ ap (highest_of c.args.trail.now) c.as_slice-3.ensures.value) (c.negated.ensures ∙ ap neg_ℤ c.literal.ensures) c.in_ok-push.ensures.items
+
+pub returns-clause-taught : goal.returns-clause-taught
+returns-clause-taught c = λ conflict w.
+    let at = goal.at.returns-clause-taught c in
+    let d = finished (clauses_after c.args.problem.now c.args.journal.now) c.args.trail.now c.args.last c.highest-back_to.result c.shrink.new.resolvent.seen.items c.shrink.new.resolvent.kept.items c.shrink.new.used.items c.in_ok-lits.lits.items c.push.new.self.items c.negated.result
+    c.requires.sound c.requires.level (shrunk at.In_ok-shrink) (kept at.In_ok-lits (shrunk at.In_ok-shrink)) c.in_ok-shrink.ensures.needed (c.highest-back_to.ensures ∙ ap (highest_of c.args.trail.now) c.as_slice-3.ensures.value) (c.negated.ensures ∙ ap neg_ℤ c.literal.ensures) c.in_ok-push.ensures.items in
+    taught (clauses_after c.args.problem.now c.args.journal.now) c.args.trail.now c.args.last conflict c.args.resolvent c.shrink.new.resolvent.seen.items c.shrink.new.resolvent.kept.items c.args.used.items c.shrink.new.used.items c.push.new.self.items
+    c.requires.sound c.requires.level c.requires.last (shrunk at.In_ok-shrink) d.exact c.in_ok-shrink.ensures.exact w

@@ -30,3 +30,6 @@ returns-in_err-clause-clause-grows c = chains_none c.args.journal.now c.args.jou
 
 pub returns-in_err-copy-clause-grows : goal.returns-in_err-copy-clause-grows
 returns-in_err-copy-clause-grows c = chains_none c.args.journal.now c.args.journal.now refl
+
+pub returns-clause-same : goal.returns-clause-same
+returns-clause-same c = c.in_ok-clause.ensures.value ∙ c.as_slice.ensures.value

@@ -1,4 +1,4 @@
-use Rattle.std.proofs.Common.{◌<◌, ◌∙◌, sym, ap, subst, ℕ, List, length, [], ◌∷◌, ◌++◌, false, true}
+use Rattle.std.proofs.Common.{◌<◌, ◌∙◌, sym, ap, subst, ℕ, List, length, [], ◌∷◌, ◌++◌}
 use Rattle.mono_trail.specs.TrailView.{TrailView}
 use Rattle.mono_steps.specs.Steps.{clauses_after}
 use Rattle.mono_learn.proofs.PlacesOfLits.{is_number}

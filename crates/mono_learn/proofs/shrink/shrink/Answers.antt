@@ -1,13 +1,15 @@
 use Rattle.std.proofs.Common.{◌≡◌, ◌≤◌, ◌<◌, ◌∙◌, sym, ap, subst, arith, ℕ, List, length, get_or, refl, suc, ◌-◌, inl, inr, ◌⊎◌}
 use Rattle.std.specs.Prelude.{Contains}
 use Rattle.std.proofs.lemmas.List.Elements.{Contains-get_or}
-use Rattle.std.proofs.lemmas.List.Sorted.{Contains-permutation, IsPermutation-sym}
+use Rattle.std.proofs.lemmas.List.Sorted.{Contains-permutation, IsPermutation-sym, IsNonDecreasingBy-from_sort}
+use Rattle.std.specs.List.Sorted.{IsNonDecreasing}
 use Rattle.mono_steps.specs.Steps.{clauses_after}
 use Rattle.mono_learn.specs.Walks.{HasShrunk}
 use Rattle.std.proofs.lemmas.List.{get_or_read}
-use Rattle.mono_learn.specs.Shrinks.{IsKeptFor}
+use Rattle.mono_learn.specs.Shrinks.{IsKeptFor, AreDropped}
 use Rattle.mono_learn.proofs.Marking.{by_place}
 use Rattle.mono_learn.proofs.Shrinking.{shrunk_start, kept_for_fewer}
+use Rattle.mono_learn.proofs.Dropping.{dropped_none, dropped_more}
 use Rattle.mono_learn.proofs.shrink.shrink.Goals as goal
 
 at_or_above : (i j : ℕ) → i ≤ j → (j ≡ i) ⊎ (i < j)
@@ -19,6 +21,8 @@ loop-rest-init c = record {
   low = λ k h. c.requires.low k (Contains-permutation c.sort_unstable.new.self.items c.args.resolvent.now.kept.items k (IsPermutation-sym c.args.resolvent.now.kept.items c.sort_unstable.new.self.items c.sort_unstable.ensures.permutation) h);
   shrunk = λ start last a. shrunk_start (clauses_after c.args.problem.now c.args.journal.now) c.args.trail.now.lits start last c.args.resolvent.now c.sort_unstable.new.self.items c.args.used.now.items a c.sort_unstable.ensures.permutation;
   needed = λ j a b. absurd (omega (arith, a, b, c.len-rest.ensures, c.sort_unstable.new.self.ok));
+  sorted = IsNonDecreasingBy-from_sort (λ (x : ℕ). x) c.sort_unstable.new.self.items c.sort_unstable.ensures.sorted;
+  dropped = dropped_none (clauses_after c.args.problem.now c.args.journal.now) c.args.trail.now c.args.resolvent.now.seen.items c.sort_unstable.new.self.items c.len-rest.result (omega (arith, c.len-rest.ensures));
   within = omega (arith, c.len-rest.ensures);
 }
 
@@ -47,5 +51,16 @@ loop-rest-preserved c =
             (subst (λ (ks : List ℕ). IsKeptFor (clauses_after c.args.problem.now c.args.journal.now) c.args.trail.now c.loop-rest.resolvent.seen.items (get_or ks j 0)) (sym c.in_ok-try_drop.ensures.kept)
             (c.loop-rest.invariant.needed j (omega (arith, m, c.loop-rest-test.true)) (omega (arith, b, ap (λ (ks : List ℕ). length ks) c.in_ok-try_drop.ensures.kept))))
       ];
+      sorted = subst IsNonDecreasing (sym c.in_ok-try_drop.ensures.kept) c.loop-rest.invariant.sorted;
+      dropped =
+          let at : c.index.result.now ≡ get_or c.loop-rest.resolvent.kept.items (c.loop-rest.rest - 1) 0 = get_or_read c.loop-rest.resolvent.kept.items (c.loop-rest.rest - 1) c.index.result.now lt c.index.ensures 0 in
+          subst (λ (ks : List ℕ). AreDropped (clauses_after c.args.problem.now c.args.journal.now) c.args.trail.now c.args.resolvent.now.seen.items c.try_drop.new.resolvent.seen.items ks (c.loop-rest.rest - 1)) (sym c.in_ok-try_drop.ensures.kept)
+          (dropped_more (clauses_after c.args.problem.now c.args.journal.now) c.args.trail.now c.args.resolvent.now.seen.items c.loop-rest.resolvent.seen.items c.try_drop.new.resolvent.seen.items c.loop-rest.resolvent.kept.items c.loop-rest.rest (c.loop-rest.rest - 1) c.index.result.now
+          c.requires.sound c.requires.reasons (c.loop-rest.invariant.low c.index.result.now held) c.loop-rest.invariant.sorted (omega (arith, c.loop-rest-test.true)) c.loop-rest.invariant.within at c.loop-rest.invariant.dropped c.in_ok-try_drop.ensures.exact c.in_ok-try_drop.ensures.others c.in_ok-try_drop.ensures.fewer);
       within = omega (arith, lt, ap (λ (ks : List ℕ). length ks) c.in_ok-try_drop.ensures.kept);
     }
+
+pub returns-clause-exact : goal.returns-clause-exact
+returns-clause-exact c =
+    let e : c.loop-rest.rest ≡ 0 = omega (arith, c.loop-rest-test.false) in
+    subst (AreDropped (clauses_after c.args.problem.now c.args.journal.now) c.args.trail.now c.args.resolvent.now.seen.items c.loop-rest.resolvent.seen.items c.loop-rest.resolvent.kept.items) e c.loop-rest.invariant.dropped

@@ -1,4 +1,4 @@
-use Rattle.std.proofs.Common.{◌<◌, ◌-◌, arith, sym, ◌∙◌, ap, subst, refl, length, true, List}
+use Rattle.std.proofs.Common.{◌<◌, ◌-◌, arith, sym, ◌∙◌, ap, subst, refl, length, List}
 use Rattle.std.specs.Prelude.{ℤ}
 use Rattle.mono_steps.specs.Steps.{clauses_after}
 use Rattle.mono_learn.specs.Walks.{HasCome}

@@ -6,6 +6,8 @@ use Rattle.mono_trail.specs.Seen.{is_marked}
 use Rattle.mono_learn.specs.Walks.{HasCome}
 use Rattle.mono_learn.proofs.Asking.{asks_none, asks_more}
 use Rattle.mono_learn.proofs.Settling.{decided_before}
+use Rattle.mono_learn.proofs.LevelsByPlace.{starts_same}
+use Rattle.mono_learn.proofs.Points.{walked_more}
 use Rattle.mono_learn.proofs.Walking.{start_below, other_left, come_at}
 use Rattle.mono_learn.proofs.walk.walk.Goals as goal
 
@@ -18,6 +20,7 @@ loop-start-init g c = record {
   come = subst (λ (t : List ℤ). HasCome (clauses_after c.args.problem.now c.args.journal.now) c.args.trail.now.lits c.args.start (length t) c.args.resolvent.now c.args.used.now.items) (sym c.lits-place.ensures) c.requires.come;
   within = omega (arith, ap (λ (t : List ℤ). length t) c.lits-place.ensures);
   some = c.requires.some;
+  walked = λ conflict w. w;
 }
 
 pub overflow_sub-place : goal.overflow_sub-place
@@ -86,6 +89,13 @@ loop-start-preserved-in-Continue-1 g c =
       come = c.in_ok-step.ensures.come;
       within = omega (arith, low, c.loop-start.invariant.within, ap (λ (t : List ℤ). length t) c.step.ensures.asks.settles.lits);
       some = omega (arith, c.in_ok-step.ensures.grows, c.loop-start.invariant.some, c.if-resolvent-eq1.false);
+      walked = λ conflict w.
+          let come : HasCome (clauses_after c.args.problem.now c.loop-start.journal) c.loop-start.trail.lits c.args.start (c.loop-start.place - 1 + 1) c.loop-start.resolvent c.loop-start.used.items = come_at (clauses_after c.args.problem.now c.loop-start.journal) c.loop-start.trail.lits c.args.start c.loop-start.place c.loop-start.resolvent c.loop-start.used.items low c.loop-start.invariant.come in
+          let marked : is_marked c.loop-start.resolvent.seen.items (c.loop-start.place - 1) ≡ true = sym (get_or_read c.loop-start.resolvent.seen.items (c.loop-start.place - 1) c.index.result.now (omega (arith, low, c.loop-start.invariant.within, c.loop-start.invariant.come.resolvent.marks.slots)) c.index.ensures false) ∙ c.if-index.true in
+          let all = asks_more c.args.problem.now c.args.trail.now c.loop-start.trail c.step.new.trail c.args.journal.now c.loop-start.journal c.step.new.journal c.loop-start.invariant.asks c.step.ensures.asks in
+          walked_more c.args.problem.now c.loop-start.trail c.step.new.trail c.loop-start.journal c.step.new.journal c.args.start (c.loop-start.place - 1) conflict c.loop-start.resolvent c.loop-start.used.items c.step.new.used.items c.step.ensures.sound
+          (omega (arith, c.requires.level, all.settles.level)) (c.requires.start ∙ starts_same (clauses_after c.args.problem.now c.step.new.journal) c.args.trail.now c.step.new.trail all.settles)
+          c.step.ensures.asks come marked (omega (arith, c.loop-start.invariant.some, c.if-resolvent-eq1.false)) (c.loop-start.invariant.walked conflict w) c.in_ok-step.ensures.goes_on;
     }
 
 pub returns-in_err-step-clause-asks : goal.returns-in_err-step-clause-asks

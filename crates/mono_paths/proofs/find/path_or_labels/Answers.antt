@@ -1,11 +1,15 @@
-use Rattle.std.proofs.Common.{◌≤◌, ◌<◌, ◌+◌, ℕ, List, sym, ◌∙◌, subst, arith}
+use Rattle.std.proofs.Common.{◌≤◌, ◌<◌, ◌+◌, ℕ, List, sym, ◌∙◌, subst, arith, pos, ◌≤ℤ◌}
+use Rattle.std.proofs.lemmas.List.Elements.{All-map}
 use Rattle.std.specs.Prelude.{IsTrue, All}
 use Rattle.mono_base.specs.declared.limits.TheConstants.{MAX_WITNESS_VALUE}
 use Rattle.mono_graph.specs.declared.label.Label.{Label}
-use Rattle.mono_graph.specs.Walks.{is_labelling}
+use Rattle.mono_graph.specs.Walks.{is_labelling, bound_of}
+use Rattle.mono_paths.specs.Asked.{HasPath}
+use Rattle.mono_paths.specs.Found.{with_bound}
+use Rattle.mono_paths.proofs.Reached.{all_within}
 use Rattle.mono_paths.specs.Reaches.{HasFinal, IsCheap}
 use Rattle.mono_paths.specs.Searches.{source_of}
-use Rattle.mono_paths.proofs.Ends.{empty_labelling, cheap_path, labelling_found, labels_found, bound_small, final}
+use Rattle.mono_paths.proofs.Ends.{labelled, empty_labelling, cheap_path, labelling_found, labels_found, bound_small, final}
 use Rattle.mono_paths.proofs.find.path_or_labels.Goals as goal
 
 pub returns-in_default-clause-passes : goal.returns-in_default-clause-passes
@@ -43,3 +47,11 @@ returns-in_ok-listed-clause-known c =
     subst (λ (ls : List Label). All (λ (l : Label). (l.node < c.args.graph.now.nodes) × (l.value ≤ MAX_WITNESS_VALUE)) ls) (sym c.in_ok-listed.ensures.labels)
     (labels_found c.args.graph.now c.args.part.now c.args.from c.args.to c.in-Some.most c.args.limit c.goes_to.new.self.labels c.goes_to.new.self.labels.reached
     (bound_small c.args.limit c.in-Some.most c.requires.limit c.in-Some.ensures) c.in_ok-goes_to.ensures.search.labelled.len c.in_ok-listed.ensures.reached (final_labels c))
+
+pub returns-in_ok-listed-clause-reached : goal.returns-in_ok-listed-clause-reached
+returns-in_ok-listed-clause-reached c =
+    let e = c.in_ok-goes_to.ensures in
+    subst (λ (ls : List Label). All (λ (x : Label). (pos x.value ≤ℤ bound_of c.args.limit) × HasPath c.args.graph.now c.args.part.now c.args.from x.node (with_bound c.args.limit (pos x.value))) ls) (sym c.in_ok-listed.ensures.labels)
+    (All-map (λ (x : Label). (pos x.value ≤ℤ bound_of c.args.limit) × HasPath c.args.graph.now c.args.part.now c.args.from x.node (with_bound c.args.limit (pos x.value))) (labelled c.goes_to.new.self.labels.each) c.goes_to.new.self.labels.reached
+    (all_within c.args.graph.now c.args.part.now c.args.limit c.args.from c.in-Some.most c.goes_to.new.self c.goes_to.new.self.labels.reached e.search (e.source ∙ c.in_ok-begin.ensures.source) c.in-Some.ensures
+    (e.cap ∙ c.in_ok-begin.ensures.cap) c.in_ok-listed.ensures.reached))

@@ -3,6 +3,7 @@ use Rattle.std.proofs.lemmas.List.{length-map}
 use Rattle.mono_theory.specs.Owners.{fact_of, facts_of}
 use Rattle.mono_search.specs.TheoryLists.{IsQuietTheory, IsShort}
 use Rattle.mono_search.proofs.Sweeps.{same_read, same_write, one_more}
+use Rattle.mono_search.proofs.QuietMarks.{marked, is_quiet}
 use Rattle.mono_search.proofs.asking.force_any.Goals as goal
 use Rattle.mono_search.proofs.asking.force_any.Goals.{After-force_one}
 use Rattle.mono_search.proofs.asking.force_any.Given as given
@@ -37,6 +38,7 @@ loop-i-preserved g c =
     let after : After-force_one g = (goal.at.loop-i-preserved g c).After-force_one in
     let quiet = rw c.in_default.is at c.in_ok-forced.ensures.answer in
     record {
+      marks = marked _ c.loop-i.quiet.items c.loop-i.i _ (within g after) (read g after) quiet c.loop-i.invariant.marks;
       len = c.loop-i.invariant.len;
       same = same g after;
       quiet = one_more IsQuietTheory _ c.loop-i.i _ (within g after) (read g after) quiet c.loop-i.invariant.quiet;
@@ -45,9 +47,16 @@ loop-i-preserved g c =
 pub returns-clause-answer : goal.returns-clause-answer
 returns-clause-answer g c = λ k d lt. c.loop-i.invariant.quiet k d (omega (arith, lt, length-map c.args.theories.now.items (fact_of g.T.Theory.graph g.T.Theory.atoms g.T.Theory.seen), c.len-i-end.ensures, c.loop-i-test.false))
 
-pub force_one-requires : goal.force_one-requires
-force_one-requires g c =
+pub force_one-requires-clause-quiet : goal.force_one-requires-clause-quiet
+force_one-requires-clause-quiet g c =
     let fact = fact_of g.T.Theory.graph g.T.Theory.atoms g.T.Theory.seen in
     let here = same_read fact _ _ c.loop-i.i c.index_mut-theory.result.now c.loop-i.invariant.same c.index_mut-theory.ensures.value in
     let lt : c.loop-i.i < length (map fact c.args.theories.now.items) = rw length-map (omega (arith, c.loop-i-test.true, c.len-i-end.ensures)) in
-    subst IsShort (sym here) (c.requires c.loop-i.i (fact c.index_mut-theory.result.now) lt)
+    is_quiet (map fact c.args.theories.now.items) c.loop-i.quiet.items c.loop-i.i (fact c.index_mut-theory.result.now) c.index.result.now c.loop-i.invariant.marks lt here c.index.ensures
+
+pub force_one-requires-clause-short : goal.force_one-requires-clause-short
+force_one-requires-clause-short g c =
+    let fact = fact_of g.T.Theory.graph g.T.Theory.atoms g.T.Theory.seen in
+    let here = same_read fact _ _ c.loop-i.i c.index_mut-theory.result.now c.loop-i.invariant.same c.index_mut-theory.ensures.value in
+    let lt : c.loop-i.i < length (map fact c.args.theories.now.items) = rw length-map (omega (arith, c.loop-i-test.true, c.len-i-end.ensures)) in
+    subst IsShort (sym here) (c.requires.short c.loop-i.i (fact c.index_mut-theory.result.now) lt)

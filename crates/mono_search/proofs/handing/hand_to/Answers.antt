@@ -1,10 +1,12 @@
-use Rattle.std.proofs.Common.{◌≡◌, ◌∙◌, ◌+◌, ◌<◌, ℕ, List, drop, get_or, set, length, sym, ap, subst, arith, refl}
+use Rattle.std.proofs.Common.{◌≡◌, ◌∙◌, ◌+◌, ◌<◌, false, ℕ, List, drop, get_or, set, length, sym, ap, subst, arith, refl}
 use Rattle.std.proofs.lemmas.List.{length-map}
 use Rattle.mono_theory.specs.Owners.{fact_of, facts_of}
-use Rattle.mono_search.specs.TheoryLists.{seeing, MaySee}
+use Rattle.mono_theory.specs.Theories.{Facts}
+use Rattle.mono_search.specs.TheoryLists.{seeing, MaySee, AreQuietMarks}
 use Rattle.mono_search.specs.Updates.{update_at, update_all, CanUpdate}
 use Rattle.mono_search.proofs.ConcernTables.{may_hand, handed_by_table}
-use Rattle.mono_search.proofs.Sweeps.{map_at}
+use Rattle.mono_search.proofs.QuietMarks.{changed}
+use Rattle.mono_search.proofs.Sweeps.{map_at, map_set}
 use Rattle.mono_search.proofs.Updates.{can_step, left_step, write_at}
 use Rattle.mono_search.proofs.handing.hand_to.Goals as goal
 
@@ -12,6 +14,7 @@ pub loop-place-init : goal.loop-place-init
 loop-place-init g c =
     let facts = facts_of g.T.Theory.graph g.T.Theory.atoms g.T.Theory.seen c.args.theories.now.items in
     record {
+      quiet = c.requires.quiet;
       can = subst (λ (ps : List ℕ). CanUpdate (MaySee c.args.lit) (seeing c.args.lit) ps facts) (sym c.requires.places) (may_hand c.args.lit facts c.requires.fresh);
       left = ap (λ (ps : List ℕ). update_all (seeing c.args.lit) ps facts) c.requires.places ∙ handed_by_table c.args.lit facts;
     }
@@ -43,6 +46,7 @@ loop-place-preserved g c =
     let now : fact c.assign.new.self ≡ seeing c.args.lit (fact c.index_mut-theory.result.now) = rw (c.assign.ensures.graph, c.assign.ensures.atoms, c.assign.ensures.seen) refl in
     let written : facts_of g.T.Theory.graph g.T.Theory.atoms g.T.Theory.seen (set items p c.assign.new.self) ≡ update_at p (seeing c.args.lit) facts = write_at fact (seeing c.args.lit) items p c.index_mut-theory.result.now c.assign.new.self c.index_mut-theory.ensures.value within now in
     record {
+      quiet = subst (λ (fs : List Facts). AreQuietMarks fs (set c.loop-place.quiet.items p false)) (sym (map_set fact items p c.assign.new.self)) (changed facts c.loop-place.quiet.items p (fact c.assign.new.self) s.0.within c.loop-place.invariant.quiet);
       can = subst (CanUpdate (MaySee c.args.lit) (seeing c.args.lit) (drop (i + 1) ps)) (sym written) s.1;
       left = ap (update_all (seeing c.args.lit) (drop (i + 1) ps)) written ∙ sym (left_step (seeing c.args.lit) ps i 0 facts c.loop-place-test.true) ∙ c.loop-place.invariant.left;
     }

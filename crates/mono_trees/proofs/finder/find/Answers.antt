@@ -3,7 +3,7 @@ use Rattle.std.proofs.lemmas.Int.{to_z-of_z}
 use Rattle.std.specs.List.{range_with_len}
 use Rattle.mono_graph.specs.Digraph.{weight_of}
 use Rattle.mono_trees.specs.Tells.{same_label}
-use Rattle.mono_trees.proofs.Finding.{fits_chosen, found_tree, found_split, found_least, some_node, set_known}
+use Rattle.mono_trees.proofs.Finding.{fits_chosen, found_tree, found_split, found_least, some_node, set_known, set_in_order, all_present}
 use Rattle.mono_trees.proofs.finder.find.Goals as goal
 
 pub is_light-requires : goal.is_light-requires
@@ -41,3 +41,14 @@ returns-else-is_light-clause-passes c =
 
 pub returns-else-is_light-clause-known : goal.returns-else-is_light-clause-known
 returns-else-is_light-clause-known c = fits_chosen c.args.graph.now c.args.part.now c.in_ok-chosen.chosen.items c.lightest_forest.new.components c.in_ok-chosen.chosen.items c.in_ok-chosen.ensures.forest refl
+
+pub returns-then-not-are_all_joined-clause-order : goal.returns-then-not-are_all_joined-clause-order
+returns-then-not-are_all_joined-clause-order c =
+    set_in_order c.args.graph.now c.lightest_forest.new.components c.in_ok-set.set.items
+    (c.in_ok-set.ensures ∙ ap (λ (n : ℕ). filter (same_label c.lightest_forest.new.components 0) (range_with_len 0 n)) c.nodes-count.ensures.count)
+
+pub returns-then-is_light-clause-present : goal.returns-then-is_light-clause-present
+returns-then-is_light-clause-present c = all_present c.args.graph.now c.args.part.now c.in_ok-chosen.chosen.items c.lightest_forest.new.components c.in_ok-chosen.chosen.items c.in_ok-chosen.ensures.forest refl
+
+pub returns-else-is_light-clause-present : goal.returns-else-is_light-clause-present
+returns-else-is_light-clause-present c = all_present c.args.graph.now c.args.part.now c.in_ok-chosen.chosen.items c.lightest_forest.new.components c.in_ok-chosen.chosen.items c.in_ok-chosen.ensures.forest refl

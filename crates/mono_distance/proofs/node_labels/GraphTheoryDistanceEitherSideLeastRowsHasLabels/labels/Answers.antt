@@ -1,17 +1,21 @@
 use Rattle.std.proofs.Common.{ap, sym, subst, ◌∙◌}
-use Rattle.std.specs.Prelude.{IfSome, IsTrue, MatchOption, Option}
+use Rattle.std.specs.Option.{is_some}
+use Rattle.std.specs.Prelude.{◌≡◌, Bool, IfSome, IsTrue, MatchOption, Option}
 use Rattle.mono_problem.specs.declared.atom.Atom.{Atom}
 use Rattle.mono_problem.specs.declared.atom.Predicate.{Predicate}
 use Rattle.mono_problem.specs.Quiet.{under, over}
 use Rattle.mono_problem.specs.Read.{no_atom}
 use Rattle.mono_problem.specs.WellFormed.{IsOver}
+use Rattle.mono_theory.specs.Evidences.{Decides}
 use Rattle.mono_theory.specs.Sound.{evidence_at}
 use Rattle.mono_theory.specs.Stages.{stage_at}
 use Rattle.mono_theory.specs.Supports.{atom_at}
 use Rattle.mono_distance.specs.Distances.{is_distance, predicate_of}
-use Rattle.mono_distance.specs.Readings.{IsLeast, IsReached, place_in}
+use Rattle.mono_distance.specs.declared.node_labels.Labels.{Labels}
+use Rattle.mono_distance.specs.Readings.{IsLeast, IsReached, labels_in, place_in}
+use Rattle.mono_distance.specs.SureLabels.{is_within, last_node, limit_of}
 use Rattle.mono_distance.proofs.DistanceEvidence.{has_bound}
-use Rattle.mono_distance.proofs.ReadingLaws.{place_held, reading_is, over_read, least_read}
+use Rattle.mono_distance.proofs.ReadingLaws.{labels_decide, place_held, reading_is, over_read, least_read}
 use Rattle.mono_distance.proofs.node_labels.GraphTheoryDistanceEitherSideLeastRowsHasLabels.labels.Goals as goal
 
 pub returns-clause-value : goal.returns-clause-value
@@ -49,6 +53,28 @@ returns-clause-over c =
     let bound = has_bound s.graph x.from x.to x.limit (subst (λ (q : Predicate). IsTrue (is_distance q)) is kind) over-it in
     subst (λ (o : Option Atom). MatchOption o ⊥ (λ y. IsLeast s.graph (over s.graph s.seen) y.predicate c.args.node c.over_by.result)) (sym found)
     (least_read c.shown_witness-witness.result (λ w. w.now) c.over_by.result s.graph (over s.graph s.seen) (atom_at s.atoms c.place_of-place.result).predicate x.from x.to c.args.node x.limit is bound kind c.over_by.ensures right)
+
+pub returns-clause-decided_under : goal.returns-clause-decided_under
+returns-clause-decided_under c decided =
+    let s = c.args.self.now in
+    let q = (atom_at s.atoms c.place_of-place.result).predicate in
+    let found = rw c.frame-frame.ensures at c.place_of-place.ensures.is in
+    let graph = rw c.frame-frame.ensures at c.graph.ensures.known in
+    let known = rw c.frame-frame.ensures at c.graph.ensures.atoms in
+    let both = labels_decide s c.args.atom (atom_at s.atoms c.place_of-place.result) graph known c.surely-side.ensures.covered c.surely-side.ensures.right c.possibly.ensures.right decided.surely decided.possibly found in
+    subst (λ (o : Option Atom). MatchOption o ⊥ (λ y. c.args.node ≡ last_node y.predicate → Decides s.graph (under s.graph s.seen) y.predicate (is_some c.under_by.result))) (sym found)
+    (λ at. subst (λ (b : Bool). Decides s.graph (under s.graph s.seen) q b) (sym (ap (λ (l : Labels). is_some l.under) (returns-clause-value c ∙ ap (labels_in s c.args.atom) at))) both.0)
+
+pub returns-clause-decided_over : goal.returns-clause-decided_over
+returns-clause-decided_over c decided =
+    let s = c.args.self.now in
+    let q = (atom_at s.atoms c.place_of-place.result).predicate in
+    let found = rw c.frame-frame.ensures at c.place_of-place.ensures.is in
+    let graph = rw c.frame-frame.ensures at c.graph.ensures.known in
+    let known = rw c.frame-frame.ensures at c.graph.ensures.atoms in
+    let both = labels_decide s c.args.atom (atom_at s.atoms c.place_of-place.result) graph known c.surely-side.ensures.covered c.surely-side.ensures.right c.possibly.ensures.right decided.surely decided.possibly found in
+    subst (λ (o : Option Atom). MatchOption o ⊥ (λ y. c.args.node ≡ last_node y.predicate → Decides s.graph (over s.graph s.seen) y.predicate (is_within c.over_by.result (limit_of y.predicate)))) (sym found)
+    (λ at. subst (λ (b : Bool). Decides s.graph (over s.graph s.seen) q b) (sym (ap (λ (l : Labels). is_within l.over (limit_of q)) (returns-clause-value c ∙ ap (labels_in s c.args.atom) at))) both.1)
 
 pub what_is_asked-asked-requires : goal.what_is_asked-asked-requires
 what_is_asked-asked-requires c =

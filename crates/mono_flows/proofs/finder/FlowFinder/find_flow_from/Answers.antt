@@ -5,7 +5,8 @@ use Rattle.mono_base.specs.declared.limits.TheConstants.{MAX_BOUND, MAX_WITNESS_
 use Rattle.mono_graph.specs.Digraph.{leads_out, present_by, weight_of}
 use Rattle.mono_graph.specs.Flows.{amount_at, is_flow_of, is_flow_cut, value_of}
 use Rattle.mono_graph.specs.declared.amount.Amount.{Amount}
-use Rattle.mono_flows.proofs.Results.{blocked_cut, blocked_weight, flow_value, marked_nodes, marked_known, flow_passes, carrying, listed, carried_known, carried_small}
+use Rattle.mono_flows.specs.Answers.{IsFlowOfValue}
+use Rattle.mono_flows.proofs.Results.{blocked_cut, blocked_weight, flow_value, marked_nodes, marked_known, flow_passes, flow_is, carrying, listed, carried_known, carried_small}
 use Rattle.mono_flows.proofs.finder.FlowFinder.find_flow_from.Goals as goal
 
 -- ---- the cut
@@ -62,3 +63,15 @@ pub returns-then-is_enough-clause-value : goal.returns-then-is_enough-clause-val
 returns-then-is_enough-clause-value c =
     subst (λ (amounts : List Amount). value_of c.args.graph.now c.args.source (amount_at amounts) ≡ pos c.grow.new.flow.value) (sym (amounts_are c))
     (flow_value c.args.graph.now c.args.part.now c.args.source c.args.sink c.grow.new.flow.amounts.items c.grow.new.flow.value c.in_ok-is_enough.ensures.flow.flowing)
+
+-- ---- what is kept
+
+pub returns-clause-flow : goal.returns-clause-flow
+returns-clause-flow c =
+    subst (λ (amounts : List Amount). IsFlowOfValue c.args.graph.now c.args.part.now c.args.source c.args.sink c.grow.new.flow.value amounts) (sym c.in_ok-kept.ensures.amounts)
+    (flow_is c.args.graph.now c.args.part.now c.args.source c.args.sink c.grow.new.flow.amounts.items c.grow.new.flow.value c.in_ok-is_enough.ensures.flow.flowing)
+
+pub returns-then-is_enough-clause-flow : goal.returns-then-is_enough-clause-flow
+returns-then-is_enough-clause-flow c =
+    subst (λ (amounts : List Amount). IsFlowOfValue c.args.graph.now c.args.part.now c.args.source c.args.sink c.grow.new.flow.value amounts) (sym c.in_ok-kept.ensures.amounts)
+    (flow_is c.args.graph.now c.args.part.now c.args.source c.args.sink c.grow.new.flow.amounts.items c.grow.new.flow.value c.in_ok-is_enough.ensures.flow.flowing)

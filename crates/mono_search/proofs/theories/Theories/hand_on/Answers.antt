@@ -30,15 +30,18 @@ hand_to-requires-clause-places g c =
     listed c.loop-self.self-inside.problem.now.vars facts c.loop-self.self-inside.concerned c.args.lits.now c.loop-self.self-inside.handed c.var.result c.index-lits-self.result c.list.result.now
     (subst (λ (n : ℕ). All (IsLitWithin n) c.args.lits.now) vars c.requires.within) c.loop-self.invariant.kept.concerned c.loop-self-test.true c.index-lits-self.is c.var.ensures.value c.list.ensures
 
+pub hand_to-requires-clause-quiet : goal.hand_to-requires-clause-quiet
+hand_to-requires-clause-quiet g c = c.loop-self.invariant.kept.quiet
+
 pub loop-self-preserved : goal.loop-self-preserved
 loop-self-preserved g c =
     let t = g.T.Theory in
     let facts = facts_of t.graph t.atoms t.seen c.loop-self.self-inside.theories.items in
     let new = facts_of t.graph t.atoms t.seen c.hand_to.new.theories.items in
     let now : TheoriesView = record { problem = c.loop-self.self-inside.problem.now; facts = facts; handed = c.loop-self.self-inside.handed } in
-    let s = handed_step c.args.self.now now c.args.lits.now c.index-lits-self.result new c.loop-self.invariant.from c.loop-self-test.true c.index-lits-self.is c.hand_to.ensures in
+    let s = handed_step c.args.self.now now c.args.lits.now c.index-lits-self.result new c.loop-self.invariant.from c.loop-self-test.true c.index-lits-self.is c.hand_to.ensures.facts in
     record {
-      kept = all_kept (handed_on c.index-lits-self.result) now.problem facts new c.loop-self.self-inside.concerned (length c.loop-self.self-inside.counts.items) (length c.loop-self.self-inside.counts.items) (λ f. refl) (λ f. refl) c.hand_to.ensures refl c.loop-self.invariant.kept;
+      kept = all_kept (handed_on c.index-lits-self.result) now.problem facts new c.loop-self.self-inside.concerned (length c.loop-self.self-inside.counts.items) (length c.loop-self.self-inside.counts.items) c.loop-self.self-inside.quiet.items c.hand_to.new.quiet.items (λ f. refl) (λ f. refl) c.hand_to.ensures.facts refl c.hand_to.ensures.quiet c.loop-self.invariant.kept;
       shown = s.shown;
       from = s.from;
     }

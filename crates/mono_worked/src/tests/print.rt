@@ -1,0 +1,48 @@
+//! Texts that were printed by hand.
+use mono_gnf::{print_gnf, read_gnf};
+use std::test::Fail;
+
+const EVERY_KIND: &[u8] = b"p cnf 12 9\n\
+digraph 3 0 7\n\
+edge 7 0 1 1\n\
+digraph int 2 4 0\n\
+edge 0 1 0 1 0\n\
+edge 7 1 2 2 9\n\
+1 -2\n\
+c within a clause\n\
+  3 0 0\n\
+reach 7 0 2 4\n\
+distance_lt 7 0 2 5 3\n\
+weighted_distance_leq 7 2 0 6 9007199254740992\n\
+maximum_flow_gt 0 0 1 7 9007199254740992\n\
+maximum_flow_geq 7 0 2 9 5\n\
+mst_weight_lt 0 8 0\n\
+\t\r\n\
+-8 8 -8 -0";
+
+const EVERY_KIND_PRINTED: &[u8] = b"p gnf 12 3\n\
+digraph int 3 2 7\n\
+digraph int 2 1 0\n\
+edge 7 0 1 1 1\n\
+edge 0 1 0 1 0\n\
+edge 7 1 2 2 9\n\
+reach 7 0 2 4\n\
+distance_leq 7 0 2 5 2\n\
+weighted_distance_leq 7 2 0 6 9007199254740992\n\
+maximum_flow_gt 0 0 1 7 9007199254740992\n\
+maximum_flow_geq 7 0 2 9 5\n\
+mst_weight_lt 0 8 0\n\
+1 -2 3 0\n\
+0\n\
+-8 8 -8 0\n";
+
+/// What is printed is printed again as it is.
+#[test]
+fn every_kind_is_printed(rt: HostRuntime) -> Result<(), Fail> {
+    for text in [EVERY_KIND, EVERY_KIND_PRINTED] {
+        let problem = read_gnf(rt.alloc(), text)?;
+        let printed = print_gnf(rt.alloc(), &problem)?;
+        assert_eq!(rt; printed.as_slice(), EVERY_KIND_PRINTED);
+    }
+    Ok(())
+}

@@ -1,0 +1,180 @@
+//! Each call once, on a small problem that has something of each kind.
+
+use mono_base::Lit;
+use mono_problem::{Draft, Predicate, Problem, Totals, Use};
+use std::alloc::{AllocError, Global};
+use std::test::Fail;
+
+fn clause(alloc: Global, numbers: &[i32]) -> Result<Vec<Lit>, AllocError> {
+    let mut lits = Vec::new(alloc);
+    for number in numbers {
+        if let Some(lit) = Lit::new(*number) {
+            lits.push(lit)?;
+        }
+    }
+    Ok(lits)
+}
+
+/// Adds the clause of these numbers, where there is room.
+fn add(draft: &mut Draft, alloc: Global, numbers: &[i32]) -> Result<Option<u32>, AllocError> {
+    let lits = clause(alloc, numbers)?;
+    let totals = draft.totals();
+    if totals.clauses < 8_000_000 && totals.literals as usize + lits.len() <= 16_000_000 {
+        return Ok(Some(draft.add_clause(lits.as_slice())?));
+    }
+    Ok(None)
+}
+
+/// Declares a graph, where it is new and there is room.
+fn declare(draft: &mut Draft, id: u32, nodes: u32) -> Result<Option<u32>, AllocError> {
+    let totals = draft.totals();
+    if draft.graph_of(id) == None
+        && 0 < nodes
+        && nodes <= 1_000_000
+        && totals.nodes + nodes <= 1_000_000
+        && totals.graphs < 1024
+    {
+        return Ok(Some(draft.add_graph(id, nodes)?));
+    }
+    Ok(None)
+}
+
+/// Adds an edge, where all that it names is there.
+fn join(
+    draft: &mut Draft,
+    id: u32,
+    from: u32,
+    to: u32,
+    var: u32,
+) -> Result<Option<u32>, AllocError> {
+    let Some(graph) = draft.graph_of(id) else {
+        return Ok(None);
+    };
+    let nodes = draft.nodes_of(graph);
+    let edges = draft.totals().edges;
+    if from < nodes && to < nodes && 0 < var && var <= 1_000_000 && edges < 1_000_000 {
+        return Ok(Some(draft.add_edge(graph, from, to, var, 5)?));
+    }
+    Ok(None)
+}
+
+/// Adds a reachability predicate, where all that it names is there.
+fn ask(
+    draft: &mut Draft,
+    id: u32,
+    from: u32,
+    to: u32,
+    var: u32,
+) -> Result<Option<u32>, AllocError> {
+    let Some(graph) = draft.graph_of(id) else {
+        return Ok(None);
+    };
+    let nodes = draft.nodes_of(graph);
+    let atoms = draft.totals().atoms;
+    if from < nodes && to < nodes && 0 < var && var <= 1_000_000 && atoms < 100_000 {
+        return Ok(Some(draft.add_atom(graph, var, Predicate::Reach { from, to })?));
+    }
+    Ok(None)
+}
+
+/// Two graphs, with edges by turns.
+fn with_graphs(draft: &mut Draft) -> Result<(), AllocError> {
+    declare(draft, 7, 3)?;
+    declare(draft, 4, 2)?;
+    declare(draft, 7, 2)?;
+    join(draft, 7, 0, 1, 2)?;
+    join(draft, 4, 1, 0, 2)?;
+    join(draft, 7, 1, 2, 3)?;
+    Ok(())
+}
+
+fn sample(alloc: Global) -> Result<Draft, AllocError> {
+    let mut draft = Draft::new(alloc);
+    with_graphs(&mut draft)?;
+    ask(&mut draft, 7, 0, 2, 9)?;
+    ask(&mut draft, 4, 0, 1, 2)?;
+    add(&mut draft, alloc, &[1, -9])?;
+    add(&mut draft, alloc, &[])?;
+    add(&mut draft, alloc, &[-3, -3, 11])?;
+    draft.raise_vars(10);
+    Ok(draft)
+}
+
+#[test]
+fn a_draft_counts_what_it_was_given(rt: HostRuntime) -> Result<(), Fail> {
+    let totals = Totals {
+        vars: 11,
+        graphs: 2,
+        nodes: 5,
+        edges: 3,
+        atoms: 2,
+        clauses: 3,
+        literals: 5,
+    };
+    assert_eq!(rt; sample(rt.alloc())?.totals(), totals);
+    Ok(())
+}
+
+#[test]
+fn a_problem_has_its_graphs(rt: HostRuntime) -> Result<(), Fail> {
+    let problem = sample(rt.alloc())?.finish()?;
+    assert_eq!(rt; problem.vars(), 11);
+    assert_eq!(rt; problem.graph_count(), 2);
+    assert_eq!(rt; problem.graph_id(1), 4);
+    assert_eq!(rt; problem.graph(0).nodes(), 3);
+    assert_eq!(rt; problem.edge_count(), 3);
+    assert_eq!(rt; problem.edge_home(2), 1);
+    assert_eq!(rt; problem.edge_home(3), 0);
+    Ok(())
+}
+
+#[test]
+fn a_problem_has_its_atoms_and_clauses(rt: HostRuntime) -> Result<(), Fail> {
+    let problem = sample(rt.alloc())?.finish()?;
+    assert_eq!(rt; problem.atom_count(), 2);
+    assert_eq!(rt; problem.atom(2).var, 2);
+    assert_eq!(rt;
+        problem.atom(1).predicate,
+        Predicate::Reach { from: 0, to: 2 }
+    );
+    assert_eq!(rt; problem.clause_count(), 3);
+    assert_eq!(rt; problem.clause(3).len(), 3);
+    assert_eq!(rt; problem.clause(2).len(), 0);
+    Ok(())
+}
+
+#[test]
+fn the_uses_of_a_variable_are_its_edges_and_atoms(rt: HostRuntime) -> Result<(), Fail> {
+    let problem = sample(rt.alloc())?.finish()?;
+    let two = [
+        Use::Edge { graph: 0, place: 0 },
+        Use::Edge { graph: 1, place: 0 },
+        Use::Atom { number: 2 },
+    ];
+    assert_eq!(rt; problem.uses(2), two.as_slice());
+    assert_eq!(rt;
+        problem.uses(3),
+        [Use::Edge { graph: 0, place: 1 }].as_slice()
+    );
+    assert_eq!(rt; problem.uses(9), [Use::Atom { number: 1 }].as_slice());
+    assert_eq!(rt; problem.uses(12).len(), 0);
+    Ok(())
+}
+
+fn choice(alloc: Global) -> Result<Problem, AllocError> {
+    let mut draft = Draft::new(alloc);
+    add(&mut draft, alloc, &[1, 2])?;
+    add(&mut draft, alloc, &[-1])?;
+    add(&mut draft, alloc, &[-1, -2])?;
+    draft.finish()
+}
+
+#[test]
+fn the_first_false_clause_is_named(rt: HostRuntime) -> Result<(), Fail> {
+    let problem = choice(rt.alloc())?;
+    assert_eq!(rt; problem.vars(), 2);
+    assert_eq!(rt; problem.first_false_clause(&[false, true]), None);
+    assert_eq!(rt; problem.first_false_clause(&[true, true]), Some(2));
+    assert_eq!(rt; problem.first_false_clause(&[false, false]), Some(1));
+    Ok(())
+}

@@ -1,0 +1,236 @@
+//! Tables that were worked by hand, from the rules of lines, tokens and numbers.
+use mono_text::{
+    FieldRefusal, Line, Lines, NumberRefusal, fields, natural, push_natural, push_signed, signed,
+};
+use std::alloc::{AllocError, Global};
+
+// Each line as its number, `=`, its bytes, its tokens in brackets, and `;`.
+fn shown(alloc: Global, text: &[u8]) -> Result<Vec<u8>, AllocError> {
+    let mut out = Vec::new(alloc);
+    for line in Lines::new(text) {
+        push_natural(&mut out, line.number)?;
+        out.push(b'=')?;
+        out.extend_from_slice(line.text)?;
+        for token in line.tokens() {
+            out.push(b'[')?;
+            out.extend_from_slice(token)?;
+            out.push(b']')?;
+        }
+        out.push(b';')?;
+    }
+    Ok(out)
+}
+
+#[test]
+fn lines_and_tokens(rt: HostRuntime) -> Result<(), AllocError> {
+    let table: [(&[u8], &[u8]); 13] = [
+        (b"", b""),
+        (b"\n", b"1=;"),
+        (b"a", b"1=a[a];"),
+        (b"a\n", b"1=a[a];"),
+        (b"a\n\n", b"1=a[a];2=;"),
+        (b"\n\na", b"1=;2=;3=a[a];"),
+        (b"a\r\nb\r", b"1=a\r[a];2=b\r[b];"),
+        (b" \t\r", b"1= \t\r;"),
+        (b"\t1 -2  0\n ", b"1=\t1 -2  0[1][-2][0];2= ;"),
+        (b"x\x0by\x0cz w", b"1=x\x0by\x0cz w[x\x0by\x0cz][w];"),
+        (
+            b"\x00 \x7f\xff\x80",
+            b"1=\x00 \x7f\xff\x80[\x00][\x7f\xff\x80];",
+        ),
+        (b"a\rb", b"1=a\rb[a][b];"),
+        (
+            b"1\n2\n3\n4\n5\n6\n7\n8\n9\n0",
+            b"1=1[1];2=2[2];3=3[3];4=4[4];5=5[5];6=6[6];7=7[7];8=8[8];9=9[9];10=0[0];",
+        ),
+    ];
+    for (text, want) in table {
+        let got = shown(rt.alloc(), text)?;
+        assert_eq!(rt; got.as_slice(), want);
+    }
+    Ok(())
+}
+
+#[test]
+fn naturals(rt: HostRuntime) {
+    let most = u64::MAX;
+    let table: [(&[u8], u64, Result<u64, NumberRefusal>); 23] = [
+        (b"", most, Err(NumberRefusal::NotNumber)),
+        (b"0", 0, Ok(0)),
+        (b"1", 0, Err(NumberRefusal::TooLarge)),
+        (b"007", 7, Ok(7)),
+        (b"000", 0, Ok(0)),
+        (b"7", 6, Err(NumberRefusal::TooLarge)),
+        (b"+1", 9, Err(NumberRefusal::NotNumber)),
+        (b"-", 9, Err(NumberRefusal::NotNumber)),
+        (b"-0", 9, Err(NumberRefusal::NotNumber)),
+        (b"--1", 9, Err(NumberRefusal::NotNumber)),
+        (b"1x", 9, Err(NumberRefusal::NotNumber)),
+        (b"x1", 9, Err(NumberRefusal::NotNumber)),
+        (b"1.0", 9, Err(NumberRefusal::NotNumber)),
+        (b"/", 9, Err(NumberRefusal::NotNumber)),
+        (b":", 9, Err(NumberRefusal::NotNumber)),
+        (b"\xb1", 9, Err(NumberRefusal::NotNumber)),
+        (b"1000000", 1_000_000, Ok(1_000_000)),
+        (b"1000001", 1_000_000, Err(NumberRefusal::TooLarge)),
+        (b"18446744073709551615", most, Ok(most)),
+        (b"18446744073709551616", most, Err(NumberRefusal::TooLarge)),
+        (b"0000018446744073709551615", most, Ok(most)),
+        (
+            b"1234567890123456789012345678901234567890",
+            most,
+            Err(NumberRefusal::TooLarge),
+        ),
+        (
+            b"123456789012345678901234567890123456789x",
+            most,
+            Err(NumberRefusal::NotNumber),
+        ),
+    ];
+    for (token, limit, want) in table {
+        assert_eq!(rt; natural(token, limit), want);
+    }
+}
+
+#[test]
+fn signed_numbers(rt: HostRuntime) {
+    let most = 1u64 << 62;
+    let table: [(&[u8], u64, Result<i64, NumberRefusal>); 16] = [
+        (b"", most, Err(NumberRefusal::NotNumber)),
+        (b"-", most, Err(NumberRefusal::NotNumber)),
+        (b"--1", most, Err(NumberRefusal::NotNumber)),
+        (b"+1", most, Err(NumberRefusal::NotNumber)),
+        (b"-+1", most, Err(NumberRefusal::NotNumber)),
+        (b"1-", most, Err(NumberRefusal::NotNumber)),
+        (b"0", 0, Ok(0)),
+        (b"-0", 0, Ok(0)),
+        (b"-007", 7, Ok(-7)),
+        (b"-8", 7, Err(NumberRefusal::TooLarge)),
+        (b"8", 7, Err(NumberRefusal::TooLarge)),
+        (b"4611686018427387904", most, Ok(4_611_686_018_427_387_904)),
+        (
+            b"-4611686018427387904",
+            most,
+            Ok(-4_611_686_018_427_387_904),
+        ),
+        (b"4611686018427387905", most, Err(NumberRefusal::TooLarge)),
+        (b"-4611686018427387905", most, Err(NumberRefusal::TooLarge)),
+        (
+            b"-1234567890123456789012345678901234567890",
+            most,
+            Err(NumberRefusal::TooLarge),
+        ),
+    ];
+    for (token, limit, want) in table {
+        assert_eq!(rt; signed(token, limit), want);
+    }
+}
+
+#[test]
+fn long_numbers(rt: HostRuntime) -> Result<(), AllocError> {
+    let mut token = Vec::from_elem(rt.alloc(), b'0', 5000)?;
+    token.push(b'7')?;
+    assert_eq!(rt; natural(&token, 7), Ok(7));
+    assert_eq!(rt; natural(&token, 6), Err(NumberRefusal::TooLarge));
+    assert_eq!(rt; signed(&token, 7), Ok(7));
+    token.push(b'x')?;
+    assert_eq!(rt; natural(&token, 7), Err(NumberRefusal::NotNumber));
+    Ok(())
+}
+
+fn line_of(text: &[u8]) -> Line<'_> {
+    Line { number: 1, text }
+}
+
+#[test]
+fn fields_of_lines(rt: HostRuntime) {
+    let pairs: [(&[u8], Result<[u64; 2], FieldRefusal>); 9] = [
+        (b"5 9", Ok([5, 9])),
+        (b"5\t009\r", Ok([5, 9])),
+        (b"5", Err(FieldRefusal::Count)),
+        (b"x 9 9", Err(FieldRefusal::Count)),
+        (b"", Err(FieldRefusal::Count)),
+        (b"6 x", Err(FieldRefusal::TooLarge(0))),
+        (b"x 10", Err(FieldRefusal::NotNumber(0))),
+        (b"5 10", Err(FieldRefusal::TooLarge(1))),
+        (b"5 -9", Err(FieldRefusal::NotNumber(1))),
+    ];
+    for (text, want) in pairs {
+        assert_eq!(rt; fields(line_of(text).tokens(), &[5, 9]), want);
+    }
+    assert_eq!(rt; fields(line_of(b" ").tokens(), &[]), Ok([]));
+    assert_eq!(rt;
+        fields(line_of(b"a").tokens(), &[]),
+        Err(FieldRefusal::Count)
+    );
+}
+
+#[test]
+fn numbers_of_tokens(rt: HostRuntime) {
+    let line = line_of(b" 12\t-7 99999999999999999 100000000000000000 18446744073709551616 1x 4");
+    let mut tokens = line.tokens();
+    assert_eq!(rt; tokens.left(), 7);
+    assert_eq!(rt; tokens.first_byte(), Some(b'1'));
+    assert_eq!(rt; tokens.next_natural(12), Some(Ok(12)));
+    assert_eq!(rt; tokens.next_signed(6), Some(Err(NumberRefusal::TooLarge)));
+    assert_eq!(rt;
+        tokens.next_signed(1 << 62),
+        Some(Ok(99_999_999_999_999_999))
+    );
+    assert_eq!(rt;
+        tokens.next_natural(u64::MAX),
+        Some(Ok(100_000_000_000_000_000))
+    );
+    assert_eq!(rt;
+        tokens.next_natural(u64::MAX),
+        Some(Err(NumberRefusal::TooLarge))
+    );
+    assert_eq!(rt; tokens.next_signed(9), Some(Err(NumberRefusal::NotNumber)));
+    assert_eq!(rt; tokens.next_signed(9), Some(Ok(4)));
+    assert_eq!(rt; tokens.first_byte(), None);
+    assert_eq!(rt; tokens.next_natural(9), None);
+}
+
+#[test]
+fn numbers_are_written(rt: HostRuntime) -> Result<(), AllocError> {
+    let mut out = Vec::new(rt.alloc());
+    for n in [0, 9, 10, u64::MAX] {
+        push_natural(&mut out, n)?;
+        out.push(b' ')?;
+    }
+    for n in [0, -1, 10, i64::MAX, i64::MIN] {
+        push_signed(&mut out, n)?;
+        out.push(b' ')?;
+    }
+    let want = b"0 9 10 18446744073709551615 0 -1 10 9223372036854775807 -9223372036854775808 ";
+    assert_eq!(rt; out.as_slice(), want.as_slice());
+    Ok(())
+}
+
+#[test]
+fn skipped_lines(rt: HostRuntime) {
+    let table: [(&[u8], bool); 8] = [
+        (b"", true),
+        (b" \t\r", true),
+        (b"c", true),
+        (b"\tc 1 0", true),
+        (b"c\r", true),
+        (b"cnf", false),
+        (b"C", false),
+        (b"1 c", false),
+    ];
+    for (text, want) in table {
+        assert_eq!(rt; line_of(text).is_skipped(), want);
+    }
+}
+
+// A line of a million blanks before its one token.
+#[test]
+fn many_blanks(rt: HostRuntime) -> Result<(), AllocError> {
+    let mut text = Vec::from_elem(rt.alloc(), b' ', 1_000_000)?;
+    text.push(b'x')?;
+    let line = line_of(&text);
+    assert_eq!(rt; line.tokens().left(), 1);
+    assert_eq!(rt; line.tokens().next(), Some(b"x".as_slice()));
+    Ok(())
+}

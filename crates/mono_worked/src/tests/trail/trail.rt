@@ -1,0 +1,203 @@
+//! A trail beside a list that is searched from its start.
+
+ghost use Rattle.std.specs.Prelude.{IfSome};
+ghost use Rattle.mono_base.specs.Literal.{IsLitWithin};
+
+use super::draws::Draws;
+use mono_base::{Lit, Value};
+use mono_trail::{Reason, Trail};
+use std::alloc::AllocError;
+use std::process::Abort;
+use std::test::Fail;
+
+const VARS: u32 = 6;
+
+/// A literal with its level and its reason.
+#[derive(Clone, Copy)]
+struct Entry {
+    lit: Lit,
+    level: u32,
+    reason: Reason,
+}
+
+/// The literals that are true, in order, and how many were given.
+#[derive(Drop)]
+struct SlowTrail {
+    entries: Vec<Entry>,
+    given: usize,
+}
+
+impl SlowTrail {
+    fn level(&self) -> u32 {
+        match self.entries.last() {
+            None => 0,
+            Some(entry) => entry.level,
+        }
+    }
+
+    fn place_of(&self, var: u32) -> Option<usize> {
+        self.entries.iter().position(|entry| entry.lit.var() == var)
+    }
+
+    fn value(&self, lit: Lit) -> Value {
+        for entry in &self.entries {
+            if entry.lit == lit {
+                return Value::Yes;
+            }
+            if entry.lit == lit.negated() {
+                return Value::No;
+            }
+        }
+        Value::Unset
+    }
+
+    fn join(&mut self, lit: Lit, reason: Reason) -> Result<(), AllocError> {
+        let next = if reason == Reason::Decided { 1 } else { 0 };
+        let level = self.level().saturating_add(next);
+        self.entries.push(Entry { lit, level, reason })?;
+        Ok(())
+    }
+
+    fn backjump(&mut self, level: u32) {
+        let kept = self
+            .entries
+            .iter()
+            .filter(|entry| entry.level <= level)
+            .count();
+        self.entries.truncate(kept);
+        self.given = self.given.min(self.entries.len());
+    }
+
+    fn settle(&mut self, var: u32, number: u64) {
+        for entry in &mut self.entries {
+            if entry.lit.var() == var {
+                entry.reason = Reason::Clause(number);
+            }
+        }
+    }
+}
+
+/// A literal of the trail's variables, or none.
+fn draw_lit(draws: &mut Draws, trail: &Trail) -> Option<Lit>
+    ensures { IfSome result (λ l. IsLitWithin trail.now.vars l) }
+{
+    let sign = if draws.below(2) == 0 { 1 } else { -1 };
+    let lit = Lit::new(sign * draws.below(VARS + 1) as i32)?;
+    if lit.var() <= trail.vars() {
+        Some(lit)
+    } else {
+        None
+    }
+}
+
+/// How a literal comes onto the trail.
+fn draw_reason(draws: &mut Draws) -> Reason {
+    match draws.below(3) {
+        0 => Reason::Decided,
+        1 => Reason::Clause(u64::from(draws.below(9))),
+        _ => Reason::Late {
+            atom: draws.below(3),
+            kept: draws.below(9),
+        },
+    }
+}
+
+/// An open literal joins both.
+fn join(trail: &mut Trail, slow: &mut SlowTrail, draws: &mut Draws) -> Result<(), AllocError> {
+    let Some(lit) = draw_lit(draws, trail) else {
+        return Ok(());
+    };
+    if trail.value(lit) != Value::Unset {
+        return Ok(());
+    }
+    let reason = draw_reason(draws);
+    if reason == Reason::Decided {
+        trail.decide(lit);
+    } else {
+        trail.imply(lit, reason);
+    }
+    slow.join(lit, reason)
+}
+
+/// Both go back to a level.
+fn backjump(trail: &mut Trail, slow: &mut SlowTrail, draws: &mut Draws) {
+    let level = draws.below(VARS);
+    if level <= trail.level() {
+        trail.backjump(level);
+        slow.backjump(level);
+    }
+}
+
+/// A late reason becomes a clause in both.
+fn settle(trail: &mut Trail, slow: &mut SlowTrail, draws: &mut Draws) {
+    let var = 1 + draws.below(VARS);
+    let number = u64::from(draws.below(9));
+    if var > trail.vars() {
+        return;
+    }
+    if let Some(Reason::Late { .. }) = trail.reason(var) {
+        trail.settle(var, number);
+        slow.settle(var, number);
+    }
+}
+
+/// Both give the same literal.
+fn give(rt: &impl Abort, trail: &mut Trail, slow: &mut SlowTrail) {
+    let lit = slow.entries.get(slow.given).map(|entry| entry.lit);
+    assert_eq!(rt; trail.next_due(), lit);
+    slow.given = slow.given.saturating_add(1).min(slow.entries.len());
+}
+
+/// Both say the same of a literal.
+fn assert_same_literal(rt: &impl Abort, trail: &Trail, slow: &SlowTrail, number: i32) {
+    let Some(lit) = Lit::new(number) else {
+        return;
+    };
+    let var = lit.var();
+    assert!(rt; var <= trail.vars());
+    let place = slow.place_of(var);
+    assert_eq!(rt; trail.value(lit), slow.value(lit));
+    assert_eq!(rt; trail.place_of(var).map(|place| place as usize), place);
+    let entry = place.and_then(|place| slow.entries.get(place));
+    assert_eq!(rt; trail.level_of(var), entry.map(|entry| entry.level));
+    assert_eq!(rt; trail.reason(var), entry.map(|entry| entry.reason));
+}
+
+/// Both hold the same literals at the same levels.
+fn assert_same(rt: &impl Abort, trail: &Trail, slow: &SlowTrail) {
+    assert_eq!(rt; trail.level(), slow.level());
+    assert_eq!(rt; trail.lits().len(), slow.entries.len());
+    for level in 0..VARS {
+        let count = slow
+            .entries
+            .iter()
+            .filter(|entry| entry.level <= level)
+            .count();
+        assert_eq!(rt; trail.count_to(level), count);
+    }
+    for number in -6..=6 {
+        assert_same_literal(rt, trail, slow, number);
+    }
+}
+
+#[test]
+fn drawn_calls_of_a_trail(rt: HostRuntime) -> Result<(), Fail> {
+    for seed in 1..=20 {
+        let mut draws = Draws::new(seed);
+        let mut trail = Trail::new(rt.alloc(), VARS)?;
+        let mut slow = SlowTrail {
+            entries: Vec::new(rt.alloc()),
+            given: 0,
+        };
+        for _ in 0..200 {
+            match draws.below(8) {
+                0 => backjump(&mut trail, &mut slow, &mut draws),
+                1 => settle(&mut trail, &mut slow, &mut draws),
+                2 | 3 => give(&rt, &mut trail, &mut slow),
+                _ => join(&mut trail, &mut slow, &mut draws)?,
+            }
+            assert_same(&rt, &trail, &slow);
+        }
+    }
+    Ok(())
+}

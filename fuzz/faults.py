@@ -1,0 +1,93 @@
+#!/usr/bin/env python3
+"""Refuses requests for memory, and calls on files, one a run: faults.py --program PATH
+
+A small library (faults/refuse.c) stands in front of the C library's. Each run either ends as the undisturbed one does, or
+as the call that was refused asks: without memory with 6 and nothing written, where a file couldn't be opened or read with
+4 and `read fault`, and where a write failed with 5 and a prefix of the text. Where the machine has no C compiler, it says
+so and tries nothing.
+"""
+
+import argparse
+import os
+import shutil
+import subprocess
+import sys
+import tempfile
+from pathlib import Path
+
+HERE = Path(__file__).resolve().parent
+FIRST = HERE.parent / "examples" / "first"
+READ_FAULT = 4
+WRITE_FAULT = 5
+OUT_OF_MEMORY = 6
+# By kind of call: once so many refusals in a row changed nothing, the run makes no further call of that kind.
+MOST_SPARED = {"memory": 60, "open": 3, "read": 3, "write": 3}
+
+Ending = tuple[int, bytes]
+
+
+def commands() -> list[list[str]]:
+    """The words of the runs."""
+    routes, refutation = str(FIRST / "routes.gnf"), str(FIRST / "routes.refutation")
+    return [
+        ["check", routes, refutation],
+        ["print", routes],
+        ["solve", routes],
+        ["solve", routes, "--conflicts", "1"],
+        ["gen", "grid", "2", "7"],
+        ["gen", "wall", "3", "7", "--solve"],
+    ]
+
+
+def ending(words: list[str], library: str = "", kind: str = "", at: int = 0) -> Ending:
+    """The status and the text of a run that is refused the call of this kind and number."""
+    environment = dict(os.environ, LD_PRELOAD=library, REFUSE_KIND=kind, REFUSE_AT=str(at)) if library else None
+    run = subprocess.run(words, capture_output=True, env=environment, timeout=60)
+    return run.returncode, run.stdout
+
+
+def is_due(kind: str, found: Ending, undisturbed: Ending) -> bool:
+    """Whether a run that was refused a call of this kind ended as it should."""
+    status, text = found
+    if kind == "memory":
+        return found == (OUT_OF_MEMORY, b"")
+    if kind == "write":
+        return status == WRITE_FAULT and text != undisturbed[1] and undisturbed[1].startswith(text)
+    return found == (READ_FAULT, b"read fault\n")
+
+
+def places(words: list[str], library: str, kind: str) -> int:
+    """At how many places a refusal ended the run. A run that ends in any third way is an error."""
+    undisturbed = ending(words)
+    refused = spared = at = 0
+    while spared < MOST_SPARED[kind]:
+        at += 1
+        found = ending(words, library, kind, at)
+        if found == undisturbed:
+            spared += 1
+        elif is_due(kind, found, undisturbed):
+            refused, spared = refused + 1, 0
+        else:
+            sys.exit(f"{' '.join(words)}: {kind} {at} refused, ended with {found}")
+    return refused
+
+
+def main() -> None:
+    parser = argparse.ArgumentParser()
+    parser.add_argument("--program", required=True)
+    program = os.path.abspath(parser.parse_args().program)
+    compiler = shutil.which("cc")
+    if compiler is None:
+        print("skipped: no C compiler")
+        return
+    with tempfile.TemporaryDirectory() as folder:
+        library = os.path.join(folder, "refuse.so")
+        source = str(HERE / "faults" / "refuse.c")
+        subprocess.run([compiler, "-O2", "-shared", "-fPIC", "-o", library, source, "-ldl"], check=True)
+        for kind in MOST_SPARED:
+            refused = sum(places([program, *words], library, kind) for words in commands())
+            print(f"{kind}: {refused} calls refused, one a run: each run ended as it should")
+
+
+if __name__ == "__main__":
+    main()
