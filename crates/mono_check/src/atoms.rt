@@ -37,6 +37,29 @@ fn truths_of_walks(
     Ok(truths)
 }
 
+/// The number of the first predicate whose variable has the wrong value, in the order of the predicates.
+///
+/// It borrows the part, so that the part is dropped at one place only.
+fn first_wrong(
+    alloc: Global,
+    problem: &Problem,
+    model: &[bool],
+    part: &mut EnabledPart,
+) -> Result<Option<u32>, AllocError>
+    requires model { length model.now ≡ problem.now.vars }
+    requires enabled { IsEnabled problem.now (value_in model.now) part.old }
+    ensures { IfOk result (IsWrongAtom problem.now (value_in model.now)) }
+{
+    let count = problem.atom_count();
+    let truths = truths_of_walks(alloc, problem, model, part)?;
+    for place in 0..count {
+        if !part.is_right(alloc, problem, model, place + 1, truths[place as usize])? {
+            return Ok(Some(place + 1));
+        }
+    }
+    Ok(None)
+}
+
 /// The number of the first predicate whose variable is true where the predicate fails or false where it holds: `None`
 /// exactly where each predicate's variable is true exactly where its predicate holds. Variable x has the value
 /// `model[x - 1]`, and an edge is present where its variable is true.
@@ -48,18 +71,11 @@ pub fn first_wrong_atom(
     requires { length model.now ≡ problem.now.vars }
     ensures { IfOk result (IsWrongAtom problem.now (value_in model.now)) }
 {
-    let count = problem.atom_count();
-    if count == 0 {
+    if problem.atom_count() == 0 {
         return Ok(None);
     }
     let _ = problem.vars();
     let first = problem.atom(1);
     let mut part = EnabledPart::new(alloc, problem, model, first.graph)?;
-    let truths = truths_of_walks(alloc, problem, model, &mut part)?;
-    for place in 0..count {
-        if !part.is_right(alloc, problem, model, place + 1, truths[place as usize])? {
-            return Ok(Some(place + 1));
-        }
-    }
-    Ok(None)
+    first_wrong(alloc, problem, model, &mut part)
 }

@@ -80,12 +80,13 @@ impl EnabledPart {
         let _ = problem.vars();
         let graph = problem.graph(place);
         let nodes = graph.nodes();
+        // The greatest last, since each is dropped where a later one finds no memory.
         Ok(EnabledPart {
             graph: place,
             part: enabled_edges(alloc, graph, model)?,
+            trees: TreeFinder::new(alloc, nodes)?,
             walks: WalkFinder::new(alloc, nodes)?,
             flows: FlowFinder::new(alloc, nodes)?,
-            trees: TreeFinder::new(alloc, nodes)?,
         })
     }
 

@@ -8,5 +8,4 @@ mod Solves
 mod Sound
 mod Stages
 mod Values
-pub mod WorkedTrimmed
 mod Summaries

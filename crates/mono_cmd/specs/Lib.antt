@@ -4,4 +4,3 @@ pub mod Solved
 pub mod Endings
 pub mod Runs
 pub mod Worked
-pub mod WorkedTrimmed

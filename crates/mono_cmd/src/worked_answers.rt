@@ -2,8 +2,7 @@
 
 ghost use Rattle.std.specs.Prelude.{[], ◌∷◌, true, false};
 ghost use Rattle.mono_answer.specs.declared.answer.Answer.TheVariants as answer;
-ghost use Rattle.mono_steps.specs.WorkedLemmas.{barred};
-ghost use Rattle.mono_cmd.specs.WorkedTrimmed.{with_two_lemmas, with_one_lemma};
+ghost use Rattle.mono_steps.specs.WorkedLemmas.{barred, with_two_lemmas, with_one_lemma};
 ghost use Rattle.mono_search.specs.Worked.{two_clauses, first_learned};
 ghost use Rattle.mono_cmd.specs.Solved.{IsAnswer};
 

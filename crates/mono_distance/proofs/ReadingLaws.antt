@@ -31,6 +31,7 @@ use Rattle.mono_steps.specs.Witnesses.{is_positive, passes, placed}
 use Rattle.mono_theory.specs.declared.evidence.Evidence.{Evidence}
 use Rattle.mono_theory.specs.declared.stage.Stage.{Stage}
 use Rattle.mono_theory.specs.declared.stage.Stage.TheVariants as stage
+use Rattle.mono_theory.specs.AtomPlaces.{place_of_atom}
 use Rattle.mono_theory.specs.Evidences.{Decides}
 use Rattle.mono_theory.specs.Frames.{AreAtomsOf}
 use Rattle.mono_theory.specs.Sound.{IsRightIn, IsSound, IsWitnessIn, evidence_at}
@@ -44,27 +45,16 @@ use Rattle.mono_rows.specs.RowSides.{RowsView}
 use Rattle.mono_rows.proofs.SureLaws.{sure_all}
 use Rattle.mono_distance.specs.Distances.{is_distance, predicate_of}
 use Rattle.mono_distance.specs.Labels.{entry_in, value_by}
+use Rattle.mono_theory.proofs.AtomPlaceLaws.{place_held}
 use Rattle.mono_theory.proofs.PartLaws.{part_len}
 use Rattle.mono_theory.proofs.SideLaws.{shown_now}
 use Rattle.mono_theory.proofs.SoundLaws.{sound_decides, sound_witness}
 use Rattle.mono_distance.specs.declared.node_labels.Labels.{Labels}
-use Rattle.mono_distance.specs.Readings.{IsReached, IsLeast, IsRightSide, above, bound_number, labels_at, labels_in, over_by, over_in, over_of, place_in, under_at, under_in}
+use Rattle.mono_distance.specs.Readings.{IsReached, IsLeast, IsRightSide, above, bound_number, labels_at, labels_in, over_by, over_in, over_of, under_at, under_in}
 use Rattle.mono_distance.specs.SureLabels.{SureLabels, AreLabelsAfter, last_node, is_alike, is_within, limit_of, row_of_atom, under_label}
 use Rattle.mono_distance.proofs.LabelLaws.{label_is}
 use Rattle.mono_distance.proofs.SourceLaws.{alike_itself}
 use Rattle.mono_distance.proofs.SureLaws.{label_walk, label_decides, labels_uncut, last_asked, limit_asked, low_enough, of_holds, under_cap}
-
--- ---- the place of an atom
-
-by_number : (xs : List Atom) (n : ℕ) (x : Atom) (b : Bool) → eqb x.number n ≡ b → IsSome (cond b (Some x) (atom_of xs n))
-    → (IsSome (atom_of xs n) → (place_in xs n < length xs) × ((atom_at xs (place_in xs n)).number ≡ n))
-    → (cond b 0 (suc (place_in xs n)) < suc (length xs)) × ((atom_at (x ∷ xs) (cond b 0 (suc (place_in xs n)))).number ≡ n)
-by_number xs n x true e some rest = (omega arith, eqb-true x.number n e)
-by_number xs n x false e some rest = (let r = rest some in (omega (arith, r.0), r.1))
-
-pub place_held : (atoms : List Atom) (n : ℕ) → IsSome (atom_of atoms n) → (place_in atoms n < length atoms) × ((atom_at atoms (place_in atoms n)).number ≡ n)
-place_held [] n some = absurd cc
-place_held (x ∷ xs) n some = by_number xs n x (eqb x.number n) refl some (place_held xs n)
 
 -- ---- with the surely present edges
 
@@ -303,10 +293,10 @@ decided_under f (side.Searches s) a graph over-it kind-it lt none h =
     decides_by f.graph (under f.graph f.seen) q (shows (stage_at s.stages a)) (is_some (under_in (side.Searches s) a q (last_node q))) (at_last q (shows (stage_at s.stages a)) (bound_number (bound_of (limit_of q))))
     (by_stage a (stage_at s.stages a) graph over-it lt h refl (none a stage.Waits (omega (arith, lt, len))))
 
-found_at : (f : Facts) (n : ℕ) (x : Atom) → AreAtomsOf f.graph f.atoms → atom_of f.atoms n ≡ Some x → (place_in f.atoms n < length f.atoms) × (atom_at f.atoms (place_in f.atoms n) ≡ x)
+found_at : (f : Facts) (n : ℕ) (x : Atom) → AreAtomsOf f.graph f.atoms → atom_of f.atoms n ≡ Some x → (place_of_atom f.atoms n < length f.atoms) × (atom_at f.atoms (place_of_atom f.atoms n) ≡ x)
 found_at f n x known is =
     let held = place_held f.atoms n (subst (λ (o : Option Atom). IsSome o) (sym is) (cc)) in
-    let own : atom_of f.atoms (atom_at f.atoms (place_in f.atoms n)).number ≡ Some (atom_at f.atoms (place_in f.atoms n)) = known.numbers (place_in f.atoms n) no_atom held.0 in
+    let own : atom_of f.atoms (atom_at f.atoms (place_of_atom f.atoms n)).number ≡ Some (atom_at f.atoms (place_of_atom f.atoms n)) = known.numbers (place_of_atom f.atoms n) no_atom held.0 in
     (held.0, some_same _ _ (sym own ∙ (ap (atom_of f.atoms) held.1 ∙ is)))
   where
     some_same : (y z : Atom) → Some y ≡ Some z → y ≡ z
@@ -318,7 +308,7 @@ pub labels_decide : (s : GraphTheoryView (EitherSide SureLabels)) (n : ℕ) (x :
     → Decides s.graph (under s.graph s.seen) x.predicate (is_some (labels_in s n (last_node x.predicate)).under) × Decides s.graph (over s.graph s.seen) x.predicate (is_within (labels_in s n (last_node x.predicate)).over (limit_of x.predicate))
 labels_decide s n x graph known covered right possibly decides none is =
     let f : Facts = facts_in s in
-    let a = place_in s.atoms n in
+    let a = place_of_atom s.atoms n in
     let p = found_at f n x known is in
     let over-it : IsOver s.graph (atom_at s.atoms a).predicate = (known.over a no_atom p.0).1 in
     let kind-it : IsTrue (is_distance (atom_at s.atoms a).predicate) = covered.each a no_atom p.0 in
@@ -351,12 +341,12 @@ under_stays f l (side.Searches s) (side.Rows r) a q v same = absurd same
 
 pub labels_stay : (s r : GraphTheoryView (EitherSide SureLabels)) (lit : ℤ) (n v : ℕ) → r.atoms ≡ s.atoms → IsEitherKept (facts_in s) lit s.surely r.surely → IsKeptBy s.graph true lit s.possibly r.possibly → labels_in r n v ≡ labels_in s n v
 labels_stay s r lit n v atoms surely kept =
-    let a = place_in s.atoms n in
+    let a = place_of_atom s.atoms n in
     let q = (atom_at s.atoms a).predicate in
     let shown : r.possibly.shown ≡ s.possibly.shown = ap (λ (x : SideView). x.shown) kept.same in
     let stage : over_of (limit_of q) v (stage_at r.possibly.stages a) (evidence_at s.possibly.shown a) ≡ over_of (limit_of q) v (stage_at s.possibly.stages a) (evidence_at s.possibly.shown a) =
     over_stays (limit_of q) v (stage_at s.possibly.stages a) (stage_at r.possibly.stages a) (evidence_at s.possibly.shown a) (stage_stays a kept) in
-    ap (λ (xs : List Atom). labels_at r (place_in xs n) (atom_at xs (place_in xs n)).predicate v) atoms
+    ap (λ (xs : List Atom). labels_at r (place_of_atom xs n) (atom_at xs (place_of_atom xs n)).predicate v) atoms
     ∙ (ap (λ (o : Option ℕ). let x : Labels = record { under = o; over = over_of (limit_of q) v (stage_at r.possibly.stages a) (evidence_at r.possibly.shown a) } in x) (under_stays (facts_in s) lit s.surely r.surely a q v surely)
     ∙ (ap (λ (es : List (Option Evidence)). let x : Labels = record { under = under_in s.surely a q v; over = over_of (limit_of q) v (stage_at r.possibly.stages a) (evidence_at es a) } in x) shown
     ∙ ap (λ (d : ℕ). let x : Labels = record { under = under_in s.surely a q v; over = d } in x) stage))
@@ -450,7 +440,7 @@ searches_reach f a u w v number l x is last same kind-it shown =
     let number-is : bound_number (bound_of (limit_of q)) ≡ number = ap (λ (k : Limit). bound_number (bound_of k)) (limit_is q u w l is) ∙ sym same in
     subst (λ (m : ℕ). IsReached g P q m number) (sym (last ∙ sym (ap last_node is ∙ last_asked u w l))) (subst (λ (d : ℕ). IsReached g P q (last_node q) d) number-is shows-it)
 
-pub reading_is : (s : GraphTheoryView (EitherSide SureLabels)) (n v a u w r : ℕ) (l : Limit) (o : Option ℕ) → place_in s.atoms n ≡ a → (atom_at s.atoms a).predicate ≡ predicate_of u w l → o ≡ under_in s.surely a (atom_at s.atoms a).predicate v
+pub reading_is : (s : GraphTheoryView (EitherSide SureLabels)) (n v a u w r : ℕ) (l : Limit) (o : Option ℕ) → place_of_atom s.atoms n ≡ a → (atom_at s.atoms a).predicate ≡ predicate_of u w l → o ≡ under_in s.surely a (atom_at s.atoms a).predicate v
     → r ≡ over_of l v (stage_at s.possibly.stages a) (evidence_at s.possibly.shown a) → record { under = o; over = r } ≡ labels_in s n v
 reading_is s n v a u w r l o at is read r-is =
     let q = (atom_at s.atoms a).predicate in
@@ -458,3 +448,23 @@ reading_is s n v a u w r l o at is read r-is =
     ap (λ (p : Option ℕ). let x : Labels = record { under = p; over = r } in x) read
     ∙ (ap (λ (d : ℕ). let x : Labels = record { under = under_in s.surely a q v; over = d } in x) high
     ∙ sym (ap (λ (b : ℕ). labels_at s b (atom_at s.atoms b).predicate v) at))
+
+-- a reading of the last node decides
+
+pub under_decides : (f : Facts) (d : EitherSide SureLabels) (a v : ℕ) (o : Option ℕ) → IsGraph f.graph → IsOver f.graph (atom_at f.atoms a).predicate → IsTrue (is_distance (atom_at f.atoms a).predicate) → a < length f.atoms → IsEitherDecided f d → IsRightSide f d
+    → o ≡ under_in d a (atom_at f.atoms a).predicate v → v ≡ last_node (atom_at f.atoms a).predicate → Decides f.graph (under f.graph f.seen) (atom_at f.atoms a).predicate (is_some o)
+under_decides f d a v o graph over-it kind-it lt decided right read last =
+    let q = (atom_at f.atoms a).predicate in
+    decides_by f.graph (under f.graph f.seen) q (is_some (under_in d a q (last_node q))) (is_some o) (ap is_some (read ∙ ap (under_in d a q) last)) (decided_under f d a graph over-it kind-it lt decided right)
+
+pub over_decides : (f : Facts) (r : SideView) (a u w v d : ℕ) (l : Limit) → IsGraph f.graph → IsOver f.graph (atom_at f.atoms a).predicate → IsTrue (is_distance (atom_at f.atoms a).predicate) → a < length f.atoms → NoneWaits r.stages → IsSideFor f true true r
+    → (atom_at f.atoms a).predicate ≡ predicate_of u w l → d ≡ over_of l v (stage_at r.stages a) (evidence_at r.shown a) → v ≡ last_node (atom_at f.atoms a).predicate
+    → Decides f.graph (over f.graph f.seen) (atom_at f.atoms a).predicate (is_within d (limit_of (atom_at f.atoms a).predicate))
+over_decides f r a u w v d l graph over-it kind-it lt none right is read last =
+    let q = (atom_at f.atoms a).predicate in
+    let st = stage_at r.stages a in
+    let len = right.side.stages_len in
+    let same : d ≡ over_of (limit_of q) (last_node q) st (evidence_at r.shown a) =
+    read ∙ (ap (λ (k : Limit). over_of k v st (evidence_at r.shown a)) (sym (limit_is q u w l is)) ∙ ap (λ (x : ℕ). over_of (limit_of q) x st (evidence_at r.shown a)) last) in
+    decides_by f.graph (over f.graph f.seen) q (is_within (over_of (limit_of q) (last_node q) st (evidence_at r.shown a)) (limit_of q)) (is_within d (limit_of q)) (ap (λ (m : ℕ). is_within m (limit_of q)) same)
+    (at_stage {f = f} a st graph over-it kind-it lt right refl (none a stage.Waits (omega (arith, lt, len))))

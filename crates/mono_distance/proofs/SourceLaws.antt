@@ -9,12 +9,13 @@ use Rattle.std.proofs.Math.Seq.{get_or-append_seam}
 use Rattle.mono_graph.specs.declared.limit.Limit.{Limit}
 use Rattle.mono_graph.specs.declared.limit.Limit.TheVariants as limit
 use Rattle.mono_graph.specs.Walks.{bound_of}
+use Rattle.mono_paths.specs.Found.{HasBound}
 use Rattle.mono_dynamic.specs.declared.cost_source.CostSource.{CostSource}
 use Rattle.mono_problem.specs.declared.atom.Atom.{Atom}
 use Rattle.mono_problem.specs.declared.atom.Predicate.{Predicate}
 use Rattle.mono_theory.specs.Supports.{atom_at}
 use Rattle.mono_distance.specs.declared.sources.NodeRows.{NodeRows}
-use Rattle.mono_distance.specs.SureLabels.{is_alike, limit_of, source_at, no_source, no_rows, AreMoreSources, AreRowsOf, HaveRows, IsRowOf, IsRowTable, IsSourceFor}
+use Rattle.mono_distance.specs.SureLabels.{is_alike, limit_of, row_by, source_at, with_row, no_source, no_rows, AreApart, AreMoreSources, AreRowsOf, HaveRows, IsRowOf, IsRowTable, IsSourceFor}
 
 pub alike_itself : (l : Limit) → is_alike l l ≡ true
 alike_itself limit.Free = refl
@@ -48,8 +49,66 @@ row_added sources x =
       alike = ap (λ (s : CostSource). is_alike s.limit x.limit) last ∙ alike_itself x.limit;
     }
 
-pub table_more : (table : List NodeRows) (sources : List CostSource) (x : CostSource) (n : NodeRows) → IsRowTable table sources → x.node < length table → AreRowsOf (sources ++ x ∷ []) x.node n → IsRowTable (set table x.node n) (sources ++ x ∷ [])
-table_more table sources x n h lt now = record {
+-- the rows with one more, where none was by its measure
+
+alike_row : (n : NodeRows) (k l : Limit) → is_alike k l ≡ true → row_by n k ≡ row_by n l
+alike_row n limit.Free limit.Free same = refl
+alike_row n (limit.Steps a) (limit.Steps b) same = refl
+alike_row n (limit.Weight a) (limit.Weight b) same = refl
+alike_row n limit.Free (limit.Steps b) same = absurd cc
+alike_row n limit.Free (limit.Weight b) same = absurd cc
+alike_row n (limit.Steps a) limit.Free same = absurd cc
+alike_row n (limit.Steps a) (limit.Weight b) same = absurd cc
+alike_row n (limit.Weight a) limit.Free same = absurd cc
+alike_row n (limit.Weight a) (limit.Steps b) same = absurd cc
+
+has_row : (n : NodeRows) (l : Limit) (r : ℕ) → HasBound l → row_by (with_row n l r) l ≡ Some r
+has_row n limit.Free r bound = absurd bound
+has_row n (limit.Steps most) r bound = refl
+has_row n (limit.Weight most) r bound = refl
+
+keeps_rows : (n : NodeRows) (l k : Limit) (own r : ℕ) → row_by n l ≡ None → row_by n k ≡ Some r → row_by (with_row n l own) k ≡ Some r
+keeps_rows n limit.Free k own r none some = some
+keeps_rows n (limit.Steps a) limit.Free own r none some = some
+keeps_rows n (limit.Steps a) (limit.Steps b) own r none some = absurd cc
+keeps_rows n (limit.Steps a) (limit.Weight b) own r none some = some
+keeps_rows n (limit.Weight a) limit.Free own r none some = some
+keeps_rows n (limit.Weight a) (limit.Steps b) own r none some = some
+keeps_rows n (limit.Weight a) (limit.Weight b) own r none some = absurd cc
+
+-- an earlier row is still that of its node and measure
+kept_row : (table : List NodeRows) (sources : List CostSource) (x : CostSource) (r : ℕ) → row_by (get_or table x.node no_rows) x.limit ≡ None → x.node < length table → IsRowTable table sources → r < length sources
+    → row_by (get_or (set table x.node (with_row (get_or table x.node no_rows) x.limit (length sources))) (source_at sources r).node no_rows) (source_at sources r).limit ≡ Some r
+kept_row table sources x r none lt h before =
+    let own : NodeRows = get_or table x.node no_rows in
+    let next : NodeRows = with_row own x.limit (length sources) in
+    let s : CostSource = source_at sources r in
+    elim (cases_eq s.node x.node) [
+      | inl e ↦
+          let kept : row_by own s.limit ≡ Some r = subst (λ (u : ℕ). row_by (get_or table u no_rows) s.limit ≡ Some r) e (h.listed r before) in
+          subst (λ (u : ℕ). row_by (get_or (set table x.node next) u no_rows) s.limit ≡ Some r) (sym e)
+          (subst (λ (n : NodeRows). row_by n s.limit ≡ Some r) (sym (get_or-set_same table x.node next no_rows lt)) (keeps_rows own x.limit s.limit (length sources) r none kept))
+      | inr ne ↦ ap (λ (n : NodeRows). row_by n s.limit) (get_or-set_other table x.node s.node next no_rows ne) ∙ h.listed r before
+    ]
+
+listed_more : (table : List NodeRows) (sources : List CostSource) (x : CostSource) → HasBound x.limit → row_by (get_or table x.node no_rows) x.limit ≡ None → x.node < length table → IsRowTable table sources → (r : ℕ) → r < length (sources ++ x ∷ [])
+    → row_by (get_or (set table x.node (with_row (get_or table x.node no_rows) x.limit (length sources))) (source_at (sources ++ x ∷ []) r).node no_rows) (source_at (sources ++ x ∷ []) r).limit ≡ Some r
+listed_more table sources x bound none lt h r low =
+    let own : NodeRows = get_or table x.node no_rows in
+    let next : NodeRows = with_row own x.limit (length sources) in
+    let later : List NodeRows = set table x.node next in
+    elim (cases_lt r (length sources)) [
+      | inl before ↦ subst (λ (s : CostSource). row_by (get_or later s.node no_rows) s.limit ≡ Some r) (sym (get_or_append_left sources (x ∷ []) no_source r before)) (kept_row table sources x r none lt h before)
+      | inr here ↦
+          let last : r ≡ length sources = omega (arith, low, here, length-append sources (x ∷ [])) in
+          let added : row_by (get_or later x.node no_rows) x.limit ≡ Some (length sources) = ap (λ (n : NodeRows). row_by n x.limit) (get_or-set_same table x.node next no_rows lt) ∙ has_row own x.limit (length sources) bound in
+          subst (λ (i : ℕ). row_by (get_or later (source_at (sources ++ x ∷ []) i).node no_rows) (source_at (sources ++ x ∷ []) i).limit ≡ Some i) (sym last)
+          (subst (λ (s : CostSource). row_by (get_or later s.node no_rows) s.limit ≡ Some (length sources)) (sym (get_or-append_seam sources x [] no_source)) added)
+    ]
+
+pub table_more : (table : List NodeRows) (sources : List CostSource) (x : CostSource) (n : NodeRows) → IsRowTable table sources → x.node < length table → HasBound x.limit → row_by (get_or table x.node no_rows) x.limit ≡ None
+    → n ≡ with_row (get_or table x.node no_rows) x.limit (length sources) → AreRowsOf (sources ++ x ∷ []) x.node n → IsRowTable (set table x.node n) (sources ++ x ∷ [])
+table_more table sources x n h lt bound none made now = record {
   known = λ i d low. subst (λ (m : ℕ). (get_or (sources ++ x ∷ []) i d).node < m) (sym (length-set table x.node n))
       (All-append (λ (s : CostSource). s.node < length table) sources (x ∷ []) h.known (All-cons (λ (s : CostSource). s.node < length table) x [] lt (All-nil (λ (s : CostSource). s.node < length table))) i d low);
   each = λ u low. elim (cases_eq u x.node) [
@@ -58,7 +117,16 @@ table_more table sources x n h lt now = record {
         let inside : u < length table = omega (arith, low, length-set table x.node n) in
         subst (λ (m : NodeRows). AreRowsOf (sources ++ x ∷ []) u m) (sym (get_or-set_other table x.node u n no_rows ne)) (rows_of_more sources x u (get_or table u no_rows) (h.each u inside))
   ];
+  listed = λ r low. subst (λ (m : NodeRows). row_by (get_or (set table x.node m) (source_at (sources ++ x ∷ []) r).node no_rows) (source_at (sources ++ x ∷ []) r).limit ≡ Some r) (sym made) (listed_more table sources x bound none lt h r low);
 }
+
+-- a table has one row for each node and measure
+pub rows_apart : (table : List NodeRows) (sources : List CostSource) → IsRowTable table sources → AreApart sources
+rows_apart table sources h i j low high node alike =
+    same i j (sym (h.listed i low) ∙ (ap (λ (u : ℕ). row_by (get_or table u no_rows) (source_at sources i).limit) node ∙ (alike_row (get_or table (source_at sources j).node no_rows) (source_at sources i).limit (source_at sources j).limit alike ∙ h.listed j high)))
+  where
+    same : (a b : ℕ) → Some a ≡ Some b → a ≡ b
+    same a b e = cc
 
 pub row_raised : (olds news : List CostSource) (u : ℕ) (l : Limit) (r : ℕ) → AreMoreSources olds news → IsRowOf olds u l r → IsRowOf news u l r
 row_raised olds news u l r m h = record {
@@ -81,6 +149,9 @@ table_raised table olds news len m h = record {
     steps = some_raised olds news u (limit.Steps (pos 0)) (get_or table u no_rows).steps m own.steps;
     weight = some_raised olds news u (limit.Weight (pos 0)) (get_or table u no_rows).weight m own.weight;
   });
+  listed = λ r low.
+      let inside : r < length olds = omega (arith, low, len) in
+      ap (λ (u : ℕ). row_by (get_or table u no_rows) (source_at news r).limit) (m.node r inside) ∙ (ap (row_by (get_or table (source_at olds r).node no_rows)) (m.limit r inside) ∙ h.listed r inside);
 }
   where
     read : (i : ℕ) (d : CostSource) → i < length news → source_at news i ≡ get_or news i d

@@ -1,17 +1,17 @@
 -- What a theory of distances knows of nodes, for its atoms.
-use Rattle.std.specs.Prelude.{ℕ, suc, ◌≤◌, ◌==◌, ◌&&◌, Bool, true, ℤ, pos, negsuc, ◌+ℤ◌, int_le, min, List, [], ◌∷◌, Option, None, Some, IsTrue, if◌then◌else◌}
+use Rattle.std.specs.Prelude.{ℕ, suc, ◌≤◌, ◌==◌, ◌&&◌, Bool, true, ℤ, pos, negsuc, ◌+ℤ◌, int_le, min, List, Option, None, Some, IsTrue, if◌then◌else◌}
 use Rattle.mono_graph.specs.declared.label.Label.{Label}
 use Rattle.mono_graph.specs.declared.limit.Limit.{Limit}
 use Rattle.mono_graph.specs.Digraph.{Digraph}
 use Rattle.mono_graph.specs.Walks.{is_walk, bound_of}
 use Rattle.mono_dynamic.specs.Costs.{cost_along}
-use Rattle.mono_problem.specs.declared.atom.Atom.{Atom}
 use Rattle.mono_problem.specs.declared.atom.Predicate.{Predicate}
 use Rattle.mono_steps.specs.declared.lemma.Witness.{Witness}
 use Rattle.mono_steps.specs.declared.lemma.Witness.TheVariants as by
 use Rattle.mono_theory.specs.declared.evidence.Evidence.{Evidence}
 use Rattle.mono_theory.specs.declared.stage.Stage.{Stage}
 use Rattle.mono_theory.specs.declared.stage.Stage.TheVariants as stage
+use Rattle.mono_theory.specs.AtomPlaces.{place_of_atom}
 use Rattle.mono_theory.specs.Sound.{evidence_at}
 use Rattle.mono_theory.specs.Stages.{NoneWaits, shows, stage_at}
 use Rattle.mono_theory.specs.Supports.{GraphTheoryView, atom_at, facts_in}
@@ -35,11 +35,6 @@ pub record IsReached (g : Digraph) (P : List Bool) (q : Predicate) (v d : ℕ) :
 pub record IsLeast (g : Digraph) (P : List Bool) (q : Predicate) (v d : ℕ) : Type 0 where
   pub least : (ks : List ℕ) → IsTrue (is_walk g P (first_node q) v ks) → d ≤ cost_along (limit_of q) g ks
   pub most : IsTrue (int_le (pos d) (bound_of (limit_of q) +ℤ pos 1))
-
--- the place of the atom of a number
-abbrev pub place_in : List Atom → ℕ → ℕ
-place_in [] n = 0
-place_in (x ∷ xs) n = if x.number == n then 0 else suc (place_in xs n)
 
 -- one more than the bound
 abbrev pub above : ℤ → ℕ
@@ -83,7 +78,7 @@ abbrev pub labels_at : GraphTheoryView (EitherSide SureLabels) → ℕ → Predi
 labels_at s a q v = record { under = under_in s.surely a q v; over = over_of (limit_of q) v (stage_at s.possibly.stages a) (evidence_at s.possibly.shown a) }
 
 abbrev pub labels_in : GraphTheoryView (EitherSide SureLabels) → ℕ → ℕ → Labels
-labels_in s n v = labels_at s (place_in s.atoms n) (atom_at s.atoms (place_in s.atoms n)).predicate v
+labels_in s n v = labels_at s (place_of_atom s.atoms n) (atom_at s.atoms (place_of_atom s.atoms n)).predicate v
 
 -- what is kept decides each predicate with the surely present edges, and with the possibly present ones
 pub record AreBothDecided (s : GraphTheoryView (EitherSide SureLabels)) : Type 0 where

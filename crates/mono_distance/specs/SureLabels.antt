@@ -1,5 +1,5 @@
 -- What is kept of the labels of nodes along the surely present edges: a row for each first node and measure of an atom.
-use Rattle.std.specs.Prelude.{◌≡◌, ℕ, ◌<◌, ◌≤◌, Bool, true, false, pos, int_lt, int_le, List, None, IfSome, length, slice_index_or, All}
+use Rattle.std.specs.Prelude.{◌≡◌, ℕ, ◌<◌, ◌≤◌, Bool, true, false, pos, int_lt, int_le, List, Option, None, Some, IfSome, length, slice_index_or, All}
 use Rattle.mono_graph.specs.declared.limit.Limit.{Limit}
 use Rattle.mono_graph.specs.declared.limit.Limit.TheVariants as limit
 use Rattle.mono_graph.specs.Digraph.{Digraph}
@@ -102,10 +102,27 @@ pub record AreRowsOf (sources : List CostSource) (u : ℕ) (n : NodeRows) : Type
 abbrev pub no_rows : NodeRows
 no_rows = record { steps = None; weight = None }
 
--- by node its rows
+-- the node's row by the measure of a limit
+abbrev pub row_by : NodeRows → Limit → Option ℕ
+row_by n limit.Free = None
+row_by n (limit.Steps most) = n.steps
+row_by n (limit.Weight most) = n.weight
+
+-- with this row by the measure of a limit
+abbrev pub with_row : NodeRows → Limit → ℕ → NodeRows
+with_row n limit.Free r = n
+with_row n (limit.Steps most) r = record { steps = Some r; weight = n.weight }
+with_row n (limit.Weight most) r = record { steps = n.steps; weight = Some r }
+
+-- by node its rows, and each row is that of its node and measure
 pub record IsRowTable (table : List NodeRows) (sources : List CostSource) : Type 0 where
   pub known : All (λ s. s.node < length table) sources
   pub each : (u : ℕ) → u < length table → AreRowsOf sources u (slice_index_or table u no_rows)
+  pub listed : (r : ℕ) → r < length sources → row_by (slice_index_or table (source_at sources r).node no_rows) (source_at sources r).limit ≡ Some r
+
+-- no two rows are from the same node by the same measure
+abbrev pub AreApart : List CostSource → Type 0
+AreApart sources = (i j : ℕ) → i < length sources → j < length sources → (source_at sources i).node ≡ (source_at sources j).node → is_alike (source_at sources i).limit (source_at sources j).limit ≡ true → i ≡ j
 
 -- what is to be in a row
 pub record IsSourceFor (q : Predicate) (s : CostSource) : Type 0 where

@@ -5,7 +5,7 @@ ghost use Rattle.mono_paths.specs.Found.{HasBound};
 ghost use Rattle.mono_dynamic.specs.declared.cost_source.CostSource.{CostSource};
 ghost use Rattle.mono_theory.specs.Supports.{AreCovered};
 ghost use Rattle.mono_distance.specs.Distances.{is_distance};
-ghost use Rattle.mono_distance.specs.SureLabels.{limit_of, source_at, AreMoreSources, AreRowsOf, HaveRows, IsRowOf, IsRowTable, IsSourceFor};
+ghost use Rattle.mono_distance.specs.SureLabels.{limit_of, row_by, source_at, with_row, AreApart, AreMoreSources, AreRowsOf, HaveRows, IsRowOf, IsRowTable, IsSourceFor};
 
 use crate::distance::what_is_asked;
 use crate::label_table::others_of;
@@ -27,7 +27,8 @@ impl NodeRows {
     /// The row by the measure of a limit.
     fn row(self, limit: Limit) -> Option<u32>
         requires { HasBound limit }
-        ensures { (sources : List CostSource) (u : ℕ) → AreRowsOf sources u self → IfSome result (IsRowOf sources u limit) }
+        ensures value { result ≡ row_by self limit }
+        ensures right { (sources : List CostSource) (u : ℕ) → AreRowsOf sources u self → IfSome result (IsRowOf sources u limit) }
     {
         match limit {
             Limit::Free => unreachable!(),
@@ -39,7 +40,8 @@ impl NodeRows {
     /// And this one.
     fn with(self, limit: Limit, row: u32) -> NodeRows
         requires { HasBound limit }
-        ensures { (sources : List CostSource) (u : ℕ) → AreRowsOf sources u self → IsRowOf sources u limit row → AreRowsOf sources u result }
+        ensures value { result ≡ with_row self limit row }
+        ensures right { (sources : List CostSource) (u : ℕ) → AreRowsOf sources u self → IsRowOf sources u limit row → AreRowsOf sources u result }
     {
         match limit {
             Limit::Free => unreachable!(),
@@ -135,6 +137,7 @@ impl Sources {
         requires { AreCovered is_distance frame.now.atoms }
         ensures known { IfOk result (λ s. All (λ x. x.node < frame.now.graph.nodes) s.rows.items) }
         ensures caps { IfOk result (λ s. All (λ x. x.cap ≤ MAX_BOUND + 1) s.rows.items) }
+        ensures apart { IfOk result (λ s. AreApart s.rows.items) }
         ensures rows { IfOk result (λ s. HaveRows frame.now.atoms (length frame.now.atoms) s.row_of.items s.rows.items) }
     {
         let none = NodeRows {

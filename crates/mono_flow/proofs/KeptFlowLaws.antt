@@ -1,9 +1,7 @@
 -- What a theory of flows keeps is a flow, as far as it is read.
-use Rattle.std.proofs.Common.{Bor, ◌≡◌, ◌≢◌, ℕ, ◌<◌, Bool, true, false, ◌||◌, ◌==◌, cond, Option, None, Some, List, [], ◌∷◌, length, refl, sym, ap, subst, ◌∙◌, arith, MatchOption, le-leb}
-use Rattle.std.specs.Prelude.{IfNone, IfSome, IsSome, IsTrue, nat_le, unwrap_or, if◌then◌else◌}
-use Rattle.std.specs.List.{position_or_len}
-use Rattle.std.proofs.lemmas.Bool.{and_from, and_parts, eq-eqb, eqb-true, lt-ltb, ne_eqb, or_right}
-use Rattle.std.proofs.lemmas.List.Sums.{position_or_len_is}
+use Rattle.std.proofs.Common.{Bor, ◌≡◌, ◌≢◌, ℕ, ◌<◌, Bool, true, false, ◌||◌, ◌==◌, Option, None, Some, List, [], length, refl, sym, ap, subst, ◌∙◌, arith, MatchOption, le-leb}
+use Rattle.std.specs.Prelude.{IfNone, IfSome, IsSome, IsTrue, nat_le, if◌then◌else◌}
+use Rattle.std.proofs.lemmas.Bool.{and_from, and_parts, eq-eqb, or_right}
 use Rattle.mono_graph.specs.declared.amount.Amount.{Amount}
 use Rattle.mono_graph.specs.Digraph.{Digraph, IsGraph, edge_at, places, present}
 use Rattle.mono_graph.specs.Flows.{amount_at, inflow, is_conserved, is_flow, is_within, outflow}
@@ -13,18 +11,18 @@ use Rattle.mono_flows.proofs.OneEdge.{none, same_inflow, same_outflow}
 use Rattle.mono_problem.specs.declared.atom.Atom.{Atom}
 use Rattle.mono_problem.specs.declared.atom.Predicate.{Predicate}
 use Rattle.mono_problem.specs.declared.atom.Predicate.TheVariants as kind
-use Rattle.mono_problem.specs.Read.{no_atom}
 use Rattle.mono_steps.specs.declared.lemma.Witness.{Witness}
 use Rattle.mono_steps.specs.declared.lemma.Witness.TheVariants as by
 use Rattle.mono_steps.specs.Witnesses.{placed_amounts}
 use Rattle.mono_theory.specs.declared.evidence.Evidence.{Evidence}
 use Rattle.mono_theory.specs.declared.stage.Stage.{Stage}
 use Rattle.mono_theory.specs.declared.stage.Stage.TheVariants as stage
+use Rattle.mono_theory.specs.AtomPlaces.{place_of_atom}
 use Rattle.mono_theory.specs.Sound.{IsWitnessIn, atom_at}
 use Rattle.mono_theory.specs.Stages.{shows}
 use Rattle.mono_theory.specs.Supports.{GraphTheoryView, SideView}
 use Rattle.mono_theory.specs.Theories.{atom_of}
-use Rattle.mono_flow.specs.KeptFlows.{IsFlowFor, amounts_in, carried_at, flows_at, flows_in, over_flow, place_of_atom, showing, supporting, under_flow}
+use Rattle.mono_flow.specs.KeptFlows.{IsFlowFor, amounts_in, carried_at, flows_at, flows_in, over_flow, showing, supporting, under_flow}
 use Rattle.mono_flow.proofs.FlowEvidence.{IsFlowOf, flow_parts}
 use Rattle.mono_flow.proofs.Numbered.{placed_amount}
 
@@ -121,38 +119,20 @@ flow_read g P q (Some w) ms ok h right = subst (λ (xs : List Amount). IsFlowFor
 
 -- ---- the atom of a number
 
-found_number : (atoms : List Atom) (n : ℕ) (x : Atom) → atom_of atoms n ≡ Some x → x.number ≡ n
-found_number [] n x h = absurd cc
-found_number (y ∷ ys) n x h = by (y.number == n) refl h (found_number ys n x)
-  where
-    by : (b : Bool) → (y.number == n) ≡ b → cond b (Some y) (atom_of ys n) ≡ Some x → (atom_of ys n ≡ Some x → x.number ≡ n) → x.number ≡ n
-    by true is e later = ap (λ (o : Option Atom). (unwrap_or o y).number) (sym e) ∙ eqb-true y.number n is
-    by false is e later = later e
-
--- it is at the one place that has the number
-pub place_known : (atoms : List Atom) (n a : ℕ) → a < length atoms → atom_of atoms n ≡ Some (atom_at atoms a) → ((k : ℕ) → k < length atoms → (atom_at atoms k).number ≡ n → k ≡ a) → place_of_atom atoms n ≡ Some a
-place_known atoms n a lt found alone =
-    let number : (atom_at atoms a).number ≡ n = found_number atoms n (atom_at atoms a) found in
-    let here : position_or_len (λ (x : Atom). x.number == n) atoms ≡ a =
-    position_or_len_is (λ (x : Atom). x.number == n) atoms a no_atom (omega arith)
-    (λ j below. ne_eqb (atom_at atoms j).number n (λ same. let is = alone j (omega arith) same in omega (arith, is, below)))
-    (λ _. eq-eqb (atom_at atoms a).number n number) in
-    rw (here, lt-ltb a (length atoms) lt) refl
-
-pub flows_are : (s : GraphTheoryView SideView) (n a k under over : ℕ) → place_of_atom s.atoms n ≡ Some a → under ≡ carried_at s.graph (under_flow s.surely a) k → over ≡ carried_at s.graph (over_flow s.possibly a) k → record { under = under; over = over } ≡ flows_in s n k
+pub flows_are : (s : GraphTheoryView SideView) (n a k under over : ℕ) → place_of_atom s.atoms n ≡ a → under ≡ carried_at s.graph (under_flow s.surely a) k → over ≡ carried_at s.graph (over_flow s.possibly a) k → record { under = under; over = over } ≡ flows_in s n k
 flows_are s n a k under over place u o =
     (λ i. record { under = u i; over = o i })
-    ∙ ap (λ (p : Option ℕ). flows_at s (unwrap_or p (length s.atoms)) k) (sym place)
+    ∙ ap (λ (p : ℕ). flows_at s p k) (sym place)
 
 -- what holds of the flow of the atom at the place holds of what is read by its number
-pub under_read : (T : Predicate → (ℕ → ℕ) → Type 0) (s : GraphTheoryView SideView) (n a : ℕ) → place_of_atom s.atoms n ≡ Some a → atom_of s.atoms n ≡ Some (atom_at s.atoms a) → T (atom_at s.atoms a).predicate (carried_at s.graph (under_flow s.surely a))
+pub under_read : (T : Predicate → (ℕ → ℕ) → Type 0) (s : GraphTheoryView SideView) (n a : ℕ) → place_of_atom s.atoms n ≡ a → atom_of s.atoms n ≡ Some (atom_at s.atoms a) → T (atom_at s.atoms a).predicate (carried_at s.graph (under_flow s.surely a))
     → MatchOption (atom_of s.atoms n) ⊥ (λ x. T x.predicate (λ k. (flows_in s n k).under))
 under_read T s n a place found h =
     subst (λ (o : Option Atom). MatchOption o ⊥ (λ x. T x.predicate (λ k. (flows_in s n k).under))) (sym found)
-    (subst (λ (p : Option ℕ). T (atom_at s.atoms a).predicate (λ k. (flows_at s (unwrap_or p (length s.atoms)) k).under)) (sym place) h)
+    (subst (λ (p : ℕ). T (atom_at s.atoms a).predicate (λ k. (flows_at s p k).under)) (sym place) h)
 
-pub over_read : (T : Predicate → (ℕ → ℕ) → Type 0) (s : GraphTheoryView SideView) (n a : ℕ) → place_of_atom s.atoms n ≡ Some a → atom_of s.atoms n ≡ Some (atom_at s.atoms a) → T (atom_at s.atoms a).predicate (carried_at s.graph (over_flow s.possibly a))
+pub over_read : (T : Predicate → (ℕ → ℕ) → Type 0) (s : GraphTheoryView SideView) (n a : ℕ) → place_of_atom s.atoms n ≡ a → atom_of s.atoms n ≡ Some (atom_at s.atoms a) → T (atom_at s.atoms a).predicate (carried_at s.graph (over_flow s.possibly a))
     → MatchOption (atom_of s.atoms n) ⊥ (λ x. T x.predicate (λ k. (flows_in s n k).over))
 over_read T s n a place found h =
     subst (λ (o : Option Atom). MatchOption o ⊥ (λ x. T x.predicate (λ k. (flows_in s n k).over))) (sym found)
-    (subst (λ (p : Option ℕ). T (atom_at s.atoms a).predicate (λ k. (flows_at s (unwrap_or p (length s.atoms)) k).over)) (sym place) h)
+    (subst (λ (p : ℕ). T (atom_at s.atoms a).predicate (λ k. (flows_at s p k).over)) (sym place) h)

@@ -1,5 +1,5 @@
 -- Predicates on flows, and flows and sets of nodes as evidence.
-use Rattle.std.specs.Prelude.{◌≡◌, ℕ, ◌≤◌, Bool, true, false, not, IsTrue, nat_lt, List, map, filter}
+use Rattle.std.specs.Prelude.{◌≡◌, ℕ, ◌+◌, ◌<◌, ◌≤◌, Bool, true, false, not, IsTrue, nat_lt, List, map, filter}
 use Rattle.mono_graph.specs.declared.amount.Amount.{Amount}
 use Rattle.mono_graph.specs.Digraph.{Digraph, edge_at, has, weight_of}
 use Rattle.mono_problem.specs.declared.atom.Predicate.{Predicate}
@@ -28,6 +28,10 @@ flow_evidence g amounts = record { witness = by.Flow (numbered g amounts); edges
 pub record AreNeeded (g : Digraph) (spare : ℕ) (absent named : List ℕ) : Type 0 where
   pub listed : (k : ℕ) → IsTrue (has named k) → IsTrue (has absent k)
   pub others : weight_of g (filter (λ k. not (has named k)) absent) ≤ spare
+
+-- each of them has to: if it could come too, those that aren't named would weigh more
+abbrev pub EachIsNeeded : Digraph → ℕ → List ℕ → List ℕ → Type 0
+EachIsNeeded g spare absent named = (k : ℕ) → IsTrue (has named k) → spare < weight_of g (filter (λ j. not (has named j)) absent) + (edge_at g k).weight
 
 -- a set of nodes rests on the absent edges that leave it, but for some that weigh at most this in sum
 pub record IsCutEvidence (g : Digraph) (P : List Bool) (spare : ℕ) (set : List ℕ) (e : Evidence) : Type 0 where

@@ -1,11 +1,10 @@
 -- What a theory of flows keeps of the edges, for an atom: a flow along the surely present edges and one along the possibly
 -- present ones. They are in the evidence that is kept of the atom, and carry nothing where that isn't known to be right.
-use Rattle.std.specs.Prelude.{◌≡◌, ℕ, ◌<◌, ◌==◌, Bool, false, ℤ, pos, int_lt, List, [], Option, Some, IsTrue, int_le, length, position, unwrap_or, ◌↔◌}
+use Rattle.std.specs.Prelude.{◌≡◌, ℕ, ◌<◌, Bool, false, ℤ, pos, int_lt, List, [], Option, Some, IsTrue, int_le, length, ◌↔◌}
 use Rattle.mono_base.specs.Literal.{var_of}
 use Rattle.mono_graph.specs.declared.amount.Amount.{Amount}
 use Rattle.mono_graph.specs.Digraph.{Digraph, edge_at}
 use Rattle.mono_graph.specs.Flows.{amount_at, is_flow, value_of}
-use Rattle.mono_problem.specs.declared.atom.Atom.{Atom}
 use Rattle.mono_problem.specs.declared.atom.Predicate.{Predicate}
 use Rattle.mono_problem.specs.declared.atom.Predicate.TheVariants as kind
 use Rattle.mono_problem.specs.Holds.{Holds}
@@ -14,6 +13,7 @@ use Rattle.mono_steps.specs.declared.lemma.Witness.TheVariants as by
 use Rattle.mono_theory.specs.declared.evidence.Evidence.{Evidence}
 use Rattle.mono_theory.specs.declared.stage.Stage.{Stage}
 use Rattle.mono_theory.specs.declared.stage.Stage.TheVariants as stage
+use Rattle.mono_theory.specs.AtomPlaces.{place_of_atom}
 use Rattle.mono_theory.specs.Sound.{evidence_at}
 use Rattle.mono_theory.specs.Stages.{NoneWaits, stage_at}
 use Rattle.mono_theory.specs.Supports.{GraphTheoryView, SideView}
@@ -44,16 +44,12 @@ under_flow s a = showing (stage_at s.stages a) (evidence_at s.shown a)
 abbrev pub carried_at : Digraph → List Amount → ℕ → ℕ
 carried_at g amounts k = amount_at amounts (edge_at g k).number
 
--- the place of the atom with the number
-abbrev pub place_of_atom : List Atom → ℕ → Option ℕ
-place_of_atom atoms n = position (λ x. x.number == n) atoms
-
 -- what is kept of the edge at a place for the atom at a place, and for the atom of a number
 abbrev pub flows_at : GraphTheoryView SideView → ℕ → ℕ → Flows
 flows_at s a k = record { under = carried_at s.graph (under_flow s.surely a) k; over = carried_at s.graph (over_flow s.possibly a) k }
 
 abbrev pub flows_in : GraphTheoryView SideView → ℕ → ℕ → Flows
-flows_in s n k = flows_at s (unwrap_or (place_of_atom s.atoms n) (length s.atoms)) k
+flows_in s n k = flows_at s (place_of_atom s.atoms n) k
 
 -- a flow in the part between the nodes of a predicate on flows
 abbrev pub IsFlowFor : Digraph → List Bool → Predicate → (ℕ → ℕ) → Type 0

@@ -6,10 +6,11 @@
 
 ghost use Rattle.std.specs.Prelude.{◌≡◌, ◌<◌, ◌+◌, All, IfOk, IsTrue, int_lt, length, pos};
 ghost use Rattle.mono_flows.specs.Answers.{HasValue, IsKnown, IsSmall, Passes};
-ghost use Rattle.mono_graph.specs.Digraph.{IsPartOf};
+ghost use Rattle.mono_graph.specs.Digraph.{IsPartOf, is_distinct};
 ghost use Rattle.mono_problem.specs.WellFormed.{IsOver};
 ghost use Rattle.mono_theory.specs.Evidences.{IsEvidence};
-ghost use Rattle.mono_flow.specs.Flowing.{numbered as numbered_by, carrying as carrying_of, flow_evidence as flow_evidence_of, AreNeeded, IsCutEvidence};
+ghost use Rattle.mono_theory.specs.Resting.{absent_out};
+ghost use Rattle.mono_flow.specs.Flowing.{numbered as numbered_by, carrying as carrying_of, flow_evidence as flow_evidence_of, AreNeeded, EachIsNeeded, IsCutEvidence};
 
 use crate::kept_flows::KeptFlows;
 use mono_base::Row;
@@ -81,10 +82,12 @@ fn flow_evidence(alloc: Global, graph: &Graph, amounts: &[Amount]) -> Result<Evi
     })
 }
 
-/// Those of the edges that have to stay absent, where the others may weigh `spare` in sum.
+/// Those of the edges that have to stay absent, where the others may weigh `spare` in sum. Where no edge is listed twice,
+/// none of them could come as well.
 fn needed(alloc: Global, graph: &Graph, absent: &[u32], spare: u64) -> Result<Vec<u32>, AllocError>
     requires { All (λ k. k < length graph.now.edges) absent.now }
-    ensures { IfOk result (λ named. AreNeeded graph.now spare absent.now named.items) }
+    ensures others { IfOk result (λ named. AreNeeded graph.now spare absent.now named.items) }
+    ensures each { IfOk result (λ named. IsTrue (is_distinct absent.now) → EachIsNeeded graph.now spare absent.now named.items) }
 {
     let mut left = spare;
     let mut named = Vec::new(alloc);
@@ -100,7 +103,7 @@ fn needed(alloc: Global, graph: &Graph, absent: &[u32], spare: u64) -> Result<Ve
 }
 
 /// The evidence that a set of nodes is, where absent edges that weigh `spare` in sum may come. It rests on the other
-/// absent edges that leave it.
+/// absent edges that leave it, none of which could come as well where no node is listed twice.
 fn cut_evidence(
     alloc: Global,
     marks: &mut NodeMarks,
@@ -114,6 +117,7 @@ fn cut_evidence(
     requires nodes { All (λ u. u < graph.now.nodes) nodes.items }
     ensures size { marks.new ≡ marks.old }
     ensures evidence { IfOk result (IsCutEvidence graph.now part.now spare nodes.items) }
+    ensures each { IfOk result (λ e. IsTrue (is_distinct nodes.items) → EachIsNeeded graph.now spare (absent_out graph.now part.now nodes.items) e.edges) }
 {
     let absent = marks.absent_leaving(alloc, graph, part, nodes.as_slice())?;
     let edges = needed(alloc, graph, absent.as_slice(), spare)?;

@@ -6,7 +6,7 @@
 //! carries nothing, so what leaves them weighs exactly as much as is carried (Ford and Fulkerson, 1956). A search may
 //! begin with what an earlier one found.
 
-ghost use Rattle.std.specs.Prelude.{◌≡◌, ◌≢◌, ◌<◌, ◌≤◌, ◌+◌, ◌^◌, ◌≤ℤ◌, pos, false, All, IfOk, IsTrue, length};
+ghost use Rattle.std.specs.Prelude.{◌≡◌, ◌≢◌, ◌<◌, ◌≤◌, ◌+◌, ◌^◌, ◌≤ℤ◌, pos, All, IfOk, OnOk, length};
 ghost use Rattle.mono_graph.specs.Digraph.{IsPartOf};
 ghost use Rattle.mono_flows.specs.Residual.{amount_of};
 ghost use Rattle.mono_flows.specs.Visits.{IsSearch, IsBlocked};
@@ -136,7 +136,7 @@ impl FlowFinder {
         };
         let goal = unsigned(least);
         let mut flow = begin(alloc, &network, &mut self.sums, kept.as_slice(), goal)?;
-        let is_enough = grow(
+        grow(
             &network,
             &mut flow,
             &mut self.search,
@@ -144,19 +144,8 @@ impl FlowFinder {
             &mut self.path,
             goal,
         )?;
-        *kept = flow.listed(alloc, &network)?;
-        if is_enough {
-            let amounts = Vec::from_slice(alloc, kept.as_slice())?;
-            return Ok(Found {
-                answer: FlowOrCut::Flow(amounts),
-                value: flow.value,
-            });
-        }
-        let nodes = marked_nodes(alloc, &self.search.marks, graph.nodes())?;
-        Ok(Found {
-            answer: FlowOrCut::Cut(nodes),
-            value: flow.value,
-        })
+        let marks = self.search.marks.as_slice();
+        outcome(alloc, &network, &flow, marks, goal, kept)
     }
 }
 
@@ -186,8 +175,8 @@ fn begin(
     }
 }
 
-/// Makes the flow greater until it carries as much as is asked for, or no augmenting path is left. Whether it carries
-/// as much; if not, the marked nodes are those that can still be reached.
+/// Makes the flow greater until it carries as much as is asked for, or no augmenting path is left: then the marked nodes
+/// are those that can still be reached.
 fn grow(
     network: &Network,
     flow: &mut Flow,
@@ -195,30 +184,68 @@ fn grow(
     levels: &mut LevelGraph,
     path: &mut Vec<Visit>,
     goal: u64,
-) -> Result<bool, AllocError>
+) -> Result<(), AllocError>
     requires apart { network.now.source ≢ network.now.sink }
     requires flow { IsFlow network.now flow.old }
     requires most { flow.old.value ≤ goal }
     requires search { IsSearch network.now.graph.now.nodes search.old }
     requires levels { AreLevels network.now.graph.now.nodes levels.old }
     requires small { goal ≤ MAX_BOUND + 1 }
-    ensures flow { IfOk result (λ _. IsFlow network.now flow.new) }
-    ensures enough { IfOk result (λ is_enough. IsTrue is_enough → flow.new.value ≡ goal) }
-    ensures less { IfOk result (λ is_enough. is_enough ≡ false → flow.new.value < goal) }
-    ensures blocked { IfOk result (λ is_enough. is_enough ≡ false → IsBlocked network.now.graph.now network.now.part.now (amount_of flow.new.amounts.items) network.now.source network.now.sink search.new.marks.items) }
+    ensures flow { OnOk result (IsFlow network.now flow.new) }
+    ensures most { OnOk result (flow.new.value ≤ goal) }
+    ensures blocked { OnOk result (flow.new.value < goal → IsBlocked network.now.graph.now network.now.part.now (amount_of flow.new.amounts.items) network.now.source network.now.sink search.new.marks.items) }
     ensures search { IsSearch network.now.graph.now.nodes search.new }
     ensures levels { AreLevels network.now.graph.now.nodes levels.new }
 {
     while flow.value < goal {
         levels.clear(&search.visits);
         if !search.find_path(network, &flow.amounts, goal - flow.value)? {
-            return Ok(false);
+            return Ok(());
         }
         flow.augment(network, &search.visits, goal);
         levels.set_levels(&search.visits, network.source);
         add_blocking_flow(network, flow, levels, path, goal)?;
     }
-    Ok(true)
+    Ok(())
+}
+
+/// The flow that a search came to, or where it carries less than is asked for, the cut that the marked nodes are. The
+/// amounts of the flow are kept.
+fn outcome(
+    alloc: Global,
+    network: &Network,
+    flow: &Flow,
+    marks: &[bool],
+    goal: u64,
+    kept: &mut Vec<Amount>,
+) -> Result<Found, AllocError>
+    requires flow { IsFlow network.now flow.now }
+    requires most { flow.now.value ≤ goal }
+    requires small { goal ≤ MAX_BOUND + 1 }
+    requires marks { length marks.now ≡ network.now.graph.now.nodes }
+    requires blocked { flow.now.value < goal → IsBlocked network.now.graph.now network.now.part.now (amount_of flow.now.amounts.items) network.now.source network.now.sink marks.now }
+    requires kept { All (λ a. a.edge < length network.now.graph.now.edges) kept.old.items }
+    ensures passes { IfOk result (λ found. Passes network.now.graph.now network.now.part.now network.now.source network.now.sink (pos goal) found.answer) }
+    ensures known { IfOk result (λ found. IsKnown network.now.graph.now found.answer) }
+    ensures small { IfOk result (λ found. IsSmall found.answer) }
+    ensures value { IfOk result (λ found. HasValue network.now.graph.now network.now.part.now network.now.source found.value found.answer) }
+    ensures flow { IfOk result (λ found. IsFlowOfValue network.now.graph.now network.now.part.now network.now.source network.now.sink found.value kept.new.items) }
+    ensures kept { All (λ a. a.edge < length network.now.graph.now.edges) kept.new.items }
+{
+    let value = flow.value;
+    *kept = flow.listed(alloc, network)?;
+    if value < goal {
+        let nodes = marked_nodes(alloc, marks, network.graph.nodes())?;
+        return Ok(Found {
+            answer: FlowOrCut::Cut(nodes),
+            value,
+        });
+    }
+    let amounts = Vec::from_slice(alloc, kept.as_slice())?;
+    Ok(Found {
+        answer: FlowOrCut::Flow(amounts),
+        value,
+    })
 }
 
 /// A number that isn't negative, as an unsigned one.

@@ -31,7 +31,7 @@ abbrev pub HasKnownLabels : Digraph → PathOrLabels → Type 0
 HasKnownLabels g (light.Path ks) = All (λ k. k < length g.edges) ks.items
 HasKnownLabels g (light.Labels ls) = All (λ l. (l.node < g.nodes) × (l.value ≤ MAX_WITNESS_VALUE)) ls.items
 
--- the nodes of a set are those to which a walk leads, each once
+-- no node of a set is listed twice, and a walk in the part leads from u to each
 abbrev pub IsReachedSet : Digraph → List Bool → ℕ → PathOrCut → Type 0
 IsReachedSet g P u (any.Path ks) = Unit {0}
 IsReachedSet g P u (any.Cut s) = IsTrue (is_distinct s.items) × All (λ v. HasPath g P u v limit.Free) s.items

@@ -1,5 +1,5 @@
 -- What shows that a predicate fails in a small graph.
-use Rattle.std.proofs.Common.{zero, suc, ◌≡◌, ◌≢◌, ℕ, ◌<◌, Bool, List, [], ◌∷◌, length, get_or, refl, arith, ℤ, All}
+use Rattle.std.proofs.Common.{zero, suc, ℕ, ◌<◌, Bool, List, [], ◌∷◌, arith, ℤ, All}
 use Rattle.std.specs.Prelude.{IsTrue}
 use Rattle.std.proofs.lemmas.Bool.{and_parts}
 use Rattle.mono_graph.specs.declared.label.Label.{Label}

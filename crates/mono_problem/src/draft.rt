@@ -3,13 +3,13 @@
 //! A draft is a problem at every moment: each call adds one part and keeps all that is said of a problem (see
 //! `IsInstance`). What a caller has to know before a call, as that an identity is new, it asks the draft.
 
-ghost use Rattle.std.specs.Prelude.{◌≡◌, ◌<◌, ◌≤◌, ◌+◌, ◌^◌, length, IfOk, OnErr, OnOk, IfSome, None, All, slice_index_or, slice_set, ◌++◌, map};
+ghost use Rattle.std.specs.Prelude.{ℕ, ◌≡◌, ◌<◌, ◌≤◌, ◌+◌, ◌^◌, length, IfOk, OnErr, OnOk, IfSome, None, All, slice_index_or, slice_set, ◌++◌, map};
 ghost use Rattle.mono_problem.specs.Instance.{no_graph, graph_at, place_named, nodes_total, edges_total, literals_total, totals_of};
 ghost use Rattle.mono_base.specs.Literal.{IsLitWithin};
 ghost use Rattle.mono_problem.specs.WellFormed.{IsInstance, IsOver};
 ghost use Rattle.mono_problem.specs.Growth.{nothing, raised, with_graph, with_edge, with_atom, with_clause, graph_with, greatest_var as greatest_of};
 ghost use Rattle.mono_graph.specs.Digraph.{IsNewEdge};
-ghost use Rattle.mono_problem.specs.Uses.{graph_uses, atom_use, edges_used as uses_of_edges};
+ghost use Rattle.mono_problem.specs.Uses.{graph_uses, atom_use, edges_used as uses_of_edges, chosen, picked};
 
 use crate::clause_list::ClauseList;
 use crate::uses::{Use, UseTable, VarUse};
@@ -133,6 +133,23 @@ fn push_atoms(all: &mut Vec<VarUse>, atoms: &[Atom]) -> Result<(), AllocError>
         })?;
     }
     Ok(())
+}
+
+// The uses of all variables: those of the edges, then those of the predicates.
+//
+// It borrows what a draft holds, so that a draft is dropped at one place only.
+fn all_uses(
+    alloc: Global,
+    graphs: &IndexMap<u32, Graph>,
+    atoms: &[Atom],
+) -> Result<UseTable, AllocError>
+    requires { length graphs.now.entries ≤ MAX_GRAPHS }
+    ensures { IfOk result (λ t. (x : ℕ) → chosen x t.0 t.1 ≡ picked x (uses_of_edges graphs.now.entries (length graphs.now.entries) ++ map atom_use atoms.now)) }
+{
+    let mut all = edges_used(alloc, graphs)?;
+    push_atoms(&mut all, atoms)?;
+    let uses = UseTable::new(alloc, all)?;
+    Ok(uses)
 }
 
 impl Draft {
@@ -295,9 +312,7 @@ impl Draft {
         ensures { IfOk result (λ p. p ≡ self) }
     {
         let alloc = *self.atoms.allocator();
-        let mut all = edges_used(alloc, &self.graphs)?;
-        push_atoms(&mut all, self.atoms.as_slice())?;
-        let uses = UseTable::new(alloc, all)?;
+        let uses = all_uses(alloc, &self.graphs, self.atoms.as_slice())?;
         let Draft {
             var_count,
             graphs,

@@ -1,5 +1,5 @@
 -- What is kept with the surely present edges: rows, or what searches found.
-use Rattle.std.specs.Prelude.{◌≡◌, ℕ, Bool, false, ℤ, length}
+use Rattle.std.specs.Prelude.{◌≡◌, ℕ, Bool, false, ℤ, length, min}
 use Rattle.mono_problem.specs.declared.atom.Predicate.{Predicate}
 use Rattle.mono_theory.specs.Stages.{NoneWaits}
 use Rattle.mono_theory.specs.Supports.{IsKeptBy, IsSideFor, gone_back}
@@ -19,9 +19,9 @@ IsEitherKept f l (side.Rows s) (side.Rows r) = r ≡ s
 IsEitherKept f l (side.Searches s) (side.Searches r) = IsKeptBy f.graph false l s r
 IsEitherKept f l s r = ⊥
 
--- rows go back to those of fewer literals, and what searches found to what it was
+-- rows go back to those of the first `kept` literals and no further, and what searches found to what it was
 abbrev pub IsEitherBack : {R : Type 0} → ℕ → EitherSide R → EitherSide R → Type 0
-IsEitherBack kept (side.Rows s) (side.Rows r) = Unit {0}
+IsEitherBack kept (side.Rows s) (side.Rows r) = r.looked ≡ min s.looked kept
 IsEitherBack kept (side.Searches s) (side.Searches r) = r ≡ gone_back kept s
 IsEitherBack kept s r = ⊥
 

@@ -3,7 +3,7 @@
 //! The rows are of the literals that were looked at. These are looked at only when an atom's literal is asked for, where
 //! memory may be missing; a literal that comes takes no work before. Going back drops what came with the literals that go.
 
-ghost use Rattle.std.specs.Prelude.{◌≡◌, ◌+◌, ◌<◌, ◌≤◌, ◌^◌, ℕ, false, int_lt, length, pos, slice_index_or, take, IfOk, IfSome, IsTrue, OnOk, if◌then◌else◌};
+ghost use Rattle.std.specs.Prelude.{◌≡◌, ◌+◌, ◌<◌, ◌≤◌, ◌^◌, ℕ, false, int_lt, length, min, pos, slice_index_or, take, IfOk, IfSome, IsTrue, OnOk, if◌then◌else◌};
 ghost use Rattle.mono_base.specs.Partial.{is_true_in};
 ghost use Rattle.mono_problem.specs.Holds.{Holds};
 ghost use Rattle.mono_problem.specs.Quiet.{under};
@@ -167,6 +167,8 @@ impl<K: Kind, R: Rows<K>> SureSide<K> for RowsSide<R> {
     ghost use Rattle.mono_rows.specs.RowSides.{AreRowsFor};
 
     ghost is_right = { λ s f. AreRowsFor K.covers R.are_right f s };
+
+    ghost keeps_back = { λ _ kept s r. r.looked ≡ min s.looked kept };
 
     ghost decides = { λ s f. s.looked ≡ length f.seen };
 

@@ -25,4 +25,5 @@ pub mod NewSteps
 pub mod Digits
 pub mod FewNew
 pub mod WorkedNew
+pub mod WorkedTrimmed
 pub mod NewPlaces

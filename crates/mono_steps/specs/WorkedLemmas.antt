@@ -33,3 +33,10 @@ edge_1_reaches = step.Lemma (of_1 (minus 1 ∷ pos 3 ∷ []) (by.Path (1 ∷ [])
 
 abbrev pub chain : List ℤ → List ℕ → Step
 chain c ns = step.Chain (record { clause = c; used = ns })
+
+-- the lemma twice, and a chain that names the second one alone; the same without the first one
+abbrev pub with_two_lemmas : List Step
+with_two_lemmas = edge_1_reaches ∷ edge_1_reaches ∷ chain [] (4 ∷ 1 ∷ 2 ∷ []) ∷ []
+
+abbrev pub with_one_lemma : List Step
+with_one_lemma = edge_1_reaches ∷ chain [] (3 ∷ 1 ∷ 2 ∷ []) ∷ []

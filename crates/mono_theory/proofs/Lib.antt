@@ -7,6 +7,7 @@ pub mod VarLaws
 pub mod FrameLaws
 pub mod EvidenceLaws
 pub mod TheoryLaws
+pub mod AtomPlaceLaws
 pub mod ChangedLaws
 pub mod NumberLaws
 pub mod WalkedLaws

@@ -1,4 +1,5 @@
 pub mod Theories
+pub mod AtomPlaces
 pub mod Entries
 pub mod Variables
 pub mod Index

@@ -4,7 +4,6 @@ mod ProblemRows
 mod TrailRows
 mod ClauseRows
 mod LearnRows
-mod TrimmedRows
 mod WalkRows
 mod ReasonRows
 mod InstanceRows

@@ -2,4 +2,3 @@ pub mod SmallTrail
 pub mod TwoClauses
 pub mod TwoGraphs
 pub mod SecondGraph
-pub mod Refutations

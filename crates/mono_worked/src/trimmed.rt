@@ -2,8 +2,7 @@
 
 ghost use Rattle.std.specs.Prelude.{◌≡◌, [], ◌∷◌, true, false};
 ghost use Rattle.mono_steps.specs.Trimmed.{IsNamedLater, IsTrimmed, renumbered};
-ghost use Rattle.mono_steps.specs.WorkedLemmas.{barred};
-ghost use Rattle.mono_worked.specs.Refutations.{with_two_lemmas, with_one_lemma};
+ghost use Rattle.mono_steps.specs.WorkedLemmas.{barred, with_two_lemmas, with_one_lemma};
 
 /// Of two equal lemmas the chain names the second, so the first one goes and the chain's number with it.
 pub fn trimmed_refutation()

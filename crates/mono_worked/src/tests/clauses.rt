@@ -262,7 +262,44 @@ fn act(
     }
 }
 
-/// The literals on the trail after the calls and a last propagation, from no clauses.
+/// The literals on the trail after the calls and a last propagation.
+fn after_with(
+    rt: &impl Abort,
+    alloc: Global,
+    store: &mut ClauseStore,
+    trail: &mut Trail,
+    calls: &[Call<'_>],
+) -> Result<Vec<i32>, AllocError>
+    requires numbered { All (λ c. c.number < length store.old.clauses) store.old.clauses }
+    requires follows { Follows store.old trail.old }
+{
+    let mut plain = Plain {
+        clauses: Vec::new(alloc),
+    };
+    'calls: for call in calls {
+        if !act(rt, alloc, store, trail, &mut plain, *call)? {
+            return numbers(alloc, trail.lits());
+        }
+    }
+    let _ = propagate(rt, alloc, store, trail, &plain)?;
+    numbers(alloc, trail.lits())
+}
+
+/// The same, from no clauses.
+fn after_on(
+    rt: &impl Abort,
+    alloc: Global,
+    trail: &mut Trail,
+    calls: &[Call<'_>],
+) -> Result<Vec<i32>, AllocError>
+    requires { trail.old.vars ≤ 10 }
+{
+    laws::a_new_store_follows();
+    let mut store = ClauseStore::new(alloc, trail.vars())?;
+    after_with(rt, alloc, &mut store, trail, calls)
+}
+
+/// The same, from no literals.
 fn after(
     rt: &impl Abort,
     alloc: Global,
@@ -272,18 +309,7 @@ fn after(
     requires { vars ≤ 10 }
 {
     let mut trail = Trail::new(alloc, vars)?;
-    let mut store = ClauseStore::new(alloc, vars)?;
-    let mut plain = Plain {
-        clauses: Vec::new(alloc),
-    };
-    laws::a_new_store_follows();
-    'calls: for call in calls {
-        if !act(rt, alloc, &mut store, &mut trail, &mut plain, *call)? {
-            return numbers(alloc, trail.lits());
-        }
-    }
-    let _ = propagate(rt, alloc, &mut store, &mut trail, &plain)?;
-    numbers(alloc, trail.lits())
+    after_on(rt, alloc, &mut trail, calls)
 }
 
 #[test]
@@ -367,29 +393,75 @@ impl Draw {
     }
 }
 
-/// So many drawn calls, from no clauses.
-fn play(rt: &impl Abort, alloc: Global, vars: u32, seed: u64, steps: u64) -> Result<(), AllocError>
-    requires { vars ≤ 10 }
+/// A drawn call. The answer is whether the store follows the trail.
+fn act_drawn(
+    rt: &impl Abort,
+    alloc: Global,
+    store: &mut ClauseStore,
+    trail: &mut Trail,
+    plain: &mut Plain,
+    draw: &mut Draw,
+) -> Result<bool, AllocError>
+    requires numbered { All (λ c. c.number < length store.old.clauses) store.old.clauses }
+    requires follows { Follows store.old trail.old }
+    ensures numbered { All (λ c. c.number < length store.new.clauses) store.new.clauses }
+    ensures follows { IfOk result (λ b. OnTrue b (Follows store.new trail.new)) }
 {
-    let mut trail = Trail::new(alloc, vars)?;
-    let mut store = ClauseStore::new(alloc, vars)?;
+    let vars = trail.vars();
+    let clause = draw.clause(alloc, vars)?;
+    let call = match draw.below(8) {
+        0..=2 => Call::Join(clause.as_slice()),
+        3..=6 => Call::Decide(draw.number(vars)),
+        _ => Call::Back(draw.below(4)),
+    };
+    act(rt, alloc, store, trail, plain, call)
+}
+
+/// So many drawn calls.
+fn play_with(
+    rt: &impl Abort,
+    alloc: Global,
+    store: &mut ClauseStore,
+    trail: &mut Trail,
+    seed: u64,
+    steps: u64,
+) -> Result<(), AllocError>
+    requires numbered { All (λ c. c.number < length store.old.clauses) store.old.clauses }
+    requires follows { Follows store.old trail.old }
+{
     let mut plain = Plain {
         clauses: Vec::new(alloc),
     };
-    laws::a_new_store_follows();
     let mut draw = Draw { state: seed };
     'steps: for _ in 0..steps {
-        let clause = draw.clause(alloc, vars)?;
-        let call = match draw.below(8) {
-            0..=2 => Call::Join(clause.as_slice()),
-            3..=6 => Call::Decide(draw.number(vars)),
-            _ => Call::Back(draw.below(4)),
-        };
-        if !act(rt, alloc, &mut store, &mut trail, &mut plain, call)? {
+        if !act_drawn(rt, alloc, store, trail, &mut plain, &mut draw)? {
             return Ok(());
         }
     }
     Ok(())
+}
+
+/// The same, from no clauses.
+fn play_on(
+    rt: &impl Abort,
+    alloc: Global,
+    trail: &mut Trail,
+    seed: u64,
+    steps: u64,
+) -> Result<(), AllocError>
+    requires { trail.old.vars ≤ 10 }
+{
+    laws::a_new_store_follows();
+    let mut store = ClauseStore::new(alloc, trail.vars())?;
+    play_with(rt, alloc, &mut store, trail, seed, steps)
+}
+
+/// The same, from no literals.
+fn play(rt: &impl Abort, alloc: Global, vars: u32, seed: u64, steps: u64) -> Result<(), AllocError>
+    requires { vars ≤ 10 }
+{
+    let mut trail = Trail::new(alloc, vars)?;
+    play_on(rt, alloc, &mut trail, seed, steps)
 }
 
 #[test]

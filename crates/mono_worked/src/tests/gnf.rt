@@ -1,9 +1,11 @@
 //! A text that was read by hand, and the limits of an input.
+use mono_base::Lit;
 use mono_gnf::{GnfFault, GnfRefusal, read_gnf};
-use mono_graph::Edge;
-use mono_problem::{Atom, Predicate};
+use mono_graph::{Edge, Graph};
+use mono_problem::{Atom, Predicate, Problem};
 use mono_text::push_natural;
 use std::alloc::{AllocError, Global};
+use std::process::Abort;
 use std::test::Fail;
 
 const EVERY_FORM: &[u8] = b"c every form\n\
@@ -24,15 +26,8 @@ mst_weight_lt 0 8 0\n\
 \t\r\n\
 -8 8 -0";
 
-#[test]
-fn every_form(rt: HostRuntime) -> Result<(), Fail> {
-    let problem = read_gnf(rt.alloc(), EVERY_FORM)?;
-    assert_eq!(rt; problem.vars(), 12);
-    assert_eq!(rt; problem.graph_count(), 2);
-    assert_eq!(rt; problem.edge_count(), 3);
-    assert_eq!(rt; problem.graph_id(0), 7);
-    assert_eq!(rt; problem.graph_id(1), 0);
-    let graph = problem.graph(0);
+// The first graph has its edges, in the order of their lines.
+fn assert_first_graph(rt: &impl Abort, graph: &Graph) {
     assert_eq!(rt; graph.nodes(), 3);
     assert_eq!(rt; graph.edge_count(), 2);
     let late = Edge {
@@ -44,12 +39,27 @@ fn every_form(rt: HostRuntime) -> Result<(), Fail> {
     };
     assert_eq!(rt; graph.edge(0).weight, 1);
     assert_eq!(rt; graph.edge(1), late);
-    Ok(())
+}
+
+// The problem has its variables and its graphs.
+fn assert_graphs(rt: &impl Abort, problem: &Problem) {
+    assert_eq!(rt; problem.vars(), 12);
+    assert_eq!(rt; problem.graph_count(), 2);
+    assert_eq!(rt; problem.edge_count(), 3);
+    assert_eq!(rt; problem.graph_id(0), 7);
+    assert_eq!(rt; problem.graph_id(1), 0);
+    assert_first_graph(rt, problem.graph(0));
 }
 
 #[test]
-fn every_predicate(rt: HostRuntime) -> Result<(), Fail> {
+fn every_form(rt: HostRuntime) -> Result<(), Fail> {
     let problem = read_gnf(rt.alloc(), EVERY_FORM)?;
+    assert_graphs(&rt, &problem);
+    Ok(())
+}
+
+// The problem has a predicate of each kind.
+fn assert_predicates(rt: &impl Abort, problem: &Problem) {
     let predicates = [
         Predicate::Reach { from: 0, to: 2 },
         Predicate::Steps {
@@ -79,22 +89,36 @@ fn every_predicate(rt: HostRuntime) -> Result<(), Fail> {
         };
         assert_eq!(rt; problem.atom(place + 1), atom);
     }
+}
+
+#[test]
+fn every_predicate(rt: HostRuntime) -> Result<(), Fail> {
+    let problem = read_gnf(rt.alloc(), EVERY_FORM)?;
+    assert_predicates(&rt, &problem);
     Ok(())
+}
+
+// The literals have these numbers.
+fn assert_numbers(rt: &impl Abort, clause: &[Lit], numbers: &[i32]) {
+    assert_eq!(rt; clause.len(), numbers.len());
+    for (lit, number) in clause.iter().zip(numbers.iter()) {
+        assert_eq!(rt; lit.number(), *number);
+    }
+}
+
+// The problem has a clause over two lines, the empty one, and one with both signs of a variable.
+fn assert_clauses(rt: &impl Abort, problem: &Problem) {
+    let clauses: [&[i32]; 3] = [&[1, -2, 3], &[], &[-8, 8]];
+    assert_eq!(rt; problem.clause_count(), 3);
+    for place in 0..3u32 {
+        assert_numbers(rt, problem.clause(place + 1), clauses[place as usize]);
+    }
 }
 
 #[test]
 fn every_clause(rt: HostRuntime) -> Result<(), Fail> {
     let problem = read_gnf(rt.alloc(), EVERY_FORM)?;
-    let clauses: [&[i32]; 3] = [&[1, -2, 3], &[], &[-8, 8]];
-    assert_eq!(rt; problem.clause_count(), 3);
-    for place in 0..3u32 {
-        let numbers = clauses[place as usize];
-        let clause = problem.clause(place + 1);
-        assert_eq!(rt; clause.len(), numbers.len());
-        for (lit, number) in clause.iter().zip(numbers.iter()) {
-            assert_eq!(rt; lit.number(), *number);
-        }
-    }
+    assert_clauses(&rt, &problem);
     Ok(())
 }
 

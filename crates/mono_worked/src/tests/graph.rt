@@ -2,6 +2,7 @@ ghost use Rattle.std.specs.Prelude.{◌≡◌, IfOk, length};
 
 use mono_graph::{Buckets, Edge, EdgeRefusal, Graph, Part, mark, unmark};
 use std::alloc::Global;
+use std::process::Abort;
 use std::test::Fail;
 
 // Three nodes and three edges, whose numbers have gaps.
@@ -37,24 +38,23 @@ fn star(alloc: Global) -> Result<Graph, EdgeRefusal>
     Ok(graph)
 }
 
-#[test]
-fn edges_at_the_nodes(rt: HostRuntime) -> Result<(), Fail> {
-    let graph = star(rt.alloc())?;
+fn assert_nodes(rt: &impl Abort, graph: &Graph) {
     assert_eq!(rt; graph.nodes(), 3);
     assert_eq!(rt; graph.edge_count(), 3);
     assert_eq!(rt; graph.leaving(0), [0, 1].as_slice());
     assert_eq!(rt; graph.entering(0), [2].as_slice());
     assert_eq!(rt; graph.leaving(1).len(), 0);
     assert_eq!(rt; graph.entering(2), [1].as_slice());
-    Ok(())
 }
 
 #[test]
-fn edges_by_place_and_number(rt: HostRuntime) -> Result<(), Fail> {
+fn edges_at_the_nodes(rt: HostRuntime) -> Result<(), Fail> {
     let graph = star(rt.alloc())?;
-    assert_eq!(rt; graph.edge(1).weight, 4294967295);
-    assert_eq!(rt; graph.edge(2).from, 2);
-    assert_eq!(rt; graph.weight_of(&[0, 1, 1]), 8589934595);
+    assert_nodes(&rt, &graph);
+    Ok(())
+}
+
+fn assert_places(rt: &impl Abort, graph: &Graph) {
     for (number, want) in [
         (1, None),
         (2, Some(0)),
@@ -65,6 +65,21 @@ fn edges_by_place_and_number(rt: HostRuntime) -> Result<(), Fail> {
     ] {
         assert_eq!(rt; graph.place(number), want, "at {number}");
     }
+}
+
+fn assert_edges(rt: &impl Abort, graph: &Graph)
+    requires { length graph.now.edges ≡ 3 }
+{
+    assert_eq!(rt; graph.edge(1).weight, 4294967295);
+    assert_eq!(rt; graph.edge(2).from, 2);
+    assert_eq!(rt; graph.weight_of(&[0, 1, 1]), 8589934595);
+}
+
+#[test]
+fn edges_by_place_and_number(rt: HostRuntime) -> Result<(), Fail> {
+    let graph = star(rt.alloc())?;
+    assert_edges(&rt, &graph);
+    assert_places(&rt, &graph);
     Ok(())
 }
 

@@ -199,24 +199,37 @@ fn expect_refusal<S: Shelf>(
     }
 }
 
-#[test]
-fn files_are_read(rt: HostRuntime) -> Result<(), Fail> {
-    let alloc = rt.alloc();
-    let text = long_text(alloc)?;
-    write_files(&rt, &text)?;
-    let mut shelf = FileShelf::new(SystemFiles::new(&rt));
-    let mut buffer = [0u8; 4];
-    assert_eq!(rt; shelf.read(&mut buffer), Err(Failed));
-    expect_read(&rt, alloc, &mut shelf, "long", &text)?;
-    expect_read(&rt, alloc, &mut shelf, "empty", b"")?;
+fn expect_refusals<S: Shelf>(rt: &impl Abort, alloc: Global, shelf: &mut S) {
     for (name, want) in [
         ("missing", ReadRefusal::Fault),
         ("folder", ReadRefusal::Fault),
         ("long", ReadRefusal::TooLong),
     ] {
-        expect_refusal(&rt, alloc, &mut shelf, name, want);
+        expect_refusal(rt, alloc, shelf, name, want);
     }
-    expect_read(&rt, alloc, &mut shelf, "long", &text)?;
+}
+
+/// Nothing is read before a file is chosen, and a file is read again after others were refused.
+fn expect_files<S: Shelf>(
+    rt: &impl Abort,
+    alloc: Global,
+    shelf: &mut S,
+    text: &[u8],
+) -> Result<(), Fail> {
+    let mut buffer = [0u8; 4];
+    assert_eq!(rt; shelf.read(&mut buffer), Err(Failed));
+    expect_read(rt, alloc, shelf, "long", text)?;
+    expect_read(rt, alloc, shelf, "empty", b"")?;
+    expect_refusals(rt, alloc, shelf);
+    expect_read(rt, alloc, shelf, "long", text)
+}
+
+#[test]
+fn files_are_read(rt: HostRuntime) -> Result<(), Fail> {
+    let text = long_text(rt.alloc())?;
+    write_files(&rt, &text)?;
+    let mut shelf = FileShelf::new(SystemFiles::new(&rt));
+    expect_files(&rt, rt.alloc(), &mut shelf, &text)?;
     remove_files(&rt)
 }
 

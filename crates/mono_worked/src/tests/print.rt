@@ -1,5 +1,8 @@
 //! Texts that were printed by hand.
 use mono_gnf::{print_gnf, read_gnf};
+use mono_problem::Problem;
+use std::alloc::Global;
+use std::process::Abort;
 use std::test::Fail;
 
 const EVERY_KIND: &[u8] = b"p cnf 12 9\n\
@@ -36,13 +39,29 @@ mst_weight_lt 0 8 0\n\
 0\n\
 -8 8 -8 0\n";
 
+/// The problem is printed as this text.
+fn assert_printed(
+    rt: &impl Abort,
+    alloc: Global,
+    problem: &Problem,
+    want: &[u8],
+) -> Result<(), Fail> {
+    let printed = print_gnf(alloc, problem)?;
+    assert_eq!(rt; printed.as_slice(), want);
+    Ok(())
+}
+
+/// The problem of a text is printed as this one.
+fn assert_read(rt: &impl Abort, alloc: Global, text: &[u8], want: &[u8]) -> Result<(), Fail> {
+    let problem = read_gnf(alloc, text)?;
+    assert_printed(rt, alloc, &problem, want)
+}
+
 /// What is printed is printed again as it is.
 #[test]
 fn every_kind_is_printed(rt: HostRuntime) -> Result<(), Fail> {
     for text in [EVERY_KIND, EVERY_KIND_PRINTED] {
-        let problem = read_gnf(rt.alloc(), text)?;
-        let printed = print_gnf(rt.alloc(), &problem)?;
-        assert_eq!(rt; printed.as_slice(), EVERY_KIND_PRINTED);
+        assert_read(&rt, rt.alloc(), text, EVERY_KIND_PRINTED)?;
     }
     Ok(())
 }

@@ -3,6 +3,7 @@
 use mono_base::Lit;
 use mono_problem::{Draft, Predicate, Problem, Totals, Use};
 use std::alloc::{AllocError, Global};
+use std::process::Abort;
 use std::test::Fail;
 
 fn clause(alloc: Global, numbers: &[i32]) -> Result<Vec<Lit>, AllocError> {
@@ -88,16 +89,32 @@ fn with_graphs(draft: &mut Draft) -> Result<(), AllocError> {
     Ok(())
 }
 
+/// Two predicates, three clauses, and a variable that nothing names.
+fn with_clauses(draft: &mut Draft, alloc: Global) -> Result<(), AllocError> {
+    ask(draft, 7, 0, 2, 9)?;
+    ask(draft, 4, 0, 1, 2)?;
+    add(draft, alloc, &[1, -9])?;
+    add(draft, alloc, &[])?;
+    add(draft, alloc, &[-3, -3, 11])?;
+    draft.raise_vars(10);
+    Ok(())
+}
+
+/// Adds what the sample has.
+fn fill(draft: &mut Draft, alloc: Global) -> Result<(), AllocError> {
+    with_graphs(draft)?;
+    with_clauses(draft, alloc)
+}
+
 fn sample(alloc: Global) -> Result<Draft, AllocError> {
     let mut draft = Draft::new(alloc);
-    with_graphs(&mut draft)?;
-    ask(&mut draft, 7, 0, 2, 9)?;
-    ask(&mut draft, 4, 0, 1, 2)?;
-    add(&mut draft, alloc, &[1, -9])?;
-    add(&mut draft, alloc, &[])?;
-    add(&mut draft, alloc, &[-3, -3, 11])?;
-    draft.raise_vars(10);
+    fill(&mut draft, alloc)?;
     Ok(draft)
+}
+
+fn sample_problem(alloc: Global) -> Result<Problem, AllocError> {
+    let draft = sample(alloc)?;
+    draft.finish()
 }
 
 #[test]
@@ -115,9 +132,7 @@ fn a_draft_counts_what_it_was_given(rt: HostRuntime) -> Result<(), Fail> {
     Ok(())
 }
 
-#[test]
-fn a_problem_has_its_graphs(rt: HostRuntime) -> Result<(), Fail> {
-    let problem = sample(rt.alloc())?.finish()?;
+fn assert_graphs(rt: &impl Abort, problem: &Problem) {
     assert_eq!(rt; problem.vars(), 11);
     assert_eq!(rt; problem.graph_count(), 2);
     assert_eq!(rt; problem.graph_id(1), 4);
@@ -125,27 +140,39 @@ fn a_problem_has_its_graphs(rt: HostRuntime) -> Result<(), Fail> {
     assert_eq!(rt; problem.edge_count(), 3);
     assert_eq!(rt; problem.edge_home(2), 1);
     assert_eq!(rt; problem.edge_home(3), 0);
-    Ok(())
 }
 
 #[test]
-fn a_problem_has_its_atoms_and_clauses(rt: HostRuntime) -> Result<(), Fail> {
-    let problem = sample(rt.alloc())?.finish()?;
+fn a_problem_has_its_graphs(rt: HostRuntime) -> Result<(), Fail> {
+    let problem = sample_problem(rt.alloc())?;
+    assert_graphs(&rt, &problem);
+    Ok(())
+}
+
+fn assert_atoms(rt: &impl Abort, problem: &Problem) {
     assert_eq!(rt; problem.atom_count(), 2);
     assert_eq!(rt; problem.atom(2).var, 2);
     assert_eq!(rt;
         problem.atom(1).predicate,
         Predicate::Reach { from: 0, to: 2 }
     );
+}
+
+fn assert_clauses(rt: &impl Abort, problem: &Problem) {
     assert_eq!(rt; problem.clause_count(), 3);
     assert_eq!(rt; problem.clause(3).len(), 3);
     assert_eq!(rt; problem.clause(2).len(), 0);
-    Ok(())
 }
 
 #[test]
-fn the_uses_of_a_variable_are_its_edges_and_atoms(rt: HostRuntime) -> Result<(), Fail> {
-    let problem = sample(rt.alloc())?.finish()?;
+fn a_problem_has_its_atoms_and_clauses(rt: HostRuntime) -> Result<(), Fail> {
+    let problem = sample_problem(rt.alloc())?;
+    assert_atoms(&rt, &problem);
+    assert_clauses(&rt, &problem);
+    Ok(())
+}
+
+fn assert_uses(rt: &impl Abort, problem: &Problem) {
     let two = [
         Use::Edge { graph: 0, place: 0 },
         Use::Edge { graph: 1, place: 0 },
@@ -158,23 +185,39 @@ fn the_uses_of_a_variable_are_its_edges_and_atoms(rt: HostRuntime) -> Result<(),
     );
     assert_eq!(rt; problem.uses(9), [Use::Atom { number: 1 }].as_slice());
     assert_eq!(rt; problem.uses(12).len(), 0);
+}
+
+#[test]
+fn the_uses_of_a_variable_are_its_edges_and_atoms(rt: HostRuntime) -> Result<(), Fail> {
+    let problem = sample_problem(rt.alloc())?;
+    assert_uses(&rt, &problem);
+    Ok(())
+}
+
+/// Three clauses over two variables.
+fn with_choice(draft: &mut Draft, alloc: Global) -> Result<(), AllocError> {
+    add(draft, alloc, &[1, 2])?;
+    add(draft, alloc, &[-1])?;
+    add(draft, alloc, &[-1, -2])?;
     Ok(())
 }
 
 fn choice(alloc: Global) -> Result<Problem, AllocError> {
     let mut draft = Draft::new(alloc);
-    add(&mut draft, alloc, &[1, 2])?;
-    add(&mut draft, alloc, &[-1])?;
-    add(&mut draft, alloc, &[-1, -2])?;
+    with_choice(&mut draft, alloc)?;
     draft.finish()
+}
+
+fn assert_first_false(rt: &impl Abort, problem: &Problem) {
+    assert_eq!(rt; problem.vars(), 2);
+    assert_eq!(rt; problem.first_false_clause(&[false, true]), None);
+    assert_eq!(rt; problem.first_false_clause(&[true, true]), Some(2));
+    assert_eq!(rt; problem.first_false_clause(&[false, false]), Some(1));
 }
 
 #[test]
 fn the_first_false_clause_is_named(rt: HostRuntime) -> Result<(), Fail> {
     let problem = choice(rt.alloc())?;
-    assert_eq!(rt; problem.vars(), 2);
-    assert_eq!(rt; problem.first_false_clause(&[false, true]), None);
-    assert_eq!(rt; problem.first_false_clause(&[true, true]), Some(2));
-    assert_eq!(rt; problem.first_false_clause(&[false, false]), Some(1));
+    assert_first_false(&rt, &problem);
     Ok(())
 }

@@ -42,20 +42,26 @@ fn add(draft: &mut Draft, lits: &[Lit]) -> Result<(), AllocError> {
     Ok(())
 }
 
-/// The problem of these clauses.
-fn problem_of(alloc: Global, text: &str) -> Result<Problem, AllocError> {
-    let mut draft = Draft::new(alloc);
+/// Adds these clauses.
+fn add_all(draft: &mut Draft, alloc: Global, text: &str) -> Result<(), AllocError> {
     let mut lits = Vec::new(alloc);
     for word in text.split_whitespace() {
         if let Ok(number) = word.parse::<i32>() {
             if let Some(lit) = Lit::new(number) {
                 lits.push(lit)?;
             } else {
-                add(&mut draft, lits.as_slice())?;
+                add(draft, lits.as_slice())?;
                 lits.clear();
             }
         }
     }
+    Ok(())
+}
+
+/// The problem of these clauses.
+fn problem_of(alloc: Global, text: &str) -> Result<Problem, AllocError> {
+    let mut draft = Draft::new(alloc);
+    add_all(&mut draft, alloc, text)?;
     draft.finish()
 }
 
@@ -76,9 +82,9 @@ fn fault_of(
     clause: &str,
     used: &str,
 ) -> Result<Option<StepFault>, AllocError> {
-    let problem = problem_of(alloc, clauses)?;
     let step = step_of(alloc, clause, used)?;
     let copy = step.copy()?;
+    let problem = problem_of(alloc, clauses)?;
     examine(alloc, &problem, &[], &copy)
 }
 

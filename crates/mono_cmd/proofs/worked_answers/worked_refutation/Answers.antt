@@ -1,5 +1,5 @@
 use Rattle.std.proofs.Common.{refl, arith}
-use Rattle.mono_cmd.proofs.WorkedTrimmed.{all_named, first_not_named}
+use Rattle.mono_steps.proofs.WorkedTrimmed.{all_named, first_not_named}
 use Rattle.mono_cmd.proofs.worked_answers.worked_refutation.Goals as goal
 
 pub returns-clause-refutation : goal.returns-clause-refutation

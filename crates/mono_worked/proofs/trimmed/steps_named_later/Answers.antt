@@ -1,4 +1,4 @@
-use Rattle.mono_worked.proofs.TrimmedRows.{lemma_named, second_named, first_not_named, last_not_named}
+use Rattle.mono_steps.proofs.WorkedTrimmed.{lemma_named, second_named, first_not_named, last_not_named}
 use Rattle.mono_worked.proofs.trimmed.steps_named_later.Goals as goal
 
 pub returns-clause-lemma : goal.returns-clause-lemma

@@ -1,5 +1,5 @@
 use Rattle.std.proofs.Common.{true, false, [], ◌∷◌, refl, arith}
-use Rattle.mono_worked.proofs.TrimmedRows.{all_named, first_not_named}
+use Rattle.mono_steps.proofs.WorkedTrimmed.{all_named, first_not_named}
 use Rattle.mono_worked.proofs.trimmed.trimmed_refutation.Goals as goal
 
 pub returns-clause-trimmed : goal.returns-clause-trimmed

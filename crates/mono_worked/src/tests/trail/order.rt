@@ -164,22 +164,38 @@ fn decay(pair: &mut Pair, slow: &mut SlowOrder) {
     slow.decay();
 }
 
+/// A drawn call of both.
+fn call(rt: &impl Abort, pair: &mut Pair, slow: &mut SlowOrder, draws: &mut Draws) {
+    let kind = draws.below(8);
+    match kind {
+        0 => backjump(pair, slow, draws),
+        1 => imply(pair, draws.below(VARS + 1)),
+        2 => decay(pair, slow),
+        3 | 4 => decide(rt, pair, slow),
+        _ => bump(pair, slow, 1 + draws.below(VARS)),
+    }
+}
+
+/// Drawn calls of an order and of a list in which no variable is active at first.
+fn play(rt: &impl Abort, alloc: Global, pair: &mut Pair, seed: u64) -> Result<(), AllocError> {
+    let mut draws = Draws::new(seed);
+    let mut slow = SlowOrder::new(alloc)?;
+    for _ in 0..200 {
+        call(rt, pair, &mut slow, &mut draws);
+    }
+    Ok(())
+}
+
+/// Drawn calls of a new order.
+fn play_anew(rt: &impl Abort, alloc: Global, seed: u64) -> Result<(), AllocError> {
+    let mut pair = Pair::new(alloc)?;
+    play(rt, alloc, &mut pair, seed)
+}
+
 #[test]
 fn drawn_calls_of_an_order(rt: HostRuntime) -> Result<(), Fail> {
     for seed in 1..=20 {
-        let mut draws = Draws::new(seed);
-        let mut pair = Pair::new(rt.alloc())?;
-        let mut slow = SlowOrder::new(rt.alloc())?;
-        for _ in 0..200 {
-            let kind = draws.below(8);
-            match kind {
-                0 => backjump(&mut pair, &mut slow, &mut draws),
-                1 => imply(&mut pair, draws.below(VARS + 1)),
-                2 => decay(&mut pair, &mut slow),
-                3 | 4 => decide(&rt, &mut pair, &slow),
-                _ => bump(&mut pair, &mut slow, 1 + draws.below(VARS)),
-            }
-        }
+        play_anew(&rt, rt.alloc(), seed)?;
     }
     Ok(())
 }
@@ -193,17 +209,27 @@ fn next(pair: &mut Pair) -> Option<u32> {
 }
 
 /// Far more decays than a number's range holds, so that activities are scaled down several times.
+fn bump_in_turn(alloc: Global, pair: &mut Pair) -> Result<(), AllocError> {
+    let mut slow = SlowOrder::new(alloc)?;
+    for round in 0..2000 {
+        bump(pair, &mut slow, 1 + round % VARS);
+        decay(pair, &mut slow);
+    }
+    Ok(())
+}
+
+/// The variables are decided from the last one on.
+fn assert_last_comes_first(rt: &impl Abort, pair: &mut Pair) {
+    for var in (1..=VARS).rev() {
+        assert_eq!(rt; next(pair), Some(var));
+    }
+    assert_eq!(rt; next(pair), None);
+}
+
 #[test]
 fn later_bumps_count_for_more(rt: HostRuntime) -> Result<(), Fail> {
     let mut pair = Pair::new(rt.alloc())?;
-    let mut slow = SlowOrder::new(rt.alloc())?;
-    for round in 0..2000 {
-        bump(&mut pair, &mut slow, 1 + round % VARS);
-        decay(&mut pair, &mut slow);
-    }
-    for var in (1..=VARS).rev() {
-        assert_eq!(rt; next(&mut pair), Some(var));
-    }
-    assert_eq!(rt; next(&mut pair), None);
+    bump_in_turn(rt.alloc(), &mut pair)?;
+    assert_last_comes_first(&rt, &mut pair);
     Ok(())
 }

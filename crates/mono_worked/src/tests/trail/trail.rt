@@ -6,7 +6,7 @@ ghost use Rattle.mono_base.specs.Literal.{IsLitWithin};
 use super::draws::Draws;
 use mono_base::{Lit, Value};
 use mono_trail::{Reason, Trail};
-use std::alloc::AllocError;
+use std::alloc::{AllocError, Global};
 use std::process::Abort;
 use std::test::Fail;
 
@@ -180,24 +180,46 @@ fn assert_same(rt: &impl Abort, trail: &Trail, slow: &SlowTrail) {
     }
 }
 
+/// A drawn call of both.
+fn call(
+    rt: &impl Abort,
+    trail: &mut Trail,
+    slow: &mut SlowTrail,
+    draws: &mut Draws,
+) -> Result<(), AllocError> {
+    match draws.below(8) {
+        0 => backjump(trail, slow, draws),
+        1 => settle(trail, slow, draws),
+        2 | 3 => give(rt, trail, slow),
+        _ => join(trail, slow, draws)?,
+    }
+    Ok(())
+}
+
+/// Drawn calls of a trail and of a list that is empty at first.
+fn play(rt: &impl Abort, alloc: Global, trail: &mut Trail, seed: u64) -> Result<(), AllocError> {
+    let mut draws = Draws::new(seed);
+    let mut slow = SlowTrail {
+        entries: Vec::new(alloc),
+        given: 0,
+    };
+    for _ in 0..200 {
+        call(rt, trail, &mut slow, &mut draws)?;
+        assert_same(rt, trail, &slow);
+    }
+    Ok(())
+}
+
+/// Drawn calls of a new trail.
+fn play_anew(rt: &impl Abort, alloc: Global, seed: u64) -> Result<(), AllocError> {
+    let mut trail = Trail::new(alloc, VARS)?;
+    play(rt, alloc, &mut trail, seed)
+}
+
 #[test]
 fn drawn_calls_of_a_trail(rt: HostRuntime) -> Result<(), Fail> {
     for seed in 1..=20 {
-        let mut draws = Draws::new(seed);
-        let mut trail = Trail::new(rt.alloc(), VARS)?;
-        let mut slow = SlowTrail {
-            entries: Vec::new(rt.alloc()),
-            given: 0,
-        };
-        for _ in 0..200 {
-            match draws.below(8) {
-                0 => backjump(&mut trail, &mut slow, &mut draws),
-                1 => settle(&mut trail, &mut slow, &mut draws),
-                2 | 3 => give(&rt, &mut trail, &mut slow),
-                _ => join(&mut trail, &mut slow, &mut draws)?,
-            }
-            assert_same(&rt, &trail, &slow);
-        }
+        play_anew(&rt, rt.alloc(), seed)?;
     }
     Ok(())
 }

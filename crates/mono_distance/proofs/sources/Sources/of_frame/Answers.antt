@@ -3,8 +3,11 @@ use Rattle.mono_dynamic.specs.declared.cost_source.CostSource.{CostSource}
 use Rattle.mono_problem.specs.declared.atom.Atom.{Atom}
 use Rattle.mono_theory.specs.Supports.{atom_at}
 use Rattle.mono_distance.specs.SureLabels.{source_at, HaveRows, IsSourceFor}
-use Rattle.mono_distance.proofs.SourceLaws.{source_had, rows_more}
+use Rattle.mono_distance.proofs.SourceLaws.{rows_apart, source_had, rows_more}
 use Rattle.mono_distance.proofs.sources.Sources.of_frame.Goals as goal
+
+pub returns-clause-apart : goal.returns-clause-apart
+returns-clause-apart c = rows_apart c.loop-place.table.items c.loop-place.rows.items c.loop-place.invariant.table
 
 pub loop-place-preserved : goal.loop-place-preserved
 loop-place-preserved c =

@@ -3,14 +3,16 @@ use Rattle.mono_graph.specs.declared.edge.Edge.{Edge}
 use Rattle.mono_graph.specs.Digraph.{Digraph, IsGraph, edge_at}
 use Rattle.mono_graph.specs.Flows.{amount_at}
 use Rattle.mono_problem.specs.Quiet.{under, over}
+use Rattle.mono_theory.specs.AtomPlaces.{place_of_atom}
 use Rattle.mono_theory.specs.Frames.{AreAtomsOf}
 use Rattle.mono_theory.specs.Sound.{atom_at, evidence_at}
 use Rattle.mono_theory.specs.Stages.{stage_at}
 use Rattle.mono_theory.specs.Supports.{SideView, facts_in}
 use Rattle.mono_theory.specs.Theories.{Facts, atom_of}
-use Rattle.mono_flow.specs.KeptFlows.{IsDecidedBy, IsFlowFor, carried_at, over_flow, place_of_atom, under_flow}
+use Rattle.mono_theory.proofs.AtomPlaceLaws.{place_is}
+use Rattle.mono_flow.specs.KeptFlows.{IsDecidedBy, IsFlowFor, carried_at, over_flow, under_flow}
 use Rattle.mono_flow.proofs.DecidedLaws.{over_decided, under_decided}
-use Rattle.mono_flow.proofs.KeptFlowLaws.{IsRead, amount_read, flow_read, flows_are, over_read, place_known, shown_read, support_read, under_read}
+use Rattle.mono_flow.proofs.KeptFlowLaws.{IsRead, amount_read, flow_read, flows_are, over_read, shown_read, support_read, under_read}
 use Rattle.mono_flow.proofs.flows.GraphTheoryFlowHasFlows.flows.Goals as goal
 
 held : (c : goal.After-amount_in-2) → c.place_of-at.result < length c.args.self.now.atoms
@@ -19,8 +21,8 @@ held c = rw c.frame-frame.ensures at c.place_of-at.ensures.held
 found : (c : goal.After-amount_in-2) → atom_of c.args.self.now.atoms c.args.atom ≡ Some (atom_at c.args.self.now.atoms c.place_of-at.result)
 found c = rw c.frame-frame.ensures at c.place_of-at.ensures.is
 
-place : (c : goal.After-amount_in-2) → place_of_atom c.args.self.now.atoms c.args.atom ≡ Some c.place_of-at.result
-place c = place_known c.args.self.now.atoms c.args.atom c.place_of-at.result (held c) (found c) (rw c.frame-frame.ensures at c.place_of-at.ensures.alone)
+place : (c : goal.After-amount_in-2) → place_of_atom c.args.self.now.atoms c.args.atom ≡ c.place_of-at.result
+place c = place_is c.args.self.now.atoms c.args.atom c.place_of-at.result c.requires.owned (rw c.frame-frame.ensures at c.place_of-at.ensures.alone)
 
 shown : (c : goal.After-amount_in-2) → IsRead c.shown_witness-shown.result (under_flow c.args.self.now.surely c.place_of-at.result)
 shown c =

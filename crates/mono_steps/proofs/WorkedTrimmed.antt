@@ -1,10 +1,9 @@
--- Which steps of the worked refutations a later one names.
+-- Which steps of the worked refutations with lemmas a later one names.
 use Rattle.std.proofs.Common.{zero, suc, ◌≡◌, ℕ, ◌+◌, ◌<◌, [], ◌∷◌, length, refl, ap, subst, sym, arith}
 use Rattle.std.specs.Prelude.{IsTrue, Option, Some, slice_get, unwrap_or}
 use Rattle.mono_steps.specs.declared.step.Step.{Step}
 use Rattle.mono_steps.specs.Trimmed.{names_step, IsNamedLater}
-use Rattle.mono_steps.specs.WorkedLemmas.{edge_1_reaches, chain}
-use Rattle.mono_worked.specs.Refutations.{with_two_lemmas, with_one_lemma}
+use Rattle.mono_steps.specs.WorkedLemmas.{edge_1_reaches, chain, with_two_lemmas, with_one_lemma}
 
 -- a step that stands at a place is no other
 same_step : (s t : Step) → Some s ≡ Some t → s ≡ t

@@ -1,7 +1,7 @@
 use Rattle.std.proofs.Common.{◌<◌, length}
 use Rattle.std.specs.Prelude.{All}
 use Rattle.mono_clauses.specs.Store.{Held, Follows}
-use Rattle.mono_worked.proofs.tests.clauses.play.Given as goal
+use Rattle.mono_worked.proofs.tests.clauses.play_with.Given as goal
 
 abbrev pub invariant-steps : goal.invariant-steps
 invariant-steps g l = record {

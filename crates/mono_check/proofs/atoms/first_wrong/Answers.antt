@@ -4,7 +4,7 @@ use Rattle.std.proofs.lemmas.List.{get_or_read}
 use Rattle.mono_check.proofs.Questions.{known_at}
 use Rattle.mono_base.specs.Literal.{value_in}
 use Rattle.mono_check.proofs.WrongAtoms.{one_right, one_wrong, all_right}
-use Rattle.mono_check.proofs.atoms.first_wrong_atom.Goals as goal
+use Rattle.mono_check.proofs.atoms.first_wrong.Goals as goal
 
 pub is_right-requires-clause-known : goal.is_right-requires-clause-known
 is_right-requires-clause-known c =

@@ -1,7 +1,7 @@
 use Rattle.std.proofs.Common.{◌<◌, length}
 use Rattle.std.specs.Prelude.{All}
 use Rattle.mono_clauses.specs.Store.{Held, Follows}
-use Rattle.mono_worked.proofs.tests.clauses.after.Given as goal
+use Rattle.mono_worked.proofs.tests.clauses.after_with.Given as goal
 
 abbrev pub invariant-calls : goal.invariant-calls
 invariant-calls g l = record {
