@@ -1,5 +1,5 @@
 #!/usr/bin/env python3
-"""Checks a log of 1 GB that comes through a pipe: log.py --program PATH [--bytes N] [--numbers N]
+"""Checks a log of 1 GB that comes through a pipe: log.py [--bytes N] [--numbers N]
 
 The input is a chain of implications over some variables, and each step of the log names as many clauses. Nothing of the
 log stands in a file. It prints the processor time and the peak of resident memory of `check` and of `wc` on the same
@@ -11,6 +11,8 @@ import os
 import subprocess
 import tempfile
 from collections.abc import Iterator
+
+BUILT = os.path.join(os.path.dirname(os.path.dirname(os.path.abspath(__file__))), "crates/mono_cmd/out/mono_cmd")
 
 
 def problem(numbers: int) -> str:
@@ -42,10 +44,10 @@ def measure(words: list[str], pieces: Iterator[bytes]) -> tuple[float, int, str]
 
 
 def main() -> None:
-    parser = argparse.ArgumentParser()
-    parser.add_argument("--program", required=True)
-    parser.add_argument("--bytes", type=int, default=1 << 30)
-    parser.add_argument("--numbers", type=int, default=1000)
+    parser = argparse.ArgumentParser(description=(__doc__ or "").split("\n", maxsplit=1)[0])
+    parser.add_argument("--program", metavar="PATH", default=BUILT, help="the program (%(default)s)")
+    parser.add_argument("--bytes", metavar="N", type=int, default=1 << 30, help="the log's size (%(default)s)")
+    parser.add_argument("--numbers", metavar="N", type=int, default=1000, help="clauses that a step names (%(default)s)")
     options = parser.parse_args()
     with tempfile.NamedTemporaryFile("w", suffix=".gnf") as file:
         file.write(problem(options.numbers))

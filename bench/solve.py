@@ -1,6 +1,6 @@
 """Measures `solve` on families of inputs that are made from seeds (families/catalogue.py).
 
-solve.py --program PATH [FAMILY..]           one table: status, time, conflicts, size of the answer, time of `check` on it;
+solve.py [--program PATH] [FAMILY..]         one table: status, time, conflicts, size of the answer, time of `check` on it;
                                              on clauses alone MiniSat beside it
 solve.py --old PATH --new PATH [FAMILY..]    the ratio of two programs in one run, and its geometric mean for each family
 
@@ -15,6 +15,7 @@ included: `solve` prints its model or its refutation, MiniSat its model alone. N
 """
 
 import argparse
+import os
 import sys
 import tempfile
 
@@ -22,19 +23,22 @@ from families.catalogue import FAMILIES
 from runs import Solver
 from tables import Ratios, Table
 
+BUILT = os.path.join(os.path.dirname(os.path.dirname(os.path.abspath(__file__))), "crates/mono_cmd/out/mono_cmd")
+
 
 def arguments():
     parser = argparse.ArgumentParser(description=__doc__, formatter_class=argparse.RawDescriptionHelpFormatter)
-    for name in ("--program", "--old", "--new", "--keep"):
-        parser.add_argument(name)
-    parser.add_argument("--seeds", type=int, default=20)
-    parser.add_argument("--limit", type=int, default=60)
+    parser.add_argument("--program", metavar="PATH", default=BUILT, help="the program (%(default)s)")
+    for name in ("--old", "--new", "--keep"):
+        parser.add_argument(name, metavar="FOLDER" if name == "--keep" else "PATH")
+    parser.add_argument("--seeds", metavar="N", type=int, default=20, help="at most N inputs of a size (%(default)s)")
+    parser.add_argument("--limit", metavar="S", type=int, default=60, help="seconds that a run may take (%(default)s)")
     for name in ("--large", "--conflicts", "--list"):
         parser.add_argument(name, action="store_true")
     parser.add_argument("families", nargs="*", default=list(FAMILIES), metavar="FAMILY")
     args = parser.parse_args()
-    if not args.list and not args.program and not (args.old and args.new):
-        parser.error("--program PATH, or --old PATH --new PATH")
+    if bool(args.old) != bool(args.new):
+        parser.error("--old PATH and --new PATH go together")
     for name in args.families:
         if name not in FAMILIES:
             parser.error("no family has the name %s (see --list)" % name)
@@ -45,7 +49,7 @@ def measure(args, folder):
     def solver(program):
         return Solver(program, folder, args.limit)
 
-    table = Table(solver(args.program), args.conflicts) if args.program else Ratios(solver(args.old), solver(args.new))
+    table = Ratios(solver(args.old), solver(args.new)) if args.old else Table(solver(args.program), args.conflicts)
     for name in args.families:
         family = FAMILIES[name]
         table.family(name, family, family.inputs(args.seeds, args.large))

@@ -7,6 +7,7 @@ For each problem of an example: NAME.gnf as its `encode.py` writes it, NAME.answ
 from __future__ import annotations
 
 import importlib.util
+import sys
 from collections.abc import Iterator
 from dataclasses import dataclass
 from pathlib import Path
@@ -22,6 +23,7 @@ EXAMPLES = {
     "network": {"cheapest": "accepted model", "cheaper": "accepted refutation"},
     "placement": {"floor": "accepted model"},
     "backbone": {"budget": "accepted refutation"},
+    "schedule": {"shop": "accepted model", "circle": "accepted refutation"},
 }
 
 
@@ -56,6 +58,7 @@ def script_of(folder: Path) -> ModuleType:
     spec = importlib.util.spec_from_file_location(f"encode_{folder.name}", folder / "encode.py")
     assert spec is not None and spec.loader is not None
     script = importlib.util.module_from_spec(spec)
+    sys.modules[spec.name] = script  # where data classes look for their module
     spec.loader.exec_module(script)
     return script
 

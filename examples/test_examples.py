@@ -24,6 +24,13 @@ class Examples(unittest.TestCase):
         run = subprocess.run([self.program, "check", problem, answer], capture_output=True, text=True, check=False)
         return run.stdout.strip()
 
+    def require(self, example: str) -> None:
+        """Skips the test where this version of the program doesn't know the example's predicate."""
+        if example == "schedule":
+            file = kept.HERE / example / "circle.gnf"
+            if self.check(file, file).endswith("UnknownWord"):
+                self.skipTest("this version of the program doesn't know `acyclic`")
+
     def test_files_are_as_their_scripts_make_them(self):
         for example in kept.all_kept():
             with self.subTest(example.folder.name, name=example.name):
@@ -33,12 +40,14 @@ class Examples(unittest.TestCase):
     def test_kept_answers_are_accepted(self):
         for example in kept.all_kept():
             with self.subTest(example.folder.name, name=example.name):
+                self.require(example.folder.name)
                 self.assertEqual(self.check(example.file("gnf"), example.file("answer")), example.verdict)
 
     def test_solving_gives_the_expected_answer(self):
         for example in kept.all_kept():
             with self.subTest(example.folder.name, name=example.name), tempfile.TemporaryDirectory() as folder:
                 self.check(example.file("gnf"), example.file("answer"))
+                self.require(example.folder.name)
                 example.problem.solve(folder=folder, program=self.program)
                 self.assertEqual(self.check(Path(folder, "problem.gnf"), Path(folder, "answer")), example.verdict)
 
@@ -46,6 +55,7 @@ class Examples(unittest.TestCase):
         for example in kept.EXAMPLES:
             with self.subTest(example):
                 self.check(Path("none"), Path("none"))
+                self.require(example)
                 told = io.StringIO()
                 with contextlib.redirect_stdout(told), unittest.mock.patch.dict(os.environ, {"GULFEZO": self.program}):
                     kept.script_of(kept.HERE / example).main()
@@ -58,6 +68,7 @@ EXPECTED = {
     "network": "nothing is cheaper: the refutation has",
     "placement": "tank: column ",
     "backbone": "a budget of 11: ",
+    "schedule": "the wishes run in a circle: ",
 }
 
 if __name__ == "__main__":

@@ -1,6 +1,4 @@
-"""Compares `check` with fuzz/reference.py on right answers and altered ones.
-
-answers.py --program PATH [--problems N] [--first SEED]
+"""Compares `check` with fuzz/reference.py on right answers and altered ones: answers.py [--rounds N] [--first SEED]
 
 Each seed draws one small problem and a right answer to it (a model, a refutation with lemmas, or progress), which both have
 to accept; then altered answers, and the right one for an altered input. The same seeds give the same texts. The status is 0
@@ -12,6 +10,7 @@ import random
 import sys
 import tempfile
 
+import kinds
 import mutations
 import problems
 import reference
@@ -47,14 +46,13 @@ def compare(comparison, seed):
 
 
 def main():
-    parser = argparse.ArgumentParser()
-    parser.add_argument("--program", required=True)
-    parser.add_argument("--problems", type=int, default=150)
-    parser.add_argument("--first", type=int, default=1, help="the first seed")
+    parser = kinds.parser(__doc__, "problems", 150)
+    parser.add_argument("--problems", dest="rounds", type=int, help=argparse.SUPPRESS)  # its name in earlier versions
     args = parser.parse_args()
+    kinds.known(args.program)
     with tempfile.TemporaryDirectory() as folder:
         comparison = Comparison(args.program, folder)
-        for count, seed in enumerate(range(args.first, args.first + args.problems), 1):
+        for count, seed in enumerate(range(args.first, args.first + args.rounds), 1):
             compare(comparison, seed)
             if count % 500 == 0:
                 print("%d problems, %d different" % (count, comparison.different), file=sys.stderr)

@@ -1,5 +1,5 @@
 #!/usr/bin/env python3
-"""Refuses requests for memory, and calls on files, one a run: faults.py --program PATH
+"""Refuses requests for memory, and calls on files, one a run: faults.py
 
 A small library (faults/refuse.c) stands in front of the C library's. Each run either ends as the undisturbed one does, or
 as the call that was refused asks: without memory with 6 and nothing written, where a file couldn't be opened or read with
@@ -7,7 +7,6 @@ as the call that was refused asks: without memory with 6 and nothing written, wh
 so and tries nothing.
 """
 
-import argparse
 import os
 import shutil
 import subprocess
@@ -15,8 +14,11 @@ import sys
 import tempfile
 from pathlib import Path
 
+import kinds
+
 HERE = Path(__file__).resolve().parent
 FIRST = HERE.parent / "examples" / "first"
+SCHEDULE = HERE.parent / "examples" / "schedule"
 READ_FAULT = 4
 WRITE_FAULT = 5
 OUT_OF_MEMORY = 6
@@ -28,11 +30,14 @@ Ending = tuple[int, bytes]
 
 def commands() -> list[list[str]]:
     """The words of the runs."""
+    circle = str(SCHEDULE / "circle.gnf")
     routes, refutation = str(FIRST / "routes.gnf"), str(FIRST / "routes.refutation")
     return [
         ["check", routes, refutation],
         ["print", routes],
+        ["check", circle, str(SCHEDULE / "circle.answer")],
         ["solve", routes],
+        ["solve", circle],
         ["solve", routes, "--conflicts", "1"],
         ["gen", "grid", "2", "7"],
         ["gen", "wall", "3", "7", "--solve"],
@@ -73,9 +78,7 @@ def places(words: list[str], library: str, kind: str) -> int:
 
 
 def main() -> None:
-    parser = argparse.ArgumentParser()
-    parser.add_argument("--program", required=True)
-    program = os.path.abspath(parser.parse_args().program)
+    program = os.path.abspath(kinds.parser(__doc__).parse_args().program)
     compiler = shutil.which("cc")
     if compiler is None:
         print("skipped: no C compiler")

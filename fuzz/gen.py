@@ -1,22 +1,20 @@
 #!/usr/bin/env python3
 """Compares the program's generated inputs, byte for byte, with those of a second generator.
 
-python3 fuzz/gen.py --program PATH
+Sizes from 2 to 12, and 100, each with seven seeds.
 """
 
-import argparse
 import subprocess
 import sys
 
+import kinds
 from generator import generated
 
 SEEDS = [0, 1, 7, 42, 2**32, 2**63, 2**64 - 1]
 
 
 def main():
-    parser = argparse.ArgumentParser(description=__doc__)
-    parser.add_argument("--program", required=True)
-    program = parser.parse_args().program
+    program = kinds.parser(__doc__).parse_args().program
     cases = [(kind, size, seed) for kind in ("grid", "wall") for size in [*range(2, 13), 100] for seed in SEEDS]
     for kind, size, seed in cases:
         words = ["gen", kind, str(size), str(seed)]

@@ -1,6 +1,7 @@
-"""Walks, flows and spanning trees for fuzz/reference.py: whether a predicate holds, and whether a witness passes.
+"""Walks, flows, spanning trees and cycles for fuzz/reference.py: whether a predicate holds, and whether a witness passes.
 
-Edges are tuples (graph, from, to, variable, weight). A predicate is a kind, its two ends (none for a tree) and a bound.
+Edges are tuples (graph, from, to, variable, weight). A predicate is a kind, its two ends (none for a tree and for cycles)
+and a bound (None where there is none).
 Everything here is written for small graphs, straight from what the words mean.
 """
 
@@ -10,6 +11,7 @@ WORDS = {
     "weight": ["path", "label"],
     "flow": ["flow", "flowcut"],
     "tree": ["tree", "split", "least"],
+    "acyclic": ["cycle", "order"],
 }
 
 
@@ -30,10 +32,10 @@ def distances(nodes, edges, kind, start):
     return least
 
 
-def maximum_flow(edges, source, sink):
-    """The value of a greatest flow, what each edge carries, and the nodes to which no more can be carried.
+def maximum_flow(edges, source, sink, most=None):
+    """The value of a greatest flow, what each edge carries, and the nodes to which more can be carried.
 
-    By ways with the fewest edges (Edmonds and Karp).
+    By ways with the fewest edges (Edmonds and Karp). With `most` no more than that is carried.
     """
     room = [[e[1], e[2], e[4]] for e in edges] + [[e[2], e[1], 0] for e in edges]
     value = 0
@@ -45,13 +47,15 @@ def maximum_flow(edges, source, sink):
                 if start == u and left and end not in came:
                     came[end] = k
                     queue.append(end)
-        if sink not in came:
+        if sink not in came or value == most:
             return value, [room[k + len(edges)][2] for k in range(len(edges))], list(came)
         way, u = [], sink
         while u != source:
             way.append(came[u])
             u = room[came[u]][0]
         least = min(room[k][2] for k in way)
+        if most is not None:
+            least = min(least, most - value)
         for k in way:
             room[k][2] -= least
             room[(k + len(edges)) % len(room)][2] += least
@@ -84,6 +88,8 @@ def holds(nodes, edges, kind, ends, bound):
     if kind == "tree":
         tree = least_tree(nodes, edges)
         return tree is not None and sum(e[4] for e in tree) <= bound
+    if kind == "acyclic":
+        return not any(distances(nodes, edges, "reach", e[2])[e[1]] == 0 for e in edges)
     found = distances(nodes, edges, kind, ends[0])[ends[1]]
     return found is not None and (bound is None or found <= bound)
 
@@ -126,6 +132,18 @@ def is_flow(nodes, edges, present, ends, bound, listed):
     return excess[ends[0]] >= bound and not any(x for u, x in enumerate(excess) if u not in ends)
 
 
+def is_cycle(edges, present, listed):
+    """Whether the edges are present and lead, one after the other, from a node to itself."""
+    onward = zip(listed, listed[1:] + listed[:1])
+    return bool(listed) and set(listed) <= present and all(edges[n][2] == edges[m][1] for n, m in onward)
+
+
+def is_order(nodes, edges, present, listed):
+    """Whether each node is listed once, and each present edge begins before it ends."""
+    place = {u: k for k, u in enumerate(listed)}
+    return sorted(listed) == list(range(nodes)) and all(place[edges[n][1]] < place[edges[n][2]] for n in present)
+
+
 def is_spanning_tree(nodes, edges, listed):
     different = len(set(listed)) == len(listed) == nodes - 1
     return different and len(set(joined(nodes, [edges[n] for n in listed]))) == 1
@@ -143,6 +161,10 @@ def passes(word, nodes, edges, present, kind, ends, bound, listed):
         return is_walk(edges, present, kind, ends, bound, listed)
     if word == "label":
         return is_labelling(edges, present, kind, ends, bound, listed)
+    if word == "cycle":
+        return is_cycle(edges, present, listed)
+    if word == "order":
+        return is_order(nodes, edges, present, listed)
     if word == "flow":
         return is_flow(nodes, edges, present, ends, bound, listed)
     if word == "tree":

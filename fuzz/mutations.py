@@ -2,9 +2,10 @@
 
 import re
 
+import reference
+
 LINES = ["", " ", "\r", "c", "c chain 0 1", "\tc x", "cx", "\x0b"]  # blank, comments, and two that are neither
 SIGNED = re.compile("-?[0-9]+")
-LEMMA_WORDS = ["path", "cut", "label", "flow", "flowcut", "tree", "split", "least"]
 LIMITS = [10**6, 10**6 + 1, 2**32 - 1, 2**32, 2**53, 2**53 + 1, 2**60, 2**60 + 1, 2**64 - 1, 2**64, 10**30]
 ODD_TOKENS = ["-0", "+1", "x", "-", "--1", "1x", "c", "v", "chain", "path", "00", "\x00", "\xff"]
 
@@ -70,7 +71,7 @@ class Mutations:
             row[k] = str(int(row[k]) + self.pick([-1, 1]))
 
     def other_word(self, row):
-        row[0] = self.pick(LEMMA_WORDS + ["chain", "v", "s"])
+        row[0] = self.pick([*reference.LEMMAS, "chain", "v", "s"])
 
     def other_predicate(self, row):
         row[min(1, len(row) - 1)] = str(self.random.randint(0, 6))
@@ -135,7 +136,7 @@ class Mutations:
 
     def row_to_alter(self, rows):
         """Mostly a lemma where there is one, seldom the status line."""
-        lemmas = [row for row in rows if row and row[0] in LEMMA_WORDS]
+        lemmas = [row for row in rows if row and row[0] in reference.LEMMAS]
         if lemmas and self.random.random() < 0.6:
             return self.pick(lemmas)
         if len(rows) == 1 or self.random.random() < 0.03:

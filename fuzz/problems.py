@@ -2,9 +2,16 @@
 
 import random
 
+import graphs
+import reference
+
 NODE_PREDICATES = ["reach", "distance_leq", "distance_lt", "weighted_distance_leq", "weighted_distance_lt"]
 FLOW_PREDICATES = ["maximum_flow_geq", "maximum_flow_gt"]
 TREE_PREDICATES = ["mst_weight_leq", "mst_weight_lt"]
+CYCLE_PREDICATES = ["acyclic"]
+# Weights around 32, 53 and 64 bits, and bounds beside them.
+WIDE = [0, 1, 2**32 - 1, 2**32, 2**53 - 1, 2**53, 2**53 + 1, 2**63, 2**64 - 2, 2**64 - 1]
+WIDE_BOUNDS = [0, 1, 2**32 - 1, 2**32, 2**53 - 1, 2**53]
 
 
 class Small:
@@ -14,6 +21,7 @@ class Small:
         self.random = random.Random(seed)
         self.is_hard = self.often(0.2)
         self.is_shared = not self.is_hard and self.often(0.4)
+        self.is_wide = self.often(0.2)
         self.variables = self.random.randint(7, 9) if self.is_hard else self.random.randint(1, 8)
 
     def often(self, share):
@@ -31,15 +39,24 @@ class Small:
         width = self.random.choice([1, 2, 2, 3, 3, 3, 3, 4]) if self.often(0.995) else 0
         return [self.random.choice([-1, 1]) * self.variable() for _ in range(width)]
 
+    def weight(self):
+        if self.is_wide:
+            return self.random.choice([weight for weight in WIDE if weight <= reference.MOST_WEIGHT])
+        return self.random.randint(0, 4)
+
     def edge(self, graph, nodes):
         ends = "%d %d" % (self.random.randrange(nodes), self.random.randrange(nodes))
-        return "edge %d %s %d %d" % (graph, ends, self.edge_variable(), self.random.randint(0, 4))
+        return "edge %d %s %d %d" % (graph, ends, self.edge_variable(), self.weight())
 
     def predicate(self, graph, nodes, sources):
         words = NODE_PREDICATES[:1] if self.often(0.3) else NODE_PREDICATES + TREE_PREDICATES
         if nodes > 1 and self.often(0.3):
             words = FLOW_PREDICATES
-        word, bound = self.random.choice(words), self.random.choice([0, 1, 2, 3, 5, 8])
+        if "acyclic" in graphs.WORDS and self.often(0.2):
+            words = CYCLE_PREDICATES
+        word, bound = self.random.choice(words), self.random.choice(WIDE_BOUNDS if self.is_wide else [0, 1, 2, 3, 5, 8])
+        if word in CYCLE_PREDICATES:
+            return "%s %d %d" % (word, graph, self.variable())
         if word in TREE_PREDICATES:
             return "%s %d %d %d" % (word, graph, self.variable(), bound)
         start, end = self.random.choice(sources), self.random.randrange(nodes)

@@ -1,7 +1,7 @@
 """A second reading of docs/FORMATS.md, written apart from the program: the reader, the printer and the checker.
 
 It is short and slow, and shares no code and no definition with the program. fuzz/run.py compares the two. What walks,
-flows and spanning trees are stands in fuzz/graphs.py.
+flows, spanning trees and cycles are stands in fuzz/graphs.py.
 """
 
 import functools
@@ -15,6 +15,7 @@ MOST_VARIABLES = 10**6
 MOST_32_BITS = 2**32 - 1
 MOST_BOUND = 2**53
 MOST_NUMBER = 2**64 - 1
+MOST_WEIGHT = 2**64 - 1
 MOST_AMOUNT = 2**60
 
 # word: the greatest value of each field behind it
@@ -30,6 +31,7 @@ PREDICATES = {
     b"maximum_flow_gt": BOUNDED,
     b"mst_weight_leq": [MOST_32_BITS, MOST_VARIABLES, MOST_BOUND],
     b"mst_weight_lt": [MOST_32_BITS, MOST_VARIABLES, MOST_BOUND],
+    b"acyclic": [MOST_32_BITS, MOST_VARIABLES],
 }
 # word: the greatest value of each number of an item of its list
 LEMMAS = {
@@ -41,9 +43,12 @@ LEMMAS = {
     "tree": [MOST_32_BITS],
     "split": [MOST_32_BITS],
     "least": [MOST_32_BITS],
+    "cycle": [MOST_32_BITS],
+    "order": [MOST_32_BITS],
 }
-POSITIVE = {"path", "flow", "tree"}  # these show that a predicate holds, the others that it fails
-OVER_EDGES = {"path", "flow", "tree", "least"}  # their lists name edges, the others' nodes
+POSITIVE = {"path", "flow", "tree", "order"}  # these show that a predicate holds, the others that it fails
+OVER_PRESENT = {"path", "flow", "tree", "cycle"}  # these rest on edges that are present, the others on absent ones
+OVER_EDGES = {"path", "flow", "tree", "least", "cycle"}  # their lists name edges, the others' nodes
 
 
 class Fault(Exception):
@@ -156,7 +161,7 @@ class Reader:
 
     def edge(self, rest):
         self.refuse_if(len(rest) not in (4, 5), "FieldCount")
-        fields = self.fields(rest, NODES + [MOST_32_BITS]) + [1]
+        fields = self.fields(rest, NODES + [MOST_WEIGHT]) + [1]
         graph, start, end, variable, weight = fields[:5]
         self.on_graph(graph, [start, end], variable)
         self.problem.edges.append((graph, start, end, variable, weight))
@@ -260,7 +265,7 @@ def edges_of(problem, predicate):
 
 def variable_of(predicate):
     word, fields = predicate
-    return fields[1] if word.startswith("mst") else fields[3]
+    return fields[3] if len(fields) > 3 else fields[1]
 
 
 def meaning(predicate):
@@ -268,6 +273,8 @@ def meaning(predicate):
     word, fields = predicate
     if word == "reach":
         return "reach", fields[1:3], None
+    if word == "acyclic":
+        return "acyclic", [], None
     bound = fields[-1] + {"_lt": -1, "_gt": 1}.get(word[-3:], 0)
     for start, kind in (("distance", "steps"), ("weighted", "weight"), ("maximum", "flow"), ("mst", "tree")):
         if word.startswith(start):
@@ -349,13 +356,13 @@ def judge_lemma(problem, line, word, number, literals, listed):
     def passes(present):
         return graphs.passes(word, nodes, edges, present, kind, ends, bound, listed)
 
-    if not passes(set(edges) if word in POSITIVE else set()):
+    if not passes(set(edges) if word in OVER_PRESENT else set()):
         raise Rejected(line, "WitnessFails")
-    x = variable_of(predicate)
-    if word in POSITIVE:
-        owed, present = x, {n for n, e in edges.items() if -e[3] in literals}
+    if word in OVER_PRESENT:
+        present = {n for n, e in edges.items() if -e[3] in literals}
     else:
-        owed, present = -x, {n for n, e in edges.items() if e[3] not in literals}
+        present = {n for n, e in edges.items() if e[3] not in literals}
+    owed = variable_of(predicate) if word in POSITIVE else -variable_of(predicate)
     if owed not in literals or not passes(present):
         raise Rejected(line, "MissingLiteral")
 

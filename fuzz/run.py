@@ -1,26 +1,28 @@
-"""Compares the program with fuzz/reference.py on random texts: run.py --program PATH [--rounds N] [--seed S]
+"""Compares the program with fuzz/reference.py on random texts: run.py [--rounds N] [--first SEED]
 
 Each round makes one input and three answers, most of them nearly right, and compares status and text byte by byte.
 The same seed gives the same texts. The status is 0 exactly where no run differs.
 """
 
-import argparse
 import itertools
 import random
 import sys
 import tempfile
 
 import graphs
+import kinds
 import reference
+import witnesses
 from comparison import Comparison
 
 NUMBERS = [10**6, 10**6 + 1, 2**31, 2**32 - 1, 2**32, 2**53, 2**53 + 1, 2**63, 2**64 - 1, 2**64, 10**40]
 ODD_TOKENS = ["+1", "x", "1x", "--1", "-", "1.0", "\x00", "\xff", "-0", "007", "cnf", "int", "c", "v", "s", "p"]
-ODD_WORDS = ["edge", "digraph", "chain", "path", "least", "SATISFIABLE", "UNKNOWN", "reach", "mst_weight_lt"]
+ODD_WORDS = ["edge", "digraph", "chain", "path", "least", "SATISFIABLE", "UNKNOWN", "reach", "mst_weight_lt", "acyclic", "cycle", "order"]
 BLANKS = [" "] * 400 + ["  ", "\t", "\r", " \r "] * 20 + ["\x0b", "\x00"]
 BOUNDED = ["distance_leq", "distance_lt", "weighted_distance_leq", "weighted_distance_lt"]
 FLOWS = ["maximum_flow_geq", "maximum_flow_gt"]
 TREES = ["mst_weight_leq", "mst_weight_lt"]
+CYCLES = ["acyclic"]
 
 
 class Texts:
@@ -55,12 +57,14 @@ class Texts:
         bound = self.one_of([0, 1, 2, 5, 2**53 - 1, 2**53])
         kind = self.up_to(8)
         if kind < 4:
-            weight = " %d" % self.one_of([0, 1, 7, 2**32 - 1]) if self.often(0.5) else ""
+            weight = " %d" % self.one_of([0, 1, 7, 2**32, 2**53, 2**64 - 1]) if self.often(0.5) else ""
             return "edge %d %s %d%s" % (graph, nodes, variable, weight)
         if kind == 4:
             return "reach %d %s %d" % (graph, nodes, variable)
         if kind < 7:
             return "%s %d %s %d %d" % (self.one_of(BOUNDED + FLOWS), graph, nodes, variable, bound)
+        if "acyclic" in graphs.WORDS and self.often(0.4):
+            return "%s %d %d" % (self.one_of(CYCLES), graph, variable)
         return "%s %d %d %d" % (self.one_of(TREES), graph, variable, bound)
 
     def clause(self, variables):
@@ -134,6 +138,11 @@ class Texts:
         """The list of a lemma's line, and the numbers of the edges on which it rests, over some of the edges."""
         some = {n: e for n, e in edges.items() if self.often(0.8)}
         numbers, held = list(some), list(some.values())
+        if word == "cycle":
+            return self.round_trip(some), None
+        if word == "order":
+            order = witnesses.order(nodes, held)
+            return order, [n for n, e in edges.items() if order.index(e[1]) >= order.index(e[2])]
         if word == "path":
             return self.walk(some, ends), None
         if word == "cut":
@@ -150,7 +159,7 @@ class Texts:
             tense = [n for n, e in edges.items() if of(e[2]) > of(e[1]) + graphs.cost(kind, e)]
             return [x for pair in label.items() for x in pair], tense
         if word == "flow":
-            _, amounts, _ = graphs.maximum_flow(held, *ends)
+            _, amounts, _ = graphs.maximum_flow(held, *ends, max(bound, 0))
             carried = [(n, a) for n, a in zip(numbers, amounts) if a or self.often(0.1)]
             return [x for pair in carried for x in pair], [n for n, a in carried if a]
         if word == "flowcut":
@@ -176,6 +185,13 @@ class Texts:
             u = edges[listed[-1]][2]
         return listed
 
+    def round_trip(self, edges):
+        """A walk from a node to itself along at least one edge, where one is met by chance."""
+        if not edges:
+            return []
+        first = self.one_of(list(edges))
+        return [first] + self.walk(edges, (edges[first][2], edges[first][1]))
+
     def owed_lemma(self, problem):
         """A lemma of some predicate with the literals that it owes: its word, number, clause and list."""
         number = self.up_to(len(problem.predicates), 1)
@@ -185,8 +201,7 @@ class Texts:
         edges = {n: e for n, e in enumerate(problem.edges, 1) if e[0] == predicate[1][0]}
         listed, needed = self.witness(word, reference.nodes_of(problem, predicate), edges, kind, ends, bound)
         needed = listed if needed is None else needed
-        sign = -1 if word in reference.POSITIVE else 1
-        literals = list({sign * edges[n][3] for n in needed} | {-sign * reference.variable_of(predicate)})
+        literals = list(witnesses.owed(word, reference.variable_of(predicate), (edges[n][3] for n in needed)))
         self.random.shuffle(literals)
         return word, number, literals, listed
 
@@ -260,12 +275,9 @@ class Texts:
 
 
 def main():
-    parser = argparse.ArgumentParser()
-    parser.add_argument("--program", required=True)
-    parser.add_argument("--rounds", type=int, default=500)
-    parser.add_argument("--seed", type=int, default=1)
-    args = parser.parse_args()
-    texts = Texts(args.seed)
+    args = kinds.parser(__doc__, "inputs", 500).parse_args()
+    kinds.known(args.program)
+    texts = Texts(args.first)
     with tempfile.TemporaryDirectory() as folder:
         comparison = Comparison(args.program, folder)
         for _ in range(args.rounds):

@@ -1,4 +1,4 @@
-"""Compares `solve` with trying all assignments, on small problems: solve.py --program PATH [--rounds N] [--first SEED]
+"""Compares `solve` with trying all assignments, on small problems: solve.py [--rounds N] [--first SEED]
 
 Each seed makes one problem, so the same seeds give the same problems. An answer is right where it is a model and some
 assignment satisfies the problem, a refutation and none does, or progress with exactly the budget's number of learned
@@ -6,7 +6,6 @@ clauses, each new. Each answer is judged by fuzz/reference.py and by the program
 write the same bytes. The status is 0 exactly where nothing differs.
 """
 
-import argparse
 import collections
 import itertools
 import os
@@ -14,7 +13,7 @@ import subprocess
 import sys
 import tempfile
 
-import graphs
+import kinds
 import problems
 import reference
 
@@ -97,8 +96,8 @@ def check_is_trimmed(problem, answer):
 
 
 class Comparison:
-    def __init__(self, program, folder, kinds):
-        self.program, self.folder, self.kinds = os.path.abspath(program), folder, kinds
+    def __init__(self, program, folder, solved):
+        self.program, self.folder, self.solved = os.path.abspath(program), folder, solved
         self.found = collections.Counter()
         self.wrong = 0
 
@@ -113,7 +112,7 @@ class Comparison:
             out.write(text)
 
     def is_built(self, problem):
-        return all(reference.meaning(p)[0] in self.kinds for p in problem.predicates)
+        return all(reference.meaning(p)[0] in self.solved for p in problem.predicates)
 
     def judge(self, problem, status, answer, budget):
         """The verdict that the answer has to have, which the reference and the program have to give it."""
@@ -155,8 +154,8 @@ class Comparison:
             raise Wrong("status %d, and trying all assignments says otherwise" % status)
         if self.run(*words) != (status, answer):
             raise Wrong("a second run wrote other bytes")
-        kinds = {reference.meaning(p)[0] for p in problem.predicates} or {"clauses"}
-        return "%s %s" % ({10: "model", 20: "refutation", 0: "progress"}[status], "+".join(sorted(kinds)))
+        met = {reference.meaning(p)[0] for p in problem.predicates} or {"clauses"}
+        return "%s %s" % ({10: "model", 20: "refutation", 0: "progress"}[status], "+".join(sorted(met)))
 
     def round(self, seed):
         small = problems.Small(seed)
@@ -170,15 +169,12 @@ class Comparison:
 
 
 def main():
-    parser = argparse.ArgumentParser()
-    parser.add_argument("--program", required=True)
-    parser.add_argument("--rounds", type=int, default=5000)
-    parser.add_argument("--first", type=int, default=1, help="the first seed")
-    parser.add_argument("--kinds", default=",".join(graphs.WORDS), help="the kinds of predicates that are built")
+    parser = kinds.parser(__doc__, "problems", 5000)
     parser.add_argument("--list", action="store_true", help="count the kinds of answers")
     args = parser.parse_args()
+    kinds.known(args.program)
     with tempfile.TemporaryDirectory() as folder:
-        comparison = Comparison(args.program, folder, set(args.kinds.split(",")))
+        comparison = Comparison(args.program, folder, kinds.solved(args.program))
         for seed in range(args.first, args.first + args.rounds):
             comparison.round(seed)
     if args.list:

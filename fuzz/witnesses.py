@@ -17,18 +17,39 @@ def walk(edges, kind, ends):
     return least[ends[1]][1]
 
 
-def positive(nodes, edges, present, kind, ends):
-    """The word, the list and the numbers of the edges that it needs, where the predicate holds."""
+def positive(nodes, edges, present, kind, ends, bound):
+    """The word, the list and the numbers of the edges on which it rests, where the predicate holds."""
     held = {n: edges[n] for n in present}
     if kind == "flow":
-        _, amounts, _ = graphs.maximum_flow(list(held.values()), *ends)
+        _, amounts, _ = graphs.maximum_flow(list(held.values()), *ends, max(bound, 0))
         carried = [(n, a) for n, a in zip(held, amounts) if a]
         return "flow", [x for pair in carried for x in pair], [n for n, _ in carried]
     if kind == "tree":
         tree = lightest_tree(nodes, held)
         return "tree", tree, tree
+    if kind == "acyclic":
+        listed = order(nodes, list(held.values()))
+        return "order", listed, [n for n, e in edges.items() if listed.index(e[1]) >= listed.index(e[2])]
     way = walk(held, kind, ends)
     return "path", way, way
+
+
+def order(nodes, edges):
+    """The nodes in an order in which each edge begins before it ends; those on cycles, and behind them, come last."""
+    listed = []
+    while True:
+        ready = [u for u in range(nodes) if u not in listed and all(e[1] in listed for e in edges if e[2] == u)]
+        if not ready:
+            return listed + [u for u in range(nodes) if u not in listed]
+        listed += ready
+
+
+def cycle(nodes, edges):
+    """The numbers of the edges of a cycle; none where there is none."""
+    for n, e in edges.items():
+        if graphs.distances(nodes, list(edges.values()), "reach", e[2])[e[1]] == 0:
+            return [n] + walk(edges, "reach", (e[2], e[1]))
+    return []
 
 
 def lightest_tree(nodes, edges):
@@ -43,13 +64,16 @@ def lightest_tree(nodes, edges):
 
 
 def negative(nodes, edges, present, kind, ends, bound):
-    """The word, the list and the numbers of the absent edges on which it rests, where the predicate fails."""
+    """The word, the list and the numbers of the edges on which it rests, where the predicate fails."""
     held = {n: edges[n] for n in present}
     if kind == "flow":
         inside = graphs.maximum_flow(list(held.values()), *ends)[2]
         return "flowcut", inside, [n for n in edges if n not in present and graphs.leaves(edges[n], inside)]
     if kind == "tree":
         return no_tree(nodes, edges, held)
+    if kind == "acyclic":
+        found = cycle(nodes, held)
+        return "cycle", found, found
     found = graphs.distances(nodes, list(held.values()), kind, ends[0])
     if kind == "reach":
         inside = [u for u in range(nodes) if found[u] is not None]
@@ -80,8 +104,14 @@ def lemma(problem, number, signs):
     nodes, x = reference.nodes_of(problem, predicate), reference.variable_of(predicate)
     edges = {n: e for n, e in enumerate(problem.edges, 1) if e[0] == predicate[1][0]}
     present = {n for n, e in edges.items() if signs[e[3]]}
-    if not signs[x]:
-        word, listed, needed = positive(nodes, edges, present, kind, ends)
-        return word, sorted({-edges[n][3] for n in needed} | {x}), listed
-    word, listed, needed = negative(nodes, edges, present, kind, ends, bound)
-    return word, sorted({edges[n][3] for n in needed} | {-x}), listed
+    if signs[x]:
+        word, listed, needed = negative(nodes, edges, present, kind, ends, bound)
+    else:
+        word, listed, needed = positive(nodes, edges, present, kind, ends, bound)
+    return word, sorted(owed(word, x, (edges[n][3] for n in needed))), listed
+
+
+def owed(word, x, variables):
+    """The literals that a lemma owes, of the predicate's variable and those of the edges on which it rests."""
+    side = -1 if word in reference.OVER_PRESENT else 1
+    return {side * variable for variable in variables} | {x if word in reference.POSITIVE else -x}

@@ -1,16 +1,18 @@
-"""Runs the program on texts that were worked by hand: worked.py --program PATH
+"""Runs the program on texts that were worked by hand: worked.py
 
 Each line of worked.json has files with their texts, the words of a run, the status, and the text that is written where
-the formats fix it. A file with no text is a folder, which can be opened and not read. Where `check` is there, what was written is handed to `check FILE` as the answer, and that is what it
-has to say. The status is 0 exactly where each run is as it was worked out.
+the formats fix it. A file with no text is a folder, which can be opened and not read. Where `check` is there, what was
+written is handed to `check FILE` as the answer, and that is what it has to say. Rows with `kind` are about a kind of
+predicate, or wide weights, and are run where the program reads them. The status is 0 exactly where each run is as it was worked out.
 """
 
-import argparse
 import json
 import os
 import subprocess
 import sys
 import tempfile
+
+import kinds
 
 HERE = os.path.dirname(os.path.abspath(__file__))
 
@@ -42,11 +44,13 @@ def difference(program, case):
 
 
 def main():
-    parser = argparse.ArgumentParser()
-    parser.add_argument("--program", required=True)
-    program = os.path.abspath(parser.parse_args().program)
+    program = os.path.abspath(kinds.parser(__doc__).parse_args().program)
+    known = kinds.known(program)
     with open(os.path.join(HERE, "worked.json"), encoding="utf-8") as file:
-        cases = json.load(file)
+        found = json.load(file)
+    cases = [case for case in found if case.get("kind", known[0]) in known]
+    for kind in {case.get("kind", known[0]) for case in found} - set(known):
+        print("skipped: texts with %s, which this program doesn't read" % kind)
     wrong = 0
     for case in cases:
         what = difference(program, case)

@@ -3,7 +3,7 @@
 from dataclasses import dataclass
 from typing import Callable
 
-from families import boards, clauses, grids, orders, sites
+from families import boards, clauses, grids, orders, precedence, sites
 
 
 @dataclass
@@ -31,6 +31,9 @@ FAMILIES = {
     "trees": Family(sites.trees, [(40, 5), (60, 5)], [(100, 3), (150, 3)]),
     # elements
     "orders": Family(orders.betweenness, [(30, 5), (40, 5)], [(80, 3)]),
+    # nodes, how far below a greedy bound; jobs, machines
+    "feedback": Family(precedence.feedback, [((24, 0), 5), ((30, 0), 5)], [((40, 0), 3)]),
+    "schedules": Family(precedence.schedules, [((8, 6), 5), ((12, 6), 5)], [((14, 10), 3)]),
     # grids: nodes on a side, predicates
     "predicates": Family(grids.predicates, [((8, 20), 5), ((16, 20), 5)], [((24, 20), 3), ((50, 20), 3)]),
     "reaching": Family(grids.reaching, [((8, 20), 5), ((16, 20), 5)], [((24, 20), 3), ((50, 20), 3)]),

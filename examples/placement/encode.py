@@ -8,7 +8,7 @@ from __future__ import annotations
 
 from pathlib import Path
 
-from gulfezo import Edge, Model, Problem
+from gulfezo import Model, Problem
 from gulfezo.draw import drawing
 
 HERE = Path(__file__).parent
@@ -21,8 +21,8 @@ def read_rows(name: str) -> list[list[str]]:
     return [line.split() for line in (HERE / name).read_text().splitlines()]
 
 
-def encode() -> tuple[Problem, dict[str, dict[Cell, Edge]]]:
-    """The problem, and for each block and cell the edge that says that the block stands there."""
+def encode() -> Problem:
+    """The problem: for each block and cell there is an edge, which says that the block stands there."""
     problem = Problem()
     graph = problem.add_graph("floor")
     cells = [(x, y) for y, row in enumerate(read_rows("floor.txt")) for x, mark in enumerate(row) if mark == "."]
@@ -47,34 +47,38 @@ def encode() -> tuple[Problem, dict[str, dict[Cell, Edge]]]:
             problem.require(graph.distance_leq(block[one], block[other], int(steps) + 2))
         else:
             problem.require(~graph.distance_leq(block[one], block[other], int(steps) + 1))
-    return problem, stands
+    return problem
 
 
 def problems() -> dict[str, Problem]:
     """The problem of this example by name."""
-    return {"floor": encode()[0]}
+    return {"floor": encode()}
 
 
-def where(model: Model, stands: dict[str, dict[Cell, Edge]]) -> dict[str, Cell]:
-    """The cell of each block."""
-    return {name: next(cell for cell, edge in at.items() if model[edge]) for name, at in stands.items()}
+def where(model: Model) -> dict[str, Cell]:
+    """The cell of each block: the end of the edge that leads there from the block."""
+    names = model.problem.graphs[0].names
+    found = {}
+    for edge in model.edges(model.problem.graphs[0]):
+        if "," in names[edge.end] and "," not in names[edge.start]:
+            x, y = map(int, names[edge.end].split(","))
+            found[names[edge.start]] = (x, y)
+    return found
 
 
 def picture(problem: Problem, model: Model) -> str:
     """The floor with each block beside its cell, and the ways between those that are near each other."""
-    _, stands = encode()
     graph = problem.graphs[0]
-    for name, (x, y) in where(model, stands).items():
+    for name, (x, y) in where(model).items():
         graph.names[graph.names.index(name)] = f"{name}@{x + 0.35},{y - 0.45}"
     return drawing(problem, model, absent=False)
 
 
 def main() -> None:
     """Solves it, and prints where each block stands."""
-    problem, stands = encode()
-    answer = problem.solve()
+    answer = encode().solve()
     if answer:
-        for name, (x, y) in where(answer, stands).items():
+        for name, (x, y) in where(answer).items():
             print(f"{name}: column {x}, row {y}")
     else:
         print("there is no such place for each block")

@@ -10,19 +10,22 @@
 program's format, runs its `solve` and its `check`, and reads what they print. What is proved is proved of the program.
 """
 
-from .answer import Answer, parse_answer
+from .answer import Answer, parse_answer, read_answer
 from .errors import (
     BudgetSpent,
     FormatError,
     GulfezoError,
+    NotSolved,
     PackageMissing,
     ProgramMissing,
     RejectedAnswer,
     RunError,
+    TimeSpent,
     UnexpectedStatus,
 )
-from .graph import Graph
-from .literals import Edge, Kind, Literal, Predicate
+from .foreign import read_dimacs, read_monosat
+from .graph import Graph, Node
+from .literals import And, Edge, Kind, Literal, Or, Predicate
 from .model import Model
 from .problem import Problem
 from .reading import parse_problem, read_problem
@@ -30,6 +33,7 @@ from .steps import Derivation, Progress, Refutation, Step
 from .sums import Sum
 
 __all__ = [
+    "And",
     "Answer",
     "BudgetSpent",
     "Derivation",
@@ -40,6 +44,9 @@ __all__ = [
     "Kind",
     "Literal",
     "Model",
+    "Node",
+    "NotSolved",
+    "Or",
     "PackageMissing",
     "Predicate",
     "Problem",
@@ -50,8 +57,12 @@ __all__ = [
     "RunError",
     "Step",
     "Sum",
+    "TimeSpent",
     "UnexpectedStatus",
     "parse_answer",
     "parse_problem",
+    "read_answer",
+    "read_dimacs",
+    "read_monosat",
     "read_problem",
 ]

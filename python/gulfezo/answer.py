@@ -6,60 +6,60 @@ it; whoever calls `parse_answer` decides alone what to believe.
 
 from __future__ import annotations
 
+import os
+from pathlib import Path
+
 from .errors import FormatError
+from .lines import Lines
 from .model import Model
 from .problem import Problem
-from .steps import Progress, Refutation, Step
+from .steps import Progress, Refutation, Steps
 
 Answer = Model | Refutation | Progress
 
 
 def parse_answer(problem: Problem, text: str) -> Answer:
     """The answer that a text gives to the problem. `FormatError` names a line that isn't understood."""
-    lines = [(number, line.split()) for number, line in enumerate(text.split("\n"), 1)]
-    lines = [(number, tokens) for number, tokens in lines if tokens and tokens[0] != "c"]
-    number, status = lines[0] if lines else (1, [])
-    if status == ["s", "SATISFIABLE"]:
-        return Model(problem, values(problem, lines[1:]), text)
-    if status == ["s", "UNSATISFIABLE"]:
-        return Refutation(problem, steps(problem, lines[1:]), text)
-    if status == ["s", "UNKNOWN"]:
-        return Progress(problem, steps(problem, lines[1:]), text)
+    answer = answer_of(problem, Lines(text.encode("utf-8", "replace")))
+    if not isinstance(answer, Model):
+        for _ in answer.steps:  # reading it shows that its line is understood
+            pass
+    return answer
+
+
+def read_answer(problem: Problem, path: str | os.PathLike[str]) -> Answer:
+    """The answer in a file, as one that `check` has accepted is read: a step is read where it is asked for.
+
+    So answers of any size need little more memory than their file has bytes. `FormatError` names a line that isn't
+    understood, of a step once it is read.
+    """
+    return answer_of(problem, Lines(Path(path).read_bytes()))
+
+
+def answer_of(problem: Problem, lines: Lines) -> Answer:
+    """The answer of a text by its lines."""
+    status = lines.tokens(0) if len(lines) else []
+    if status == [b"s", b"SATISFIABLE"]:
+        return Model(problem, values(problem, lines), lines.text())
+    steps = Steps(lines, range(1, len(lines)), len(problem.clauses))
+    if status == [b"s", b"UNSATISFIABLE"]:
+        return Refutation(problem, steps)
+    if status == [b"s", b"UNKNOWN"]:
+        return Progress(problem, steps)
+    number = lines.number(0) if len(lines) else 1
     raise FormatError(number, "an answer begins with `s SATISFIABLE`, `s UNSATISFIABLE` or `s UNKNOWN`")
 
 
-def values(problem: Problem, lines: list[tuple[int, list[str]]]) -> dict[int, bool]:
+def values(problem: Problem, lines: Lines) -> dict[int, bool]:
     """The value of each variable, from the lines `v` of a model."""
     found: dict[int, bool] = {}
-    for number, tokens in lines:
-        if tokens[0] != "v":
-            raise FormatError(number, "a model has only lines that begin with `v`")
-        for literal in whole_numbers(number, tokens[1:]):
-            if literal:
-                found[abs(literal)] = literal > 0
-    missing = [variable for variable in range(1, problem.variables + 1) if variable not in found]
-    if missing:
-        raise FormatError(lines[-1][0] if lines else 1, f"the model gives variable {missing[0]} no value")
+    for place in range(1, len(lines)):
+        word, numbers = lines.numbers(place)
+        if word != "v":
+            raise FormatError(lines.number(place), "a model has only lines that begin with `v`")
+        found.update((abs(literal), literal > 0) for literal in numbers if literal)
+    if len(found) < problem.variables:
+        missing = next(variable for variable in range(1, problem.variables + 1) if variable not in found)
+        line = lines.number(len(lines) - 1) if len(lines) > 1 else 1
+        raise FormatError(line, f"the model gives variable {missing} no value")
     return found
-
-
-def steps(problem: Problem, lines: list[tuple[int, list[str]]]) -> list[Step]:
-    """The steps of a refutation or of progress."""
-    found: list[Step] = []
-    for line, tokens in lines:
-        word, numbers = tokens[0], whole_numbers(line, tokens[1:])
-        predicate = None if word == "chain" else numbers.pop(0) if numbers else 0
-        if 0 not in numbers:
-            raise FormatError(line, "a step's clause ends with 0")
-        end = numbers.index(0)
-        number = len(problem.clauses) + len(found) + 1
-        found.append(Step(number, line, word, predicate, tuple(numbers[:end]), tuple(numbers[end + 1 :])))
-    return found
-
-
-def whole_numbers(line: int, tokens: list[str]) -> list[int]:
-    """The numbers of a line's tokens."""
-    try:
-        return [int(token) for token in tokens]
-    except ValueError:
-        raise FormatError(line, "a whole number was expected") from None

@@ -1,9 +1,10 @@
 """Draws a problem's graphs: gulfezo-draw FILE [ANSWER] -o out.svg [--predicate N | --lemma N] [--graph G]
 
-With a model it draws present edges dark and absent ones pale, and marks a walk, flow or tree for each predicate that
-holds; `--predicate N` chooses one predicate, also one that fails, for which it fills the nodes of a cut. With a
-refutation it draws the lemma whose clause has the number `--lemma N`, or the first lemma. Without an answer it draws
-the bare graphs. Graphs whose nodes have the same names lie upon each other; others stand beside each other.
+With a model it draws present edges dark and absent ones pale, and marks a walk, flow, tree or order for each predicate
+that holds; `--predicate N` chooses one predicate, also one that fails, for which it fills the nodes of a cut or marks a
+cycle. With a refutation it draws the lemma whose clause has the number `--lemma N`, or the first lemma. Without an
+answer it draws the bare graphs. Graphs whose nodes have the same names lie upon each other; others stand beside each
+other.
 """
 
 from __future__ import annotations
@@ -14,13 +15,14 @@ from collections.abc import Sequence
 from pathlib import Path
 
 from . import marks as marking, program
-from .answer import Answer, parse_answer
+from .answer import Answer, read_answer
 from .errors import GulfezoError, ProgramMissing
 from .graph import Graph
 from .model import Model
 from .panels import drawn
 from .problem import Problem
 from .reading import read_problem
+from .reasons import explained
 
 
 def drawing(
@@ -31,12 +33,16 @@ def drawing(
     Without `absent`, edges that aren't there are left out. `ValueError`: there is no such one, or nothing to draw.
     """
     if answer is None:
-        return drawn([(g, marking.bare(g)) for g in chosen_graphs(problem, 0, graph)])
+        return drawn([(g, marking.bare(g)) for g in chosen_graphs(problem, predicate, graph)])
     if isinstance(answer, Model):
+        if lemma:
+            raise ValueError("a model has no lemmas: `predicate` chooses what is drawn of it")
         one = problem.predicates[predicate - 1] if 0 < predicate <= len(problem.predicates) else None
         colours = list(marking.COLOURS)
         chosen = chosen_graphs(problem, predicate, graph)
         return drawn([(g, marking.of_model(answer, g, one, colours)) for g in chosen], absent)
+    if predicate:
+        raise ValueError("no predicate of a refutation is drawn: `lemma` chooses the lemma, by its clause's number")
     if not lemma and not answer.lemmas:
         raise ValueError("the answer has no lemma, so there is no graph to draw")
     step = answer.step(lemma) if lemma else answer.lemmas[0]
@@ -53,10 +59,23 @@ def chosen_graphs(problem: Problem, predicate: int, graph: int) -> list[Graph]:
     if predicate:
         graph = problem.predicates[predicate - 1].graph
     if graph >= 0 and graph not in problem.graphs:
-        raise ValueError(f"there is no graph {graph}: the problem has {', '.join(map(str, problem.graphs)) or 'none'}")
+        raise ValueError(no_graph(problem, graph))
     found = [problem.graphs[graph]] if graph >= 0 else [g for g in problem.graphs.values() if len(g)]
     if not found:
         raise ValueError("the problem has no graph to draw")
+    return found
+
+
+def no_graph(problem: Problem, graph: int) -> str:
+    """What is said where a graph is chosen that isn't there."""
+    return f"there is no graph {graph}: the problem has {', '.join(map(str, problem.graphs)) or 'none'}"
+
+
+def number(text: str) -> int:
+    """A number from 1, as a predicate or a clause has it."""
+    found = int(text)
+    if found < 1:
+        raise ValueError
     return found
 
 
@@ -71,8 +90,9 @@ def read(file: str, answer: str | None, unchecked: bool) -> tuple[Problem, Answe
         except ProgramMissing as missing:
             raise ProgramMissing(f"{missing}; or draw an unchecked answer by --unchecked") from missing
         if not said.startswith("accepted "):
-            raise GulfezoError(f"check says '{said}' of {answer}, so it isn't drawn; --unchecked draws it all the same")
-    return problem, parse_answer(problem, Path(answer).read_text(encoding="utf-8", errors="replace"))
+            why = explained(said, Path(file if said.startswith("refused") else answer))
+            raise GulfezoError(f"check says '{said}', so it isn't drawn; --unchecked draws it all the same{why}")
+    return problem, read_answer(problem, answer)
 
 
 def main(words: Sequence[str] | None = None) -> int:
@@ -81,15 +101,18 @@ def main(words: Sequence[str] | None = None) -> int:
     parser.add_argument("file", metavar="FILE", help="the problem")
     parser.add_argument("answer", metavar="ANSWER", nargs="?", help="an answer to it that `gulfezo check` accepts")
     parser.add_argument("-o", metavar="SVG", dest="out", required=True, help="where to write the picture")
-    parser.add_argument("--predicate", metavar="N", type=int, default=0, help="draw this predicate of a model, from 1")
-    parser.add_argument("--lemma", metavar="N", type=int, default=0, help="draw the lemma whose clause has this number")
-    parser.add_argument("--graph", metavar="G", type=int, default=-1, help="draw this graph alone")
+    parser.add_argument("--predicate", metavar="N", type=number, help="draw this predicate of a model, from 1")
+    parser.add_argument("--lemma", metavar="N", type=number, help="draw the lemma whose clause has this number")
+    parser.add_argument("--graph", metavar="G", type=int, help="draw this graph alone")
     parser.add_argument("--no-absent", action="store_true", help="leave out the edges that a model doesn't have")
     parser.add_argument("--unchecked", action="store_true", help="don't run `gulfezo check` on the answer")
     given = parser.parse_args(words)
     try:
         problem, answer = read(given.file, given.answer, given.unchecked)
-        text = drawing(problem, answer, given.predicate, given.lemma, given.graph, not given.no_absent)
+        if given.graph is not None and given.graph not in problem.graphs:
+            raise ValueError(no_graph(problem, given.graph))
+        graph = -1 if given.graph is None else given.graph
+        text = drawing(problem, answer, given.predicate or 0, given.lemma or 0, graph, not given.no_absent)
         Path(given.out).write_text(text, encoding="utf-8")
     except (GulfezoError, OSError, ValueError) as fault:
         print(f"gulfezo-draw: {fault}", file=sys.stderr)

@@ -31,6 +31,18 @@ class RunError(GulfezoError):
         self.answer = answer
 
 
+class NotSolved(GulfezoError):
+    """`solve` was given a budget or a time and found neither a model nor a refutation within it.
+
+    Where a folder was asked for, `problem` is its file; else both paths are None, and nothing stays.
+    """
+
+    def __init__(self, reason: str, problem: Path | None = None, answer: Path | None = None) -> None:
+        super().__init__(reason + (f"\n  what was learned: {answer}" if answer else ""))
+        self.problem = problem
+        self.answer = answer
+
+
 class RejectedAnswer(RunError):
     """`check` doesn't accept what `solve` printed. No value of such an answer is ever handed out."""
 
@@ -39,8 +51,12 @@ class UnexpectedStatus(RunError):
     """`solve` ended with a status that is no answer, or printed another answer than its status says."""
 
 
-class BudgetSpent(RunError):
-    """`solve` learned as many clauses as `conflicts` allows, and found neither a model nor a refutation."""
+class BudgetSpent(NotSolved):
+    """`solve` learned as many clauses as its budget allows. `answer` is the file of what it learned, unread."""
+
+
+class TimeSpent(NotSolved):
+    """The seconds that were given are over, and the program was ended. `answer` is always None."""
 
 
 class PackageMissing(GulfezoError):

@@ -2,24 +2,45 @@
 
 from __future__ import annotations
 
-from collections.abc import Sequence
-from typing import TYPE_CHECKING
+from collections import defaultdict
+from collections.abc import Hashable, Iterable
+from typing import TYPE_CHECKING, Any
 
-from .literals import Edge, Kind, Literal, Predicate, WORDS, one_line
+from .literals import Edge, Kind, Literal, Predicate, WORDS, one_line, whole
 
 if TYPE_CHECKING:
     from .problem import Problem
 
-MOST_WEIGHT = 2**32 - 1
+MOST_WEIGHT = 2**64 - 1
 MOST_BOUND = 2**53
+MOST_NODES = MOST_EDGES = 1_000_000
+MOST_PREDICATES = 100_000
+
+# A node's name: a text, or coordinates.
+Name = str | tuple[Any, ...]
+
+
+class Node(int):
+    """A node by its number, from 0, which knows the graph that it is of."""
+
+    graph: Graph
+
+    def __new__(cls, number: int, graph: Graph) -> Node:
+        made = super().__new__(cls, number)
+        made.graph = graph
+        return made
+
+    def __getnewargs__(self) -> tuple[int, Graph]:  # type: ignore[override]
+        return int(self), self.graph
 
 
 class Graph:
     """A directed graph whose edges are there or not, as their variables say. `Problem.add_graph` makes one.
 
     `edges` lists them all, present or not, in the order in which they were added; `names` has a node's name or "".
-    Nodes count from 0. A node may have a name, which pictures show: any text without line breaks, or a pair (x, y) of
-    whole numbers, which says where the node lies (x to the right, y down). `"hub@3,1"` is the name hub at (3, 1).
+    Nodes count from 0. A node may have a name, which pictures show: any text without line breaks, or coordinates. A
+    pair (x, y) says where the node lies (x to the right, y down); `"hub@3,1"` is the name hub at (3, 1). It may have a
+    key of the user's own too, by which `node` finds it.
     """
 
     def __init__(self, problem: Problem, identity: int, name: str = "") -> None:
@@ -28,6 +49,7 @@ class Graph:
         self.name = one_line(name)
         self.names: list[str] = []
         self.edges: list[Edge] = []
+        self._by_key: defaultdict[Hashable, list[Node]] = defaultdict(list)
 
     def __len__(self) -> int:
         """The number of its nodes."""
@@ -36,33 +58,71 @@ class Graph:
     def __bool__(self) -> bool:
         return True
 
-    def add_node(self, name: str | tuple[int, int] = "") -> int:
-        """A further node: its number, from 0."""
-        self.names.append(one_line(name if isinstance(name, str) else f"{name[0]},{name[1]}"))
-        return len(self.names) - 1
+    def add_node(self, name: Name = "", key: Hashable = None) -> Node:
+        """A further node: its number, from 0.
 
-    def add_nodes(self, names: int | Sequence[str | tuple[int, int]]) -> list[int]:
+        `key` is anything hashable by which `node` finds it again; where it is left out, the name is. `ValueError`:
+        another node of the graph has the key, or the name isn't one line of text or coordinates.
+        """
+        if isinstance(name, tuple):
+            text = ",".join(map(str, name))
+        elif isinstance(name, str):
+            text = name
+        else:
+            raise ValueError(f"a node's name is a text or coordinates, which {name!r} isn't; `key=` takes anything")
+        if key is not None and key in self._by_key:
+            raise ValueError(f"graph {self.identity} has a node {key!r} already")
+        if self.problem.nodes == MOST_NODES:
+            raise ValueError(f"a problem has at most {MOST_NODES} nodes")
+        self.names.append(one_line(text))
+        self.problem.nodes += 1
+        node = Node(len(self.names) - 1, self)
+        if key is None and name != "":
+            key = name
+        if key is not None:
+            self._by_key[key].append(node)
+        return node
+
+    def add_nodes(self, names: int | Iterable[Name]) -> list[Node]:
         """Further nodes, so many or one for each name: their numbers."""
-        return [self.add_node(name) for name in ([""] * names if isinstance(names, int) else names)]
+        if isinstance(names, str):
+            raise ValueError(f"add_nodes takes a number or a list of names; add_node takes the one name {names!r}")
+        if isinstance(names, Iterable):
+            return [self.add_node(name) for name in names]
+        return [self.add_node() for _ in range(whole(names, "a number of nodes", MOST_NODES))]
+
+    def node(self, key: Hashable) -> Node:
+        """The node with that key, or with that name where it was given no key. `ValueError`: none, or several have."""
+        found = self._by_key.get(key, [])
+        if len(found) != 1:
+            raise ValueError(f"graph {self.identity} has {'several nodes' if found else 'no node'} {key!r}")
+        return found[0]
 
     def add_edge(self, start: int, end: int, weight: int = 1, variable: Literal | None = None) -> Edge:
         """A directed edge, present exactly where its variable is true.
 
-        `weight` is from 0 to 2^32 - 1. `variable` is a new one where it is left out; several edges may share one.
+        `weight` is from 0 to 2^64 - 1. `variable` is a new one where it is left out; several edges may share one.
         """
-        self._require_nodes(start, end)
-        if not 0 <= weight <= MOST_WEIGHT:
-            raise ValueError(f"an edge's weight is a whole number from 0 to {MOST_WEIGHT}, which {weight} isn't")
-        number = self.problem.variable_of(variable)
-        edge = Edge(number, len(self.problem.edges) + 1, self.identity, start, end, weight)
+        start, end = self._own(start), self._own(end)
+        weight = whole(weight, "an edge's weight", MOST_WEIGHT)
+        number = len(self.problem.edges) + 1
+        if number > MOST_EDGES:
+            raise ValueError(f"a problem has at most {MOST_EDGES} edges")
+        owner = self.problem
+        edge = Edge(owner.variable_of(variable), number, self.identity, start, end, weight, owner=owner)
         self.problem.edges.append(edge)
         self.edges.append(edge)
         return edge
 
+    def between(self, start: int, end: int) -> list[Edge]:
+        """The edges from a node to another, in the order in which they were added; each call looks at all edges."""
+        ends = self._own(start), self._own(end)
+        return [edge for edge in self.edges if (edge.start, edge.end) == ends]
+
     def add_link(self, one: int, other: int, weight: int = 1, variable: Literal | None = None) -> Edge:
         """Two edges, there and back, of one variable: an undirected edge. The one from `one` to `other` is given."""
         there = self.add_edge(one, other, weight, variable)
-        self.add_edge(other, one, weight, Literal(there.number))
+        self.add_edge(other, one, weight, there)
         return there
 
     def reach(self, start: int, end: int, variable: Literal | None = None) -> Predicate:
@@ -101,6 +161,10 @@ class Graph:
         """Whether a spanning tree, directions ignored, joins all nodes with a weight below `bound`."""
         return self.add_predicate("mst_weight_lt", None, bound, variable)
 
+    def acyclic(self, variable: Literal | None = None) -> Predicate:
+        """Whether the edges that are there hold no directed cycle; an edge from a node to itself is one."""
+        return self.add_predicate("acyclic", None, None, variable)
+
     def add_predicate(
         self, word: str, ends: tuple[int, int] | None, bound: int | None, variable: Literal | None = None
     ) -> Predicate:
@@ -108,19 +172,27 @@ class Graph:
 
         `bound` is from 0 to 2^53. `variable` is a new one where it is left out.
         """
-        self._require_nodes(*(ends or ()))
-        if bound is not None and not 0 <= bound <= MOST_BOUND:
-            raise ValueError(f"a bound is a whole number from 0 to {MOST_BOUND}, which {bound} isn't")
+        if ends is not None:
+            ends = self._own(ends[0]), self._own(ends[1])
+        if bound is not None:
+            bound = whole(bound, "a bound", MOST_BOUND)
         if WORDS[word][0] is Kind.MAXIMUM_FLOW and ends is not None and ends[0] == ends[1]:
             raise ValueError(f"a flow leads from one node to another, and not from {ends[0]} to itself")
-        number = self.problem.variable_of(variable)
-        predicate = Predicate(number, len(self.problem.predicates) + 1, self.identity, word, ends, bound)
+        number = len(self.problem.predicates) + 1
+        if number > MOST_PREDICATES:
+            raise ValueError(f"a problem has at most {MOST_PREDICATES} predicates")
+        owner = self.problem
+        predicate = Predicate(owner.variable_of(variable), number, self.identity, word, ends, bound, owner=owner)
         self.problem.predicates.append(predicate)
         return predicate
 
-    def _require_nodes(self, *nodes: int) -> None:
-        for node in nodes:
-            if not 0 <= node < len(self):
-                raise ValueError(
-                    f"graph {self.identity} has no node {node}: it has {len(self)}, counted from 0; add_node makes more"
-                )
+    def _own(self, node: int) -> int:
+        """The node's number. `ValueError`: it isn't of this graph."""
+        if isinstance(node, Node) and node.graph is not self:
+            raise ValueError(f"node {node} is of another graph, and not of graph {self.identity}")
+        number = whole(node, "a node's number")
+        if number >= len(self):
+            raise ValueError(
+                f"graph {self.identity} has no node {number}: it has {len(self)}, counted from 0; add_node makes more"
+            )
+        return number

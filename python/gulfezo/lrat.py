@@ -5,17 +5,20 @@ LRAT (L. Cruz-Filipe, M. Heule, W. Hunt, M. Kaufmann, P. Schneider-Kamp, "Effici
 last. Here a chain begins with that clause and goes back, so the hints are the chain turned round; one whose literal is
 known to be true already when it comes is left out. DRAT (N. Wetzler, M. Heule, W. Hunt, SAT 2014) has clauses alone.
 
-A lemma about a graph has no counterpart there: clauses alone don't give it. An answer that has one is refused.
+A lemma about a graph has no counterpart there: clauses alone don't give it. With --cnf the lemmas' clauses are written
+as further clauses of that file, behind the problem's, and the proof is about them all: `gulfezo check` judges the
+lemmas, and the other checker the rest. Without it an answer that has a lemma is refused.
 """
 
 from __future__ import annotations
 
 import argparse
+import os
 import sys
 from collections.abc import Iterable, Sequence
 from pathlib import Path
 
-from .answer import parse_answer
+from .answer import read_answer
 from .errors import GulfezoError
 from .problem import Problem
 from .reading import read_problem
@@ -47,35 +50,53 @@ def hints(clause: Sequence[int], chain: Iterable[tuple[int, frozenset[int]]]) ->
     return used
 
 
-def proof(problem: Problem, answer: Refutation, with_hints: bool = True) -> list[str]:
-    """The lines of the LRAT proof, or of the DRAT proof where hints aren't wanted.
+def numbers_of(problem: Problem, answer: Refutation) -> list[int]:
+    """The number of each clause in a proof, by the place of its step: the lemmas' come first, then those of chains."""
+    lemma = len(problem.clauses)
+    chain = lemma + len(answer.lemmas)
+    numbers = []
+    for place in answer.steps.places:
+        if answer.steps.lines.is_chain(place):
+            chain += 1
+            numbers.append(chain)
+        else:
+            lemma += 1
+            numbers.append(lemma)
+    return numbers
 
-    `NoCounterpart`: a step is a lemma; the message names the first one.
-    """
+
+def proof(problem: Problem, answer: Refutation, with_hints: bool = True) -> list[str]:
+    """The lines of the LRAT proof, or of the DRAT proof where hints aren't wanted, over `clauses_of` both."""
     clauses = [frozenset(clause) for clause in problem.clauses]
+    numbers = [*range(1, len(clauses) + 1), *numbers_of(problem, answer)]
     lines = []
     for step in answer.steps:
-        if step.predicate is not None:
-            raise NoCounterpart(
-                f"line {step.line} of the answer, clause {step.number}, is a lemma `{step.word}` on predicate "
-                f"{step.predicate}: LRAT and DRAT have clauses alone, and no step for graphs. "
-                "`gulfezo check` judges this answer"
-            )
-        literals = dimacs(step.clause)
-        if with_hints:
+        if step.predicate is None and with_hints:
             named = hints(step.clause, ((number, clauses[number - 1]) for number in step.listed))
-            lines.append(f"{step.number} {literals} {' '.join(map(str, (*named, 0)))}")
-        else:
-            lines.append(literals)
+            row = [*dict.fromkeys(step.clause), 0, *(numbers[number - 1] for number in named), 0]
+            lines.append(f"{numbers[step.number - 1]} {' '.join(map(str, row))}")
+        elif step.predicate is None:
+            lines.append(dimacs(step.clause))
         clauses.append(frozenset(step.clause))
     return lines
 
 
-def clauses_alone(problem: Problem) -> str:
-    """The problem's clauses as a DIMACS CNF file, in the order of their numbers."""
-    rows = [f"p cnf {problem.variables} {len(problem.clauses)}"]
+def clauses_of(problem: Problem, answer: Refutation) -> str:
+    """The problem's clauses and then those of the lemmas, as a DIMACS CNF file."""
+    rows = [f"p cnf {problem.variables} {len(problem.clauses) + len(answer.lemmas)}"]
     rows += [dimacs(clause) for clause in problem.clauses]
+    rows += [dimacs(step.clause) for step in answer.lemmas]
     return "\n".join(rows) + "\n"
+
+
+def require_no_lemma(answer: Refutation) -> None:
+    """`NoCounterpart`: a step is a lemma; the message names the first one."""
+    for step in answer.lemmas[:1]:
+        raise NoCounterpart(
+            f"line {step.line} of the answer, clause {step.number}, is a lemma `{step.word}` on predicate "
+            f"{step.predicate}: LRAT and DRAT have clauses alone, and no step for graphs. With --cnf FILE the lemmas' "
+            "clauses are written there, behind the problem's, and `gulfezo check` judges them"
+        )
 
 
 def dimacs(clause: Iterable[int]) -> str:
@@ -83,14 +104,16 @@ def dimacs(clause: Iterable[int]) -> str:
     return " ".join(map(str, (*dict.fromkeys(clause), 0)))
 
 
-def convert(file: str, answer: str, with_hints: bool = True) -> tuple[str, str]:
-    """The proof, and the clauses it is about, of a problem's file and an answer's."""
+def convert(file: str, answer: str, with_hints: bool = True, with_lemmas: bool = False) -> tuple[str, str, int]:
+    """The proof, the clauses it is about, and how many of these are lemmas, of a problem's file and an answer's."""
     problem = read_problem(file)
-    found = parse_answer(problem, Path(answer).read_text(encoding="utf-8", errors="replace"))
+    found = read_answer(problem, answer)
     if not isinstance(found, Refutation):
         raise NoCounterpart(f"{answer} is no refutation: only `s UNSATISFIABLE` has a proof")
+    if not with_lemmas:
+        require_no_lemma(found)
     lines = proof(problem, found, with_hints)
-    return "".join(line + "\n" for line in lines), clauses_alone(problem)
+    return "".join(line + "\n" for line in lines), clauses_of(problem, found), len(found.lemmas)
 
 
 def main(words: Sequence[str] | None = None) -> int:
@@ -99,17 +122,25 @@ def main(words: Sequence[str] | None = None) -> int:
     parser.add_argument("file", metavar="FILE", help="the problem")
     parser.add_argument("answer", metavar="ANSWER", help="a refutation of it that `gulfezo check` accepts")
     parser.add_argument("-o", metavar="PROOF", dest="out", help="where to write the proof (standard output)")
-    parser.add_argument("--cnf", metavar="FILE", help="where to write the clauses that the proof is about")
+    parser.add_argument("--cnf", metavar="FILE", help="where to write the clauses it is about, lemmas' last")
     parser.add_argument("--drat", action="store_true", help="without hints, for checkers of DRAT")
     given = parser.parse_args(words)
     try:
-        text, clauses = convert(given.file, given.answer, not given.drat)
+        text, clauses, lemmas = convert(given.file, given.answer, not given.drat, bool(given.cnf))
         if given.cnf:
             Path(given.cnf).write_text(clauses, encoding="utf-8")
+        if lemmas:
+            told = f"the last {lemmas} clauses of {given.cnf} are lemmas about graphs, which clauses alone don't give"
+            print(f"gulfezo-lrat: {told}; 'gulfezo check {given.file} {given.answer}' judges them", file=sys.stderr)
         if given.out:
             Path(given.out).write_text(text, encoding="utf-8")
         else:
             sys.stdout.write(text)
+            sys.stdout.flush()
+    except BrokenPipeError:
+        # Whoever reads has enough. Python flushes once more at its end, which mustn't fail again.
+        os.dup2(os.open(os.devnull, os.O_WRONLY), sys.stdout.fileno())
+        return 1
     except (GulfezoError, OSError) as fault:
         print(f"gulfezo-lrat: {fault}", file=sys.stderr)
         return 1

@@ -1,4 +1,4 @@
-"""What a picture marks: a model's walks, cuts, flows and trees, or the witness of a lemma."""
+"""What a picture marks: a model's walks, cuts, flows, trees, orders and cycles, or the witness of a lemma."""
 
 from __future__ import annotations
 
@@ -45,6 +45,10 @@ class Marks:
         """Fills these nodes."""
         self.filled.update(dict.fromkeys(nodes, colour))
 
+    def rank(self, order: Iterable[int]) -> None:
+        """Labels the nodes with their places in an order, from 1."""
+        self.labels = {node: f"{place}." for place, node in enumerate(order, 1)}
+
 
 def bare(graph: Graph) -> Marks:
     """The graph itself, with all its edges."""
@@ -76,6 +80,9 @@ def hold(marks: Marks, model: Model, predicate: Predicate, colour: str) -> str:
         marks.mark(flow, colour)
         marks.notes.update({edge.edge_number: f"{amount}/{edge.weight}" for edge, amount in flow.items()})
         return f"a flow of {predicate.limit}, as amount/capacity"
+    if predicate.kind is Kind.ACYCLIC:
+        marks.rank(model.order(predicate))
+        return "no cycle; each edge leads from a lower place to a higher one"
     edges = model.tree(predicate) if predicate.kind is Kind.MST_WEIGHT else model.path(predicate)
     marks.mark(edges, colour)
     if predicate.kind in (Kind.MST_WEIGHT, Kind.WEIGHTED_DISTANCE):
@@ -93,6 +100,11 @@ def fail(marks: Marks, model: Model, predicate: Predicate, colour: str) -> str:
     """
     graph, ends = model.problem.graphs[predicate.graph], predicate.ends
     edges = model.edges(graph)
+    if predicate.kind is Kind.ACYCLIC:
+        cycle = search.shortest_cycle(edges)
+        assert cycle is not None, "the predicate fails, so there is a cycle"
+        marks.mark(cycle, colour)
+        return f"a cycle of {count(len(cycle), 'edge')}"
     if ends is None:
         tree = search.lightest_tree(len(graph), edges)
         if tree is not None:
@@ -121,7 +133,7 @@ def of_lemma(problem: Problem, step: Step) -> Marks:
     edges = {edge.edge_number: edge for edge in graph.edges}
     literals, colour = set(step.clause), COLOURS[0]
     marks = Marks(arrows=predicate.kind is not Kind.MST_WEIGHT)
-    if step.shows_that_it_holds:
+    if step.rests_on_present:
         marks.present = {number for number, edge in edges.items() if -edge.number in literals}
     else:
         marks.against = {number for number, edge in edges.items() if edge.number in literals}
@@ -137,12 +149,15 @@ def of_lemma(problem: Problem, step: Step) -> Marks:
 
 def witness(marks: Marks, step: Step, edges: dict[int, Edge], weighted: bool, colour: str) -> str:
     """Marks the list behind a lemma's clause; what the caption says of it. Labels may be `weighted` distances."""
-    if step.word in ("path", "tree", "least"):
+    if step.word in ("path", "tree", "least", "cycle"):
         return walk_or_tree(marks, step, edges, colour)
     if step.word == "flow":
         marks.mark((edges[number] for number, amount in step.pairs if amount), colour)
         marks.notes.update({number: f"{amount}/{edges[number].weight}" for number, amount in step.pairs if amount})
         return "a flow, as amount/capacity"
+    if step.word == "order":
+        marks.rank(step.listed)
+        return "each edge that may be present leads from a lower place to a higher one"
     if step.word == "label":
         marks.labels = {node: str(value) for node, value in step.pairs}
         marks.fill(marks.labels, SIDE)
@@ -153,9 +168,11 @@ def witness(marks: Marks, step: Step, edges: dict[int, Edge], weighted: bool, co
 
 
 def walk_or_tree(marks: Marks, step: Step, edges: dict[int, Edge], colour: str) -> str:
-    """Marks the edges of a walk or a spanning tree; what the caption says of it."""
+    """Marks the edges of a walk, a cycle or a spanning tree; what the caption says of it."""
     chosen = [edges[number] for number in step.listed]
     marks.mark(chosen, colour)
+    if step.word == "cycle":
+        return f"a cycle of {count(len(chosen), 'edge')}"
     noted = edges.values() if step.word == "least" else chosen
     marks.notes.update({edge.edge_number: str(edge.weight) for edge in noted})
     weight = sum(edge.weight for edge in chosen)

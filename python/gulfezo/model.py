@@ -1,4 +1,4 @@
-"""Models: which edges are present, and the walk, flow or tree that shows that a predicate holds."""
+"""Models: which edges are present, and the walk, flow, tree or order that shows that a predicate holds."""
 
 from __future__ import annotations
 
@@ -24,12 +24,16 @@ class Model:
 
     def __getitem__(self, literal: Literal) -> bool:
         """Whether the literal is true: of an edge, whether it is present, of a predicate, whether it holds."""
+        if not isinstance(literal, Literal) or literal.owner not in (None, self.problem):
+            raise ValueError(f"{literal} is no literal of the problem that was solved")
         if literal.variable not in self.values:
             raise ValueError(f"{literal} isn't of the problem that was solved; solve again after adding to it")
         return self.values[literal.variable] == (literal.number > 0)
 
     def edges(self, graph: Graph) -> list[Edge]:
         """The edges that are present, in the order in which they were added."""
+        if graph.problem is not self.problem:
+            raise ValueError(f"graph {graph.identity} isn't of the problem that was solved")
         return [edge for edge in graph.edges if self[edge]]
 
     def path(self, predicate: Predicate) -> list[Edge]:
@@ -60,6 +64,18 @@ class Model:
         assert tree is not None, "the predicate holds, so there is a tree"
         return tree
 
+    def order(self, predicate: Predicate) -> list[int]:
+        """All nodes of the graph in an order in which each present edge leads from an earlier node to a later one.
+
+        Of nodes that could come next the one with the least number does. `ValueError`: the predicate isn't `acyclic`,
+        or it doesn't hold.
+        """
+        self._require(predicate, (Kind.ACYCLIC,), "an order")
+        graph = self.problem.graphs[predicate.graph]
+        order = search.topological_order(len(graph), self.edges(graph))
+        assert order is not None, "the predicate holds, so there is an order"
+        return order
+
     def networkx(self, graph: Graph) -> Any:
         """The present edges as a `networkx.MultiDiGraph`, whose edges are keyed by their numbers and have a weight.
 
@@ -85,7 +101,7 @@ class Model:
         return predicate.ends
 
     def _require(self, predicate: Predicate, kinds: tuple[Kind, ...], what: str) -> None:
-        if predicate.kind not in kinds:
+        if not isinstance(predicate, Predicate) or predicate.kind not in kinds:
             raise ValueError(f"'{predicate}' is no predicate that {what} shows")
         if not self[predicate]:
             raise ValueError(f"'{predicate}' fails in this model, so there isn't {what}; ask model[predicate] first")

@@ -84,7 +84,8 @@ def draw_nodes(picture: svg.Picture, panel: list[View], at: list[svg.Point]) -> 
         picture.node(place, layout.label(names, node), fill, rims.get(node, svg.INK))
         for _, marks in panel:
             if node in marks.labels:
-                picture.text((place[0] + svg.RADIUS + 4, place[1] - svg.RADIUS), marks.labels[node], COLOURS[0])
+                beside = (place[0] + svg.RADIUS + 4, place[1] + svg.RADIUS)  # loops are above
+                picture.text(beside, marks.labels[node], COLOURS[0])
 
 
 def rims_of(panel: list[View]) -> dict[int, str]:

@@ -3,18 +3,26 @@
 from __future__ import annotations
 
 import os
-from collections.abc import Iterable, Sequence
-from pathlib import Path
-from typing import TYPE_CHECKING
+from collections.abc import Iterable, Iterator, Sequence
+from typing import TYPE_CHECKING, Any
 
 from . import cardinality
 from .graph import Graph
-from .literals import Edge, Literal, Predicate, one_line
+from .literals import Edge, Literal, Predicate, listed, one_line, printable, whole
 from .sums import Sum
 
 if TYPE_CHECKING:
     from .model import Model
     from .steps import Refutation
+
+
+MOST_VARIABLES = 1_000_000
+MOST_GRAPHS = 1_024
+
+
+def count(bound: int) -> int:
+    """A bound on a number of literals: any whole number, negative ones too."""
+    return whole(bound, "a bound on a number of literals", least=-(2**63))
 
 
 class Problem:
@@ -38,6 +46,7 @@ class Problem:
 
     def __init__(self) -> None:
         self.variables = 0
+        self.nodes = 0
         self.clauses: list[tuple[int, ...]] = []
         self.graphs: dict[int, Graph] = {}
         self.edges: list[Edge] = []
@@ -48,14 +57,22 @@ class Problem:
 
     def add_variable(self, name: str = "") -> Literal:
         """A new variable, as a literal. Its name, one line of text, is written into the file as a comment."""
+        if self.variables == MOST_VARIABLES:
+            raise ValueError(f"a problem has at most {MOST_VARIABLES} variables")
         if name:
             self.names[self.variables + 1] = one_line(name)
         self.variables += 1
-        return Literal(self.variables)
+        return Literal(self.variables, owner=self)
 
     def add_variables(self, count: int) -> list[Literal]:
         """So many new variables."""
-        return [self.add_variable() for _ in range(count)]
+        return [self.add_variable() for _ in range(whole(count, "a number of variables", MOST_VARIABLES))]
+
+    def literal(self, number: int) -> Literal:
+        """The literal with that number in the files: a variable, or the negation of one. `ValueError`: none has it."""
+        if not 0 < abs(number) <= self.variables:
+            raise ValueError(f"no literal has the number {number}: this problem has {self.variables} variables")
+        return Literal(number, owner=self)
 
     def variable_of(self, literal: Literal | None) -> int:
         """The variable of a literal that is to name an edge or a predicate, or a new one where none is given.
@@ -64,32 +81,40 @@ class Problem:
         """
         if literal is None:
             return self.add_variable().number
-        if not 0 < literal.number <= self.variables:
-            raise ValueError(f"the variable of an edge or a predicate is one of this problem, which {literal} isn't")
+        if self.require_own(literal).number < 0:
+            raise ValueError(f"the variable of an edge or a predicate is no negation, which {literal} is")
         return literal.number
 
-    def add_clause(self, *literals: Literal) -> None:
-        """At least one of the literals is true. Without any, the problem has no model."""
-        for literal in literals:
-            if literal.variable > self.variables:
-                raise ValueError(f"{literal} isn't of this problem, which has {self.variables} variables")
-        self.clauses.append(tuple(literal.number for literal in literals))
+    def require_own(self, literal: Literal) -> Literal:
+        """The literal. `ValueError`: it is of another problem; `TypeError`: it is no literal."""
+        if not isinstance(literal, Literal):
+            raise TypeError(f"{literal!r} is no literal: variables, edges and predicates are, and their negations by ~")
+        if literal.owner not in (None, self) or literal.variable > self.variables:
+            raise ValueError(f"{literal} isn't of this problem")
+        return literal
+
+    def add_clause(self, *literals: Literal | Iterable[Literal]) -> None:
+        """At least one of the literals, given one by one or as one list, is true. Without any there is no model."""
+        self.clauses.append(tuple(self.require_own(literal).number for literal in listed(literals)))
 
     def require(self, *literals: Literal) -> None:
         """Each of the literals is true."""
+        for literal in literals:
+            self.require_own(literal)
         for literal in literals:
             self.add_clause(literal)
 
     def at_most(self, bound: int, literals: Iterable[Literal]) -> None:
         """At most `bound` of the literals are true (by pairs, or Sinz's sequential counter: `gulfezo.cardinality`)."""
-        for clause in cardinality.at_most(bound, list(literals), self.add_variable):
+        chosen = [self.require_own(literal) for literal in literals]
+        for clause in cardinality.at_most(count(bound), chosen, self.add_variable):
             self.add_clause(*clause)
 
     def at_least(self, bound: int, literals: Iterable[Literal]) -> None:
         """At least `bound` of the literals are true."""
-        chosen = list(literals)
-        if bound == 1:
-            self.add_clause(*chosen)
+        chosen = [self.require_own(literal) for literal in literals]
+        if count(bound) == 1:
+            self.add_clause(chosen)
         else:
             self.at_most(len(chosen) - bound, [~x for x in chosen])
 
@@ -100,7 +125,7 @@ class Problem:
     def exactly_one(self, literals: Iterable[Literal]) -> None:
         """One of the literals is true, and no second one."""
         chosen = list(literals)
-        self.add_clause(*chosen)
+        self.add_clause(chosen)
         self.at_most_one(chosen)
 
     # ---- graphs
@@ -113,10 +138,30 @@ class Problem:
 
     def declare_graph(self, identity: int, name: str = "") -> Graph:
         """A new graph without nodes, by the number by which the files name it. `ValueError`: there is such a one."""
-        if identity in self.graphs:
+        if len(self.graphs) == MOST_GRAPHS:
+            raise ValueError(f"a problem has at most {MOST_GRAPHS} graphs")
+        if whole(identity, "a graph's number", 2**32 - 1) in self.graphs:
             raise ValueError(f"there is a graph {identity} already")
         self.graphs[identity] = Graph(self, identity, name)
         return self.graphs[identity]
+
+    @classmethod
+    def from_networkx(cls, graph: Any, weight: str = "weight") -> Problem:
+        """A problem with one graph, `graphs[0]`, that has the nodes and edges of a networkx graph.
+
+        `Graph.node` finds a node by its key in networkx, whatever it is, and `Graph.between` the edges from a node to
+        another, in networkx's order. An edge of an undirected graph is a link. A weight that is left out is 1.
+        `ValueError`: a weight isn't a whole number.
+        """
+        problem = cls()
+        made = problem.add_graph()
+        for key in graph.nodes:
+            is_name = isinstance(key, (str, tuple)) and key != ""
+            made.add_node(printable(key) if is_name else printable(str(key)), key=key)
+        add = made.add_edge if graph.is_directed() else made.add_link
+        for start, end, data in graph.edges(data=True):
+            add(made.node(start), made.node(end), data.get(weight, 1))
+        return problem
 
     def add_sum(self, terms: Sequence[tuple[Literal, int]], name: str = "") -> Sum:
         """The sum of the amounts whose literals are true, as the length of a walk; `Sum.at_most` bounds it."""
@@ -124,43 +169,53 @@ class Problem:
 
     # ---- files
 
-    def text(self) -> str:
-        """The problem as a file of the program's format; names are comments in it, which pictures read."""
-        rows = [f"p gnf {self.variables} {len(self.clauses)}"]
-        rows += [f"c variable {number} {name}" for number, name in self.names.items()]
+    def rows(self) -> Iterator[str]:
+        """The lines of the problem's file."""
+        yield f"p gnf {self.variables} {len(self.clauses)}\n"
+        yield from (f"c variable {number} {name}\n" for number, name in self.names.items())
         for graph in self.graphs.values():
             if len(graph):
-                rows.append(f"digraph int {len(graph)} {len(graph.edges)} {graph.identity}")
+                yield f"digraph int {len(graph)} {len(graph.edges)} {graph.identity}\n"
             if graph.name:
-                rows.append(f"c graph {graph.identity} {graph.name}")
-            rows += [f"c node {graph.identity} {node} {name}" for node, name in enumerate(graph.names) if name]
-        rows += [f"edge {e.graph} {e.start} {e.end} {e.number} {e.weight}" for e in self.edges]
-        rows += [f"{predicate.word} {predicate.fields}" for predicate in self.predicates]
-        rows += [" ".join(map(str, (*clause, 0))) for clause in self.clauses]
-        return "\n".join(rows) + "\n"
+                yield f"c graph {graph.identity} {graph.name}\n"
+            yield from (f"c node {graph.identity} {node} {name}\n" for node, name in enumerate(graph.names) if name)
+        yield from (f"edge {e.graph} {e.start} {e.end} {e.number} {e.weight}\n" for e in self.edges)
+        yield from (f"{predicate.word} {predicate.fields}\n" for predicate in self.predicates)
+        yield from (" ".join(map(str, (*clause, 0))) + "\n" for clause in self.clauses)
+
+    def text(self) -> str:
+        """The problem as a file of the program's format; names are comments in it, which pictures read."""
+        return "".join(self.rows())
 
     def write(self, path: str | os.PathLike[str]) -> None:
         """Writes the file."""
-        Path(path).write_text(self.text(), encoding="utf-8")
+        with open(path, "w", encoding="utf-8", errors="replace", newline="\n") as file:
+            file.writelines(self.rows())
 
     def solve(
         self,
-        conflicts: int | None = None,
+        budget: int | None = None,
         folder: str | os.PathLike[str] | None = None,
         program: str | None = None,
         progress: bool = True,
+        *,
+        seconds: float | None = None,
+        conflicts: int | None = None,
     ) -> Model | Refutation:
         """A model, which is true in an `if`, or a refutation, which is false; `check` has accepted either.
 
         The files `problem.gnf` and `answer` are written into `folder`, or into a temporary one that goes again. The
-        search stops after `conflicts` learned clauses, from 1 (100,000 where it is left out). `program` is the path of
-        the program: see `gulfezo.program.find`. With `progress`, a line on standard error tells how long a solve of
-        more than a second runs.
+        search stops after `budget` learned clauses, from 1 (100,000 where it is left out; `conflicts` is another name
+        of it). After `seconds` the program is ended, be it solving or checking. `program` is the path of the program:
+        see `gulfezo.program.find`. With `progress`, a line on standard error tells what is done and for how long,
+        where that is more than a second.
 
-        `RejectedAnswer`: `check` doesn't accept what `solve` printed. `UnexpectedStatus`: `solve` printed no answer.
-        `BudgetSpent`: `conflicts` is too low. All three name the files, which stay. `ProgramMissing`: there is no
-        program.
+        `BudgetSpent`, `TimeSpent`: there is no answer within the budget or the time. What was learned by then is
+        neither checked nor read; its file stays where a folder was asked for. `RejectedAnswer`: `check` doesn't accept
+        what `solve` printed. `UnexpectedStatus`: `solve` printed no answer. Both name the files, which stay.
+        `ProgramMissing`: there is no program. However it ends, also by Ctrl-C or SIGTERM, no run of the program is
+        left behind.
         """
         from .solving import solve
 
-        return solve(self, conflicts, folder, program, progress)
+        return solve(self, budget if conflicts is None else conflicts, folder, program, progress, seconds)

@@ -1,16 +1,20 @@
-"""Finds the program and runs it: its words, its exit codes, and the line that tells how long it runs."""
+"""Finds the program and runs it: its words, its exit codes, and how its runs are ended."""
 
 from __future__ import annotations
 
+import contextlib
 import os
 import shutil
+import signal
 import subprocess
-import sys
+import threading
 import time
+from collections.abc import Iterator
 from pathlib import Path
-from typing import BinaryIO
+from types import FrameType
+from typing import IO
 
-from .errors import ProgramMissing
+from .errors import ProgramMissing, TimeSpent
 
 # What an exit code of `solve` means where it is no answer, and what to do about it.
 NO_ANSWER = {
@@ -49,10 +53,39 @@ def find(program: str | None = None) -> str:
     return on_path
 
 
-def run(words: list[str], out: BinaryIO, note: str = "") -> int:
+class Terminated(BaseException):
+    """SIGTERM came: raised where a run is waited for, so that all is put away before the process ends."""
+
+
+@contextlib.contextmanager
+def tidy_on_sigterm() -> Iterator[None]:
+    """Within it, SIGTERM ends this process as always, but only after everything that unwinds has been put away.
+
+    Where the process has a handler of its own, or this isn't its main thread, nothing is changed.
+    """
+    is_default = signal.getsignal(signal.SIGTERM) is signal.SIG_DFL
+    if not is_default or threading.current_thread() is not threading.main_thread():
+        yield
+        return
+
+    def unwind(number: int, frame: FrameType | None) -> None:
+        raise Terminated
+
+    signal.signal(signal.SIGTERM, unwind)
+    try:
+        yield
+    except Terminated:
+        signal.signal(signal.SIGTERM, signal.SIG_DFL)
+        os.kill(os.getpid(), signal.SIGTERM)
+        raise
+    finally:
+        signal.signal(signal.SIGTERM, signal.SIG_DFL)
+
+
+def run(words: list[str], out: IO[bytes] | int, deadline: float | None = None) -> int:
     """Runs the words, writes what they print to `out`, and gives their exit code.
 
-    Where there is a note, a line on standard error tells after a second, and then now and again, how long they run.
+    `TimeSpent`: the deadline, a value of `time.monotonic`, came first. However this ends, the run has ended with it.
     """
     try:
         process = subprocess.Popen(words, stdin=subprocess.DEVNULL, stdout=out)
@@ -60,33 +93,28 @@ def run(words: list[str], out: BinaryIO, note: str = "") -> int:
         raise ProgramMissing(f"{words[0]} could not be started: {fault.strerror}") from fault
     with process:
         try:
-            return wait(process, note)
+            return process.wait(None if deadline is None else max(0.0, deadline - time.monotonic()))
+        except subprocess.TimeoutExpired:
+            end(process)
+            raise TimeSpent("the time that was given is over, and the program was ended") from None
         except BaseException:
-            process.kill()
+            end(process)
             raise
 
 
-def wait(process: subprocess.Popen[bytes], note: str) -> int:
-    """Waits for the end of a process, and tells how long it runs: each second on a terminal, else ever more rarely."""
-    is_terminal = sys.stderr.isatty()
-    began, due, told = time.monotonic(), 1.0, False
-    while True:
-        try:
-            code = process.wait(timeout=max(0.0, began + due - time.monotonic()))
-            break
-        except subprocess.TimeoutExpired:
-            if note:
-                line = f"gulfezo: {note}, {due:.0f} s"
-                start, end = ("\r", "") if is_terminal else ("", "\n")
-                print(start + line, end=end, file=sys.stderr, flush=True)
-                told = is_terminal
-            due = due + 1 if is_terminal else due * 2
-    if told:
-        print(file=sys.stderr)
-    return code
+def end(process: subprocess.Popen[bytes]) -> None:
+    """Ends a process: it is asked to, which a script passes on to what it started, and after a moment it is killed."""
+    process.terminate()
+    try:
+        process.wait(2)
+    except subprocess.TimeoutExpired:
+        process.kill()
 
 
-def verdict(program: str, problem: Path, answer: Path) -> str:
-    """The line that `check` prints about an answer: `accepted ..`, `rejected ..` or another."""
-    run = subprocess.run([program, "check", str(problem), str(answer)], stdout=subprocess.PIPE, check=False)
-    return run.stdout.decode("utf-8", "replace").strip()
+def verdict(program: str, problem: Path, answer: Path, deadline: float | None = None) -> str:
+    """The line that `check` prints about an answer: `accepted ..`, `rejected ..` or another. `TimeSpent`: see `run`."""
+    read, write = os.pipe()
+    with open(read, "rb") as said:
+        with open(write, "wb") as out:
+            run([program, "check", str(problem), str(answer)], out, deadline)
+        return said.read().decode("utf-8", "replace").strip()

@@ -6,11 +6,15 @@ It is no check: the program itself names the first malformed line of a file and 
 from __future__ import annotations
 
 import os
+import re
 from pathlib import Path
 
 from .errors import FormatError
-from .literals import Literal, WORDS
-from .problem import Problem
+from .literals import Kind, Literal, WORDS, whole
+from .problem import MOST_VARIABLES, Problem
+
+# What parts tokens, and a number as the files have it; Python's own ideas of blanks and numbers are wider.
+BLANKS, NATURAL = re.compile("[ \t\r]+"), re.compile("[0-9]+")
 
 
 def read_problem(path: str | os.PathLike[str]) -> Problem:
@@ -22,7 +26,7 @@ def parse_problem(text: str) -> Problem:
     """The problem of a text."""
     reader = Reader()
     for number, line in enumerate(text.split("\n"), 1):
-        tokens = line.split()
+        tokens = [token for token in BLANKS.split(line) if token]
         if not tokens:
             continue
         try:
@@ -30,6 +34,18 @@ def parse_problem(text: str) -> Problem:
         except (ValueError, KeyError, IndexError) as fault:
             raise FormatError(number, f"{line.strip()!r}: {fault}; `gulfezo print FILE` names the fault") from fault
     return reader.problem
+
+
+def natural(token: str) -> int:
+    """The number that the token writes in digits alone. `ValueError`: it doesn't."""
+    if NATURAL.fullmatch(token) is None:
+        raise ValueError(f"{token!r} is no natural number")
+    return int(token)
+
+
+def literal(token: str) -> int:
+    """The number of a literal, or 0."""
+    return -natural(token[1:]) if token.startswith("-") else natural(token)
 
 
 class Reader:
@@ -45,30 +61,35 @@ class Reader:
         if word == "c":
             self.comment(tokens, line)
         elif word == "p":
-            self.use_variables(int(tokens[2]))
+            self.use_variables(natural(tokens[2]))
         elif word == "digraph":
-            graph = self.problem.declare_graph(int(tokens[-1]))
-            graph.add_nodes(int(tokens[-3]))
+            graph = self.problem.declare_graph(natural(tokens[-1]))
+            graph.add_nodes(natural(tokens[-3]))
         elif word == "edge":
-            identity, start, end, variable, *weight = map(int, tokens[1:])
+            identity, start, end, variable, *weight = map(natural, tokens[1:])
             self.use_variables(variable)
             self.problem.graphs[identity].add_edge(start, end, weight[0] if weight else 1, Literal(variable))
         elif word in WORDS:
-            self.predicate(word, list(map(int, tokens[1:])))
+            self.predicate(word, list(map(natural, tokens[1:])))
         else:
-            self.numbers(list(map(int, tokens)))
+            self.numbers(list(map(literal, tokens)))
 
     def use_variables(self, number: int) -> None:
         """The variables up to this number are in use."""
-        self.problem.variables = max(self.problem.variables, number)
+        self.problem.variables = max(self.problem.variables, whole(number, "a variable", MOST_VARIABLES))
 
     def predicate(self, word: str, fields: list[int]) -> None:
         """Reads a predicate's line."""
+        kind = WORDS[word][0]
+        has_ends = kind not in (Kind.MST_WEIGHT, Kind.ACYCLIC)
+        has_bound = kind not in (Kind.REACH, Kind.ACYCLIC)
+        if len(fields) != 2 + 2 * has_ends + has_bound:
+            raise ValueError("it has another number of fields")
         identity, *rest = fields
-        bound = None if word == "reach" else rest.pop()
+        bound = rest.pop() if has_bound else None
         *ends, variable = rest
         self.use_variables(variable)
-        pair = (ends[0], ends[1]) if ends else None
+        pair = (ends[0], ends[1]) if has_ends else None
         self.problem.graphs[identity].add_predicate(word, pair, bound, Literal(variable))
 
     def numbers(self, numbers: list[int]) -> None:

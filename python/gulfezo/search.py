@@ -1,4 +1,4 @@
-"""Walks, flows and trees over lists of present edges, for reading models and for pictures."""
+"""Walks, flows, trees and orders over lists of present edges, for reading models and for pictures."""
 
 from __future__ import annotations
 
@@ -139,3 +139,35 @@ def lightest_tree(nodes: int, edges: Iterable[Edge]) -> list[Edge] | None:
         for further in at[new.pop()]:
             heapq.heappush(waiting, (further.weight, further.edge_number, further))
     return tree if len(joined) == nodes else None
+
+
+def topological_order(nodes: int, edges: Iterable[Edge]) -> list[int] | None:
+    """The nodes, each edge leading from an earlier to a later one; None where there is a cycle (Kahn).
+
+    Of nodes that could come next the one with the least number does.
+    """
+    leaving: list[list[int]] = [[] for _ in range(nodes)]
+    entering = [0] * nodes
+    for edge in edges:
+        leaving[edge.start].append(edge.end)
+        entering[edge.end] += 1
+    order: list[int] = []
+    ready = [node for node in range(nodes) if not entering[node]]
+    while ready:
+        node = heapq.heappop(ready)
+        order.append(node)
+        for end in leaving[node]:
+            entering[end] -= 1
+            if not entering[end]:
+                heapq.heappush(ready, end)
+    return order if len(order) == nodes else None
+
+
+def shortest_cycle(edges: Sequence[Edge]) -> list[Edge] | None:
+    """A cycle of fewest edges; None where there is none."""
+    best: list[Edge] | None = None
+    for edge in edges:
+        back = [] if edge.start == edge.end else shortest_walk(edges, edge.end, edge.start, False)
+        if back is not None and (best is None or len(back) + 1 < len(best)):
+            best = [edge, *back]
+    return best

@@ -2,9 +2,14 @@
 
 from __future__ import annotations
 
+from array import array
+from collections.abc import Sequence
 from dataclasses import dataclass
-from typing import Literal as Constant
+from functools import cached_property
+from typing import Literal as Constant, overload
 
+from .errors import FormatError
+from .lines import Lines
 from .problem import Problem
 
 
@@ -25,8 +30,13 @@ class Step:
 
     @property
     def shows_that_it_holds(self) -> bool:
-        """Whether the lemma shows that its predicate holds where certain edges are there; others show that it fails."""
-        return self.word in ("path", "flow", "tree")
+        """Whether the lemma shows that its predicate holds; others show that it fails."""
+        return self.word in ("path", "flow", "tree", "order")
+
+    @property
+    def rests_on_present(self) -> bool:
+        """Whether the lemma rests on edges that are there; others rest on edges that are absent."""
+        return self.word in ("path", "flow", "tree", "cycle")
 
     @property
     def pairs(self) -> list[tuple[int, int]]:
@@ -34,18 +44,65 @@ class Step:
         return list(zip(self.listed[::2], self.listed[1::2]))
 
 
-class Derivation:
-    """Steps, each of which follows from the problem and the steps before it. `text` is the answer as it was printed."""
+class Steps(Sequence[Step]):
+    """Steps of an answer by the places of their lines, each read where it is asked for.
 
-    def __init__(self, problem: Problem, steps: list[Step], text: str) -> None:
+    `clauses` is the number of the problem's clauses, which come before those of the steps. `FormatError`: the line of
+    the step that is asked for isn't understood.
+    """
+
+    def __init__(self, lines: Lines, places: Sequence[int], clauses: int) -> None:
+        self.lines = lines
+        self.places = places
+        self.clauses = clauses
+
+    def __len__(self) -> int:
+        return len(self.places)
+
+    @overload
+    def __getitem__(self, at: int) -> Step: ...
+    @overload
+    def __getitem__(self, at: slice) -> list[Step]: ...
+
+    def __getitem__(self, at: int | slice) -> Step | list[Step]:
+        if isinstance(at, slice):
+            return [self.read(place) for place in self.places[at]]
+        return self.read(self.places[at])
+
+    def read(self, place: int) -> Step:
+        """The step of the line at that place; the status line has place 0."""
+        word, numbers = self.lines.numbers(place)
+        line = self.lines.number(place)
+        if word != "chain" and not numbers:
+            raise FormatError(line, "a lemma names its predicate")
+        predicate = None if word == "chain" else numbers.pop(0)
+        if 0 not in numbers:
+            raise FormatError(line, "a step's clause ends with 0")
+        end = numbers.index(0)
+        return Step(self.clauses + place, line, word, predicate, tuple(numbers[:end]), tuple(numbers[end + 1 :]))
+
+    def lemmas(self) -> Steps:
+        """Those that speak of graphs."""
+        places = array("Q", (place for place in self.places if not self.lines.is_chain(place)))
+        return Steps(self.lines, places, self.clauses)
+
+
+class Derivation:
+    """Steps, each of which follows from the problem and the steps before it."""
+
+    def __init__(self, problem: Problem, steps: Steps) -> None:
         self.problem = problem
         self.steps = steps
-        self.text = text
 
     @property
-    def lemmas(self) -> list[Step]:
+    def text(self) -> str:
+        """The answer as it was printed."""
+        return self.steps.lines.text()
+
+    @cached_property
+    def lemmas(self) -> Steps:
         """The steps that speak of graphs; the others are resolution alone."""
-        return [step for step in self.steps if step.predicate is not None]
+        return self.steps.lemmas()
 
     def step(self, number: int) -> Step:
         """The step whose clause has that number, as chains name it. `ValueError`: none has."""

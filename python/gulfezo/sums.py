@@ -5,7 +5,8 @@ from __future__ import annotations
 from collections.abc import Sequence
 from typing import TYPE_CHECKING
 
-from .literals import Literal, Predicate
+from .graph import MOST_WEIGHT
+from .literals import Literal, Predicate, whole
 
 if TYPE_CHECKING:
     from .problem import Problem
@@ -19,7 +20,7 @@ class Sum:
     """
 
     def __init__(self, problem: Problem, terms: Sequence[tuple[Literal, int]], name: str = "") -> None:
-        self.terms = list(terms)
+        self.terms = [(problem.require_own(x), whole(amount, "an amount", MOST_WEIGHT)) for x, amount in terms]
         self.graph = problem.add_graph(name)
         self.graph.add_nodes([(step, 0) for step in range(len(self.terms) + 1)])
         always = problem.add_variable()

@@ -2,6 +2,7 @@
 
 from __future__ import annotations
 
+import re
 from html import escape
 
 STEP = 90.0  # the distance of neighbours on a grid, in pixels
@@ -11,6 +12,9 @@ MARGIN = 34.0
 INK = "#222222"
 PALE = "#c4c4c4"
 FONT = "font-family='Helvetica, Arial, sans-serif'"
+
+# What no XML file may hold: control characters and the like. A file that was written by hand may have them in a name.
+NOT_XML = re.compile("[^\t\n\r -\ud7ff\ue000-\ufffd\U00010000-\U0010ffff]")
 
 Point = tuple[float, float]
 
@@ -71,9 +75,10 @@ class Picture:
         """Text whose middle, or start, lies at the point; on lines it has a white rim."""
         x, y = at
         self.points.append(at)
+        written = escape(NOT_XML.sub("\ufffd", text))
         self.shapes.append(
             f"<text x='{x:.1f}' y='{y + size * 0.35:.1f}' font-size='{size}' text-anchor='{anchor}' fill='{colour}' "
-            f"stroke='white' stroke-width='3' paint-order='stroke' stroke-linejoin='round'>{escape(text)}</text>"
+            f"stroke='white' stroke-width='3' paint-order='stroke' stroke-linejoin='round'>{written}</text>"
         )
 
     def written(self, captions: list[tuple[str, str]]) -> str:

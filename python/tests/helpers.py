@@ -4,7 +4,9 @@ from __future__ import annotations
 
 import itertools
 import os
+import subprocess
 import sys
+import tempfile
 import unittest
 from collections.abc import Iterator
 from pathlib import Path
@@ -23,20 +25,38 @@ def program() -> str:
     return found
 
 
-def stand_in(folder: str, status: int, text: str, verdict: str = "", seconds: float = 0) -> str:
-    """A program that, asked to solve, prints a text and ends with a status, and, asked to check, prints a verdict."""
+def stand_in(
+    folder: str, status: int, text: str, verdict: str = "", seconds: float = 0, check_seconds: float = 0
+) -> str:
+    """A program that, asked to solve, prints a text and ends with a status, and, asked to check, prints a verdict.
+
+    It takes so many seconds for either. The file `pid` beside it has its process's number.
+    """
     path = Path(folder) / "stand-in"
     path.write_text(
-        f"#!{sys.executable}\nimport sys, time\n"
-        f"if sys.argv[1] == 'check':\n    print({verdict!r})\n"
+        f"#!{sys.executable}\nimport os, sys, time\nopen({str(Path(folder, 'pid'))!r}, 'w').write(str(os.getpid()))\n"
+        f"if sys.argv[1] == 'check':\n    time.sleep({check_seconds})\n    print({verdict!r})\n"
         f"else:\n    time.sleep({seconds})\n    sys.stdout.write({text!r})\n    sys.exit({status})\n"
     )
     path.chmod(0o755)
     return str(path)
 
 
-def every_form() -> Problem:
-    """A problem with each form of line."""
+def reads(program: str, line: str) -> bool:
+    """Whether this version of the program reads such a line about a graph of one node."""
+    with tempfile.TemporaryDirectory() as folder:
+        file = Path(folder, "f")
+        file.write_text(f"digraph int 1 0 0\n{line}\n")
+        return not subprocess.run([program, "print", str(file)], stdout=subprocess.DEVNULL, check=False).returncode
+
+
+def knows_acyclic(program: str) -> bool:
+    """Whether the program reads the line `acyclic`, which its first versions refuse."""
+    return reads(program, "acyclic 0 1")
+
+
+def every_form(with_cycles: bool = True) -> Problem:
+    """A problem with each form of line, but for that on cycles where it isn't wanted."""
     problem = Problem()
     x = problem.add_variable("x, a variable")
     graph = problem.add_graph("a graph")
@@ -52,6 +72,8 @@ def every_form() -> Problem:
     graph.maximum_flow_gt(0, 1, 6)
     graph.mst_weight_leq(7)
     graph.mst_weight_lt(8)
+    if with_cycles:
+        graph.acyclic()
     problem.add_clause(x, ~x)
     problem.add_clause()
     return problem

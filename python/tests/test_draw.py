@@ -19,6 +19,12 @@ weighted_distance_leq 0 0 2 5 8
 maximum_flow_geq 0 0 2 6 8
 mst_weight_leq 0 7 7
 """
+ROUND = """digraph int 3 3 0
+edge 0 0 1 1
+edge 0 1 2 2
+edge 0 2 0 3
+acyclic 0 4
+"""
 LEMMAS = [
     "path 1 -1 -2 4 0 1 2",
     "cut 1 2 3 -4 0 0 1",
@@ -69,6 +75,23 @@ class Drawings(unittest.TestCase):
             self.assertTrue(any(text.startswith(f"{step.word} lemma, clause {step.number}: ") for text in found))
         found = texts(draw.drawing(self.problem, answer, lemma=5))
         self.assertIn("what may still leave the filled nodes carries 3", found)
+
+    def test_cycles_and_orders(self):
+        problem = parse_problem(ROUND)
+        model = parse_answer(problem, "s SATISFIABLE\nv 1 2 -3 4 0\n")
+        found = texts(draw.drawing(problem, model))
+        self.assertIn("acyclic: no cycle; each edge leads from a lower place to a higher one", found)
+        self.assertLessEqual({"1.", "2.", "3."}, set(found))
+        model = parse_answer(problem, "s SATISFIABLE\nv 1 2 3 -4 0\n")
+        self.assertIn("acyclic fails: a cycle of 3 edges", texts(draw.drawing(problem, model, predicate=1)))
+        answer = parse_answer(problem, "s UNKNOWN\ncycle 1 -1 -2 -3 -4 0 2 3 1\norder 1 3 4 0 0 1 2\n")
+        found = texts(draw.drawing(problem, answer, lemma=1))
+        self.assertIn("cycle lemma, clause 1: acyclic fails", found)
+        self.assertIn("a cycle of 3 edges", found)
+        self.assertNotIn("it rests on the absence of the dashed edges", found)
+        found = texts(draw.drawing(problem, answer, lemma=2))
+        self.assertIn("order lemma, clause 2: acyclic holds", found)
+        self.assertIn("it rests on the absence of the dashed edges", found)
 
     def test_links_loops_and_names_of_markup(self):
         problem = Problem()

@@ -12,7 +12,7 @@ from pathlib import Path
 
 import acl2
 from gulfezo import Problem, lrat, parse_answer, parse_problem
-from helpers import program
+from helpers import REPOSITORY, program
 from lrat_checker import accepts_drat, accepts_lrat
 
 
@@ -93,6 +93,13 @@ class ByHand(unittest.TestCase):
             with contextlib.redirect_stderr(told):
                 self.assertEqual(lrat.main([str(file), str(answer)]), 1)
             self.assertIn("line 2 of the answer, clause 3, is a lemma `cut` on predicate 1", told.getvalue())
+            with contextlib.redirect_stderr(told):
+                words = [str(file), str(answer), "--cnf", f"{folder}/cnf", "-o", f"{folder}/proof"]
+                self.assertEqual(lrat.main(words), 0)
+            self.assertIn(f"the last 1 clauses of {folder}/cnf are lemmas", told.getvalue())
+            self.assertIn(f"'gulfezo check {file} {answer}' judges them", told.getvalue())
+            cnf, proof = Path(folder, "cnf").read_text(), Path(folder, "proof").read_text()
+            self.assertEqual((cnf, proof), ("p cnf 2 3\n2 0\n-1 0\n1 -2 0\n", "4 0 2 1 3 0\n"))
             answer.write_text("s SATISFIABLE\nv 1 2 0\n")
             with contextlib.redirect_stderr(told):
                 self.assertEqual(lrat.main([str(file), str(answer)]), 1)
@@ -136,6 +143,18 @@ class Solved(unittest.TestCase):
             with self.subTest(name):
                 cnf, proof = self.converted(problem, "--drat")
                 self.assertTrue(accepts_drat(cnf.read_text(), proof.read_text()))
+
+    def test_lemmas_are_further_clauses(self):
+        for name in ("network/cheaper", "routing/crossed", "backbone/budget"):
+            file, answer = (REPOSITORY / "examples" / f"{name}.{ending}" for ending in ("gnf", "answer"))
+            with self.subTest(name), contextlib.redirect_stderr(io.StringIO()):
+                cnf, proof = self.folder / "cnf", self.folder / "proof"
+                self.assertEqual(lrat.main([str(file), str(answer), "-o", str(proof), "--cnf", str(cnf)]), 0)
+                self.assertTrue(accepts_lrat(cnf.read_text(), proof.read_text()))
+                words = [str(file), str(answer), "-o", str(proof), "--cnf", str(cnf), "--drat"]
+                self.assertEqual(lrat.main(words), 0)
+                if name != "network/cheaper":  # its steps are many for the slow checker
+                    self.assertTrue(accepts_drat(cnf.read_text(), proof.read_text()))
 
     def test_the_checker_that_is_proved_in_acl2(self):
         acl2.book()

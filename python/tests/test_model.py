@@ -1,9 +1,11 @@
 """What is read from a model: edges, walks, flows and trees, and the sum of amounts along a ladder."""
 
 import itertools
+import tempfile
 import unittest
 
-from gulfezo import FormatError, Model, PackageMissing, Problem, Progress, Refutation, parse_answer, search
+from gulfezo import FormatError, Model, PackageMissing, Problem, Progress, Refutation
+from gulfezo import parse_answer, read_answer, search
 from helpers import assignments
 
 
@@ -49,9 +51,25 @@ class Reading(Fixture):
         self.assertEqual(sorted(e.edge_number for e in tree)[:2], [1, 2])
         self.assertEqual(sum(e.weight for e in tree), 9)
 
+    def test_an_order(self):
+        problem = Problem()
+        graph = problem.add_graph(nodes=4)
+        edges = [graph.add_edge(u, v) for u, v in [(3, 1), (1, 0), (0, 3)]]
+        runs = graph.acyclic()
+        for absent, order in [(0, [1, 0, 2, 3]), (1, [0, 2, 3, 1]), (2, [2, 3, 1, 0])]:
+            values = {edge.number: edge != edges[absent] for edge in edges} | {runs.number: True}
+            self.assertEqual(Model(problem, values, "").order(runs), order)
+        model = Model(problem, {1: True, 2: True, 3: True, 4: False}, "")
+        with self.assertRaisesRegex(ValueError, "there isn't an order"):
+            model.order(runs)
+        self.assertIsNone(search.topological_order(4, edges))
+        self.assertEqual(search.shortest_cycle(edges), edges)
+        self.assertIsNone(search.shortest_cycle(edges[:2]))
+
     def test_what_does_not_hold_is_refused(self):
         model = self.model
-        for read, predicate in [(model.path, self.back), (model.path, self.flow), (model.tree, self.reach)]:
+        wrong = [(model.path, self.back), (model.path, self.flow), (model.tree, self.reach), (model.order, self.tree)]
+        for read, predicate in wrong:
             with self.assertRaises(ValueError):
                 read(predicate)
         with self.assertRaisesRegex(ValueError, "solve again"):
@@ -79,9 +97,30 @@ class Texts(Fixture):
             answer.step(4)
         self.assertIsInstance(parse_answer(self.problem, "s UNKNOWN\n"), Progress)
 
+    def test_blank_lines_and_comments(self):
+        for text in [
+            "c x\n\n \t\r\ns UNSATISFIABLE \nc\npath 1 6 0\n\nc chain 0\r\n\tchain\t0 1\r\n \nc",
+            "\ns UNSATISFIABLE\r\n  \npath 1 6 0\nc\tx\n\nchain 0 1",
+            "s UNSATISFIABLE\npath 1 6 0\n  c\nchain 0 1\n\n",
+        ]:
+            answer = parse_answer(self.problem, text)
+            self.assertEqual([step.word for step in answer.steps], ["path", "chain"])
+            self.assertEqual([text.split("\n")[step.line - 1].split()[0] for step in answer.steps], ["path", "chain"])
+            self.assertEqual((len(answer.lemmas), answer.steps[-1].number, answer.text), (1, 2, text))
+
+    def test_a_file_is_read_step_by_step(self):
+        with tempfile.NamedTemporaryFile() as file:
+            file.write(b"s UNSATISFIABLE\nchain 1 0 1\nchain x 0\nchain 0 2 1\n")
+            file.flush()
+            answer = read_answer(self.problem, file.name)
+        self.assertEqual(answer.steps[-1].clause, ())
+        with self.assertRaises(FormatError) as fault:
+            answer.steps[1]
+        self.assertEqual(fault.exception.line, 3)
+
     def test_what_is_no_answer(self):
         short, no_number = "s SATISFIABLE\nv 1 0\n", "s UNSATISFIABLE\nchain x 0\n"
-        for text, line in [("", 1), ("s MAYBE\n", 1), (short, 2), (no_number, 2)]:
+        for text, line in [("", 1), ("s MAYBE\n", 1), (short, 2), (no_number, 2), ("s UNKNOWN\n\npath\n", 3)]:
             with self.assertRaises(FormatError) as fault:
                 parse_answer(self.problem, text)
             self.assertEqual(fault.exception.line, line)

@@ -3,10 +3,11 @@
 import doctest
 import itertools
 import unittest
+from unittest import mock
 
 import gulfezo
 import gulfezo.problem
-from gulfezo import FormatError, Problem, parse_problem
+from gulfezo import FormatError, Problem, cardinality, parse_problem
 from helpers import assignments, every_form, satisfies
 
 
@@ -21,7 +22,7 @@ class Texts(unittest.TestCase):
         self.assertEqual(
             every_form().text().splitlines(),
             [
-                "p gnf 11 2",
+                "p gnf 12 2",
                 "c variable 1 x, a variable",
                 "digraph int 3 3 0",
                 "c graph 0 a graph",
@@ -39,6 +40,7 @@ class Texts(unittest.TestCase):
                 "maximum_flow_gt 0 0 1 9 6",
                 "mst_weight_leq 0 10 7",
                 "mst_weight_lt 0 11 8",
+                "acyclic 0 12",
                 "1 -1 0",
                 "0",
             ],
@@ -52,7 +54,13 @@ class Texts(unittest.TestCase):
         self.assertEqual(parse_problem("c x\n1 -2\n3 0 4 0\n\n0\n").clauses, [(1, -2, 3), (4,), ()])
 
     def test_a_line_that_is_not_understood_is_named(self):
-        for text, line in [("1 0\nedge 0 1 2 3\n", 2), ("digraph int 2 0 0\n\nreach 0 0 5 1\n", 3), ("x y\n", 1)]:
+        for text, line in [
+            ("1 0\nedge 0 1 2 3\n", 2),
+            ("digraph int 3 0 0\n\nreach 0 0 5 1\n", 3),
+            ("digraph int 3 0 0\nreach 0 0 1 2 3\n", 2),
+            ("digraph 1 0 0\nacyclic 0 1 2\n", 2),
+            ("x y\n", 1),
+        ]:
             with self.assertRaises(FormatError) as fault:
                 parse_problem(text)
             self.assertEqual(fault.exception.line, line)
@@ -67,7 +75,7 @@ class Refusals(unittest.TestCase):
         for wrong in [
             lambda: graph.add_edge(0, 2),
             lambda: graph.add_edge(-1, 0),
-            lambda: graph.add_edge(0, 1, 2**32),
+            lambda: graph.add_edge(0, 1, 2**64),
             lambda: graph.add_edge(0, 1, variable=~x),
             lambda: graph.add_edge(0, 1, variable=other),
             lambda: graph.distance_leq(0, 1, -1),
@@ -104,12 +112,15 @@ class Cardinality(unittest.TestCase):
                 self.assertEqual(found, wanted, (word, bound, count))
 
     def test_exactly_one_of_many(self):
-        problem = Problem()
-        chosen = problem.add_variables(7)
-        problem.exactly_one(chosen)
-        found = [v for v in assignments(problem.variables) if satisfies(v, problem.clauses)]
-        self.assertEqual(sorted(sum(v[x.number] for x in chosen) for v in found), [1] * len(found))
-        self.assertEqual({x.number for v in found for x in chosen if v[x.number]}, set(range(1, 8)))
+        for pairwise in (cardinality.PAIRWISE, 3):  # by pairs, and by the counter
+            problem = Problem()
+            chosen = problem.add_variables(7)
+            with mock.patch.object(cardinality, "PAIRWISE", pairwise):
+                problem.exactly_one(chosen)
+            self.assertEqual(problem.variables > 7, pairwise == 3)
+            found = [v for v in assignments(problem.variables) if satisfies(v, problem.clauses)]
+            self.assertEqual(sorted(sum(v[x.number] for x in chosen) for v in found), [1] * len(found))
+            self.assertEqual({x.number for v in found for x in chosen if v[x.number]}, set(range(1, 8)))
 
 
 if __name__ == "__main__":

@@ -3,21 +3,52 @@
 import contextlib
 import io
 import os
+import re
+import signal
 import subprocess
+import sys
 import tempfile
+import time
 import unittest
 from pathlib import Path
 from unittest import mock
 
 import gulfezo.program
-from gulfezo import BudgetSpent, Predicate, Problem, ProgramMissing, RejectedAnswer, UnexpectedStatus, parse_problem
-from helpers import every_form, program, stand_in
+from gulfezo import (
+    BudgetSpent,
+    GulfezoError,
+    Predicate,
+    Problem,
+    ProgramMissing,
+    RejectedAnswer,
+    TimeSpent,
+    UnexpectedStatus,
+    parse_problem,
+    reasons,
+)
+from helpers import REPOSITORY, every_form, knows_acyclic, program, reads, stand_in
 
 
 def one_variable() -> Problem:
     problem = Problem()
     problem.require(problem.add_variable())
     return problem
+
+
+def is_over(pid: Path) -> bool:
+    """Whether the process of that number has ended."""
+    try:
+        os.kill(int(pid.read_text()), 0)
+    except ProcessLookupError:
+        return True
+    return False
+
+
+class FullPipe(io.StringIO):
+    """Standard error that nobody reads."""
+
+    def write(self, text: str) -> int:
+        raise BrokenPipeError
 
 
 class StandIns(unittest.TestCase):
@@ -27,7 +58,7 @@ class StandIns(unittest.TestCase):
         self.folder = folder.name
 
     def solve(self, *given, **named):
-        progress = "seconds" in named
+        progress = bool(named)
         return one_variable().solve(None, self.folder, stand_in(self.folder, *given, **named), progress)
 
     def test_an_accepted_answer_is_handed_out(self):
@@ -41,7 +72,6 @@ class StandIns(unittest.TestCase):
             (10, "s UNSATISFIABLE\nchain 0 1\n", "accepted refutation", RejectedAnswer),
             (20, "s UNSATISFIABLE\nchain 0 1\n", "rejected 2 NotCovered", RejectedAnswer),
             (20, "s SATISFIABLE\nv 1 0\n", "accepted refutation", UnexpectedStatus),
-            (0, "s UNKNOWN\n", "accepted progress 0", BudgetSpent),
             (3, "refused 1 UnknownWord\n", "", UnexpectedStatus),
             (6, "", "", UnexpectedStatus),
             (99, "", "", UnexpectedStatus),
@@ -53,8 +83,77 @@ class StandIns(unittest.TestCase):
                 self.assertIn(str(path), str(fault.exception))
 
     def test_a_fault_is_told_in_words(self):
-        with self.assertRaisesRegex(UnexpectedStatus, r"refuses the problem's file.*\(refused 1 UnknownWord\)"):
+        said = r"refuses the problem's file.*\(refused 1 UnknownWord\)"
+        with self.assertRaisesRegex(UnexpectedStatus, said) as fault:
             self.solve(3, "refused 1 UnknownWord\n", "")
+        self.assertIn("begins with a word that the format doesn't have", str(fault.exception))
+        self.assertIn(f"line 1 of {self.folder}/problem.gnf: p gnf 1 1\n", str(fault.exception))
+        with self.assertRaisesRegex(RejectedAnswer, "the model makes the clause of this number false") as fault:
+            self.solve(10, "s SATISFIABLE\nv -1 0\n", "rejected 2 ClauseFalse 1")
+        self.assertIn(f"line 2 of {self.folder}/answer: v -1 0\n", str(fault.exception))
+
+    def test_each_fault_and_reason_of_the_formats_has_its_words(self):
+        text = (REPOSITORY / "docs" / "FORMATS.md").read_text()
+        for name in reasons.FAULTS | reasons.REASONS:
+            self.assertIn(f"`{name}", text)
+        for name in re.findall(r"^\| `([A-Z]\w+)", text, re.MULTILINE):
+            self.assertIn(name, reasons.FAULTS | reasons.REASONS)
+
+    def test_a_spent_budget_is_neither_checked_nor_read(self):
+        with self.assertRaises(BudgetSpent) as fault:
+            self.solve(0, "s UNKNOWN\nno step\n", "check isn't asked")
+        self.assertEqual(fault.exception.answer.read_text(), "s UNKNOWN\nno step\n")
+        self.assertIn(str(fault.exception.answer), str(fault.exception))
+
+    def without_a_folder(self, *given, **named):
+        """The folder that a solve makes for itself, and the error with which it ends."""
+        made = os.path.join(self.folder, "made")
+        os.mkdir(made)
+        with mock.patch("tempfile.mkdtemp", lambda prefix: made), self.assertRaises(GulfezoError) as fault:
+            one_variable().solve(*given, progress=False, **named)
+        return made, fault.exception
+
+    def test_nothing_stays_of_a_spent_budget_without_a_folder(self):
+        made, fault = self.without_a_folder(1, program=stand_in(self.folder, 0, "s UNKNOWN\n"))
+        self.assertIsInstance(fault, BudgetSpent)
+        self.assertEqual((fault.problem, fault.answer, os.path.exists(made)), (None, None, False))
+
+    def test_seconds_end_the_program(self):
+        for named in ({"seconds": 30}, {"check_seconds": 30}):
+            began = time.monotonic()
+            path = stand_in(self.folder, 10, "s SATISFIABLE\nv 1 0\n", "accepted model", **named)
+            made, fault = self.without_a_folder(program=path, seconds=0.7)
+            self.assertIsInstance(fault, TimeSpent)
+            self.assertLess(time.monotonic() - began, 5)
+            self.assertFalse(os.path.exists(made))
+            self.assertTrue(is_over(Path(self.folder, "pid")))
+        for wrong in (0, -1, float("nan")):
+            with self.assertRaisesRegex(ValueError, "above 0"):
+                one_variable().solve(seconds=wrong)
+
+    def test_signals_end_the_program_and_leave_nothing(self):
+        for number in (signal.SIGTERM, signal.SIGINT):
+            with self.subTest(number), tempfile.TemporaryDirectory() as folder:
+                path = stand_in(folder, 10, "", seconds=30)
+                code = f"from gulfezo import Problem\nproblem = Problem()\nproblem.solve(program={path!r})\n"
+                environment = {**os.environ, "PYTHONPATH": str(REPOSITORY / "python"), "TMPDIR": folder}
+                pid = Path(folder, "pid")
+                words = [sys.executable, "-c", code]
+                with subprocess.Popen(words, env=environment, stderr=subprocess.DEVNULL) as child:
+                    for _ in range(200):
+                        if pid.is_file() and pid.read_text():
+                            break
+                        time.sleep(0.05)
+                    child.send_signal(number)
+                    self.assertEqual(child.wait(10), -number)
+                self.assertTrue(is_over(pid))
+                self.assertEqual(sorted(os.listdir(folder)), ["pid", "stand-in"])
+
+    def test_each_phase_is_told(self):
+        told = io.StringIO()
+        with contextlib.redirect_stderr(told):
+            self.solve(10, "s SATISFIABLE\nv 1 0\n", "accepted model", check_seconds=1.3)
+        self.assertEqual(told.getvalue().splitlines(), ["gulfezo: checking the answer (0.0 MB), 1 s"])
 
     def test_files_of_a_failure_stay_without_a_folder(self):
         path = stand_in(self.folder, 6, "")
@@ -78,6 +177,10 @@ class StandIns(unittest.TestCase):
         line = "\rgulfezo: solving (variables: 1, clauses: 1)"
         self.assertTrue(told.getvalue().startswith(f"{line}, 1 s{line}, 2 s"))
         self.assertTrue(told.getvalue().endswith(" s\n"))
+
+    def test_a_line_that_nobody_reads_ends_nothing(self):
+        with contextlib.redirect_stderr(FullPipe()):
+            self.assertTrue(self.solve(10, "s SATISFIABLE\nv 1 0\n", "accepted model", seconds=1.2))
 
     def test_a_budget_is_a_number_from_1(self):
         with self.assertRaisesRegex(ValueError, "from 1 to"):
@@ -128,7 +231,7 @@ class Solving(unittest.TestCase):
 
     def test_the_program_reads_what_is_written(self):
         """Its printed form has the same edges, predicates and clauses, bounds in the form 'at most' or 'at least'."""
-        problem = every_form()
+        problem = every_form(with_cycles=knows_acyclic(self.program))
         with tempfile.TemporaryDirectory() as folder:
             problem.write(Path(folder, "f"))
             run = subprocess.run([self.program, "print", f"{folder}/f"], capture_output=True, text=True, check=True)
@@ -140,6 +243,48 @@ class Solving(unittest.TestCase):
             return predicate.variable, predicate.kind, predicate.ends, predicate.limit
 
         self.assertEqual([meaning(p) for p in found.predicates], [meaning(p) for p in problem.predicates])
+
+    def test_cycles(self):
+        if not knows_acyclic(self.program):
+            self.skipTest("this version of the program doesn't know `acyclic`")
+        problem = Problem()
+        graph = problem.add_graph()
+        a, b, c = graph.add_nodes(3)
+        edges = [graph.add_edge(a, b), graph.add_edge(b, c), graph.add_edge(c, a)]
+        runs = graph.acyclic()
+        problem.require(runs, edges[1], edges[2])
+        model = problem.solve(program=self.program)
+        self.assertEqual((model[edges[0]], model.order(runs)), (False, [b, c, a]))
+        problem.require(edges[0])
+        answer = problem.solve(program=self.program)
+        self.assertEqual([step.word for step in answer.lemmas], ["cycle"])
+        problem = Problem()
+        graph = problem.add_graph(nodes=2)
+        problem.require(~graph.add_edge(0, 1), ~graph.acyclic())
+        graph.add_edge(1, 0)
+        self.assertEqual({step.word for step in problem.solve(program=self.program).lemmas}, {"order"})
+
+    def test_wide_weights(self):
+        """Sums beyond 2^64: each kind that has weights, at its bound and one off it."""
+        most = 2**64 - 1
+        if not reads(self.program, f"edge 0 0 0 1 {most}"):
+            self.skipTest("this version of the program has weights up to 2^32 - 1")
+        problem = Problem()
+        graph = problem.add_graph(nodes=3)
+        first, second = graph.add_edge(0, 1, most), graph.add_edge(1, 2, most)
+        short = graph.add_edge(0, 2, 2**53)
+        wide, light = graph.maximum_flow_geq(0, 2, 2**53), graph.mst_weight_leq(2**53)
+        near, nearer = graph.weighted_distance_leq(0, 2, 2**53), graph.weighted_distance_lt(0, 2, 2**53)
+        problem.require(first, second, ~short)
+        model = problem.solve(program=self.program)
+        self.assertEqual([model[x] for x in (wide, light, near)], [True, False, False])
+        problem.clauses.pop()
+        problem.require(short)
+        model = problem.solve(program=self.program)
+        self.assertEqual([model[x] for x in (wide, light, near, nearer)], [True, False, True, False])
+        self.assertEqual([edge.weight for edge in model.path(near)], [2**53])
+        problem.require(light)
+        self.assertFalse(problem.solve(program=self.program))
 
     def test_sums_and_counts(self):
         problem = Problem()

@@ -97,3 +97,5 @@ witness_read (witness.FlowCut s) h = ap (option_map witness.FlowCut) (names_read
 witness_read (witness.Tree ks) h = ap (option_map witness.Tree) (names_read ks h)
 witness_read (witness.Split s) h = ap (option_map witness.Split) (names_read s h)
 witness_read (witness.Least ks) h = ap (option_map witness.Least) (names_read ks h)
+witness_read (witness.Cycle ks) h = ap (option_map witness.Cycle) (names_read ks h)
+witness_read (witness.Order us) h = ap (option_map witness.Order) (names_read us h)

@@ -116,6 +116,8 @@ witness_tokens (witness.FlowCut s) h = names_tokens s h
 witness_tokens (witness.Tree ks) h = names_tokens ks h
 witness_tokens (witness.Split s) h = names_tokens s h
 witness_tokens (witness.Least ks) h = names_tokens ks h
+witness_tokens (witness.Cycle ks) h = names_tokens ks h
+witness_tokens (witness.Order us) h = names_tokens us h
 
 -- the literals of a clause and its 0, before other tokens
 clause_tokens : (c : List ℤ) (rest : List (List ℕ)) → IsTrue (list_all is_literal c) → AreTokens rest → AreTokens (numbers_text (with_zero c) ++ rest)
@@ -134,6 +136,8 @@ word_token word.FlowCut = (refl, refl, (refl, refl, (refl, refl, (refl, refl, (r
 word_token word.Tree = (refl, refl, (refl, refl, (refl, refl, (refl, refl, tt))))
 word_token word.Split = (refl, refl, (refl, refl, (refl, refl, (refl, refl, (refl, refl, tt)))))
 word_token word.Least = (refl, refl, (refl, refl, (refl, refl, (refl, refl, (refl, refl, tt)))))
+word_token word.Cycle = (refl, refl, (refl, refl, (refl, refl, (refl, refl, (refl, refl, tt)))))
+word_token word.Order = (refl, refl, (refl, refl, (refl, refl, (refl, refl, (refl, refl, tt)))))
 
 -- ---- lines
 
@@ -192,6 +196,8 @@ word_line word.FlowCut ts = (refl, refl)
 word_line word.Tree ts = (refl, refl)
 word_line word.Split ts = (refl, refl)
 word_line word.Least ts = (refl, refl)
+word_line word.Cycle ts = (refl, refl)
+word_line word.Order ts = (refl, refl)
 
 step_says : (s : Step) → IsTrue (is_step_within s) → Says (step_line s) (item.Step s)
 step_says (step.Lemma l) h =

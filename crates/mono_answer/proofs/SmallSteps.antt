@@ -100,6 +100,8 @@ witness_small word.FlowCut ts = mapped witness.FlowCut (λ x. refl) (names_of ts
 witness_small word.Tree ts = mapped witness.Tree (λ x. refl) (names_of ts)
 witness_small word.Split ts = mapped witness.Split (λ x. refl) (names_of ts)
 witness_small word.Least ts = mapped witness.Least (λ x. refl) (names_of ts)
+witness_small word.Cycle ts = mapped witness.Cycle (λ x. refl) (names_of ts)
+witness_small word.Order ts = mapped witness.Order (λ x. refl) (names_of ts)
 
 -- ---- lines
 

@@ -102,6 +102,8 @@ word_of t =
     else if bytes_eq t (codes "tree") then Some word.Tree
     else if bytes_eq t (codes "split") then Some word.Split
     else if bytes_eq t (codes "least") then Some word.Least
+    else if bytes_eq t (codes "cycle") then Some word.Cycle
+    else if bytes_eq t (codes "order") then Some word.Order
     else None
 
 -- a witness by its word and its list
@@ -114,6 +116,8 @@ witness_of word.FlowCut ts = option_map witness.FlowCut (names_of ts)
 witness_of word.Tree ts = option_map witness.Tree (names_of ts)
 witness_of word.Split ts = option_map witness.Split (names_of ts)
 witness_of word.Least ts = option_map witness.Least (names_of ts)
+witness_of word.Cycle ts = option_map witness.Cycle (names_of ts)
+witness_of word.Order ts = option_map witness.Order (names_of ts)
 
 -- a predicate's number, a clause and a witness
 abbrev pub lemma_of : Word → List (List ℕ) → Option Item

@@ -57,6 +57,8 @@ word_for (witness.FlowCut s) = word.FlowCut
 word_for (witness.Tree ks) = word.Tree
 word_for (witness.Split s) = word.Split
 word_for (witness.Least ks) = word.Least
+word_for (witness.Cycle ks) = word.Cycle
+word_for (witness.Order us) = word.Order
 
 abbrev pub word_text : Word → List ℕ
 word_text word.Path = codes "path"
@@ -67,6 +69,8 @@ word_text word.FlowCut = codes "flowcut"
 word_text word.Tree = codes "tree"
 word_text word.Split = codes "split"
 word_text word.Least = codes "least"
+word_text word.Cycle = codes "cycle"
+word_text word.Order = codes "order"
 
 -- each node before its label
 abbrev pub labels_text : List Label → List (List ℕ)
@@ -87,6 +91,8 @@ witness_text (witness.FlowCut s) = map decimal s
 witness_text (witness.Tree ks) = map decimal ks
 witness_text (witness.Split s) = map decimal s
 witness_text (witness.Least ks) = map decimal ks
+witness_text (witness.Cycle ks) = map decimal ks
+witness_text (witness.Order us) = map decimal us
 
 -- literals and lists stand in the order in which they are held
 abbrev pub step_line : Step → List (List ℕ)
@@ -137,6 +143,8 @@ is_witness_within (witness.FlowCut s) = list_all is_name s
 is_witness_within (witness.Tree ks) = list_all is_name ks
 is_witness_within (witness.Split s) = list_all is_name s
 is_witness_within (witness.Least ks) = list_all is_name ks
+is_witness_within (witness.Cycle ks) = list_all is_name ks
+is_witness_within (witness.Order us) = list_all is_name us
 
 abbrev pub is_step_within : Step → Bool
 is_step_within (step.Lemma l) = is_name l.atom && list_all is_literal l.clause && is_witness_within l.witness

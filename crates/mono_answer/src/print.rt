@@ -98,6 +98,8 @@ fn push_witness(out: &mut Vec<u8>, witness: &Witness) -> Result<(), AllocError>
         Witness::Tree(edges) => push_names(out, edges.as_slice()),
         Witness::Split(nodes) => push_names(out, nodes.as_slice()),
         Witness::Least(edges) => push_names(out, edges.as_slice()),
+        Witness::Cycle(edges) => push_names(out, edges.as_slice()),
+        Witness::Order(nodes) => push_names(out, nodes.as_slice()),
     }
 }
 

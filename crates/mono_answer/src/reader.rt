@@ -154,6 +154,14 @@ impl Room {
                 Some(edges) => Ok(Some(Witness::Least(edges))),
                 None => Ok(None),
             },
+            Word::Cycle => match self.names(tokens)? {
+                Some(edges) => Ok(Some(Witness::Cycle(edges))),
+                None => Ok(None),
+            },
+            Word::Order => match self.names(tokens)? {
+                Some(nodes) => Ok(Some(Witness::Order(nodes))),
+                None => Ok(None),
+            },
         }
     }
 
@@ -254,6 +262,8 @@ impl ItemReader {
             Witness::Tree(names) => self.room.names = names.into_vec(),
             Witness::Split(names) => self.room.names = names.into_vec(),
             Witness::Least(names) => self.room.names = names.into_vec(),
+            Witness::Cycle(names) => self.room.names = names.into_vec(),
+            Witness::Order(names) => self.room.names = names.into_vec(),
         }
     }
 }

@@ -17,6 +17,8 @@ pub(crate) enum Word {
     Tree,
     Split,
     Least,
+    Cycle,
+    Order,
 }
 
 /// The word that a token is.
@@ -39,6 +41,10 @@ pub(crate) fn word_named(token: &[u8]) -> Option<Word>
         Some(Word::Split)
     } else if token == b"least".as_slice() {
         Some(Word::Least)
+    } else if token == b"cycle".as_slice() {
+        Some(Word::Cycle)
+    } else if token == b"order".as_slice() {
+        Some(Word::Order)
     } else {
         None
     }
@@ -57,6 +63,8 @@ pub(crate) fn word_for(witness: &Witness) -> Word
         Witness::Tree(_) => Word::Tree,
         Witness::Split(_) => Word::Split,
         Witness::Least(_) => Word::Least,
+        Witness::Cycle(_) => Word::Cycle,
+        Witness::Order(_) => Word::Order,
     }
 }
 
@@ -73,6 +81,8 @@ impl Word {
             Word::Tree => b"tree",
             Word::Split => b"split",
             Word::Least => b"least",
+            Word::Cycle => b"cycle",
+            Word::Order => b"order",
         }
     }
 }

@@ -38,6 +38,8 @@ pub fn lemma_words()
     ensures tree { item_of (tokens_of (codes "tree 1 1 0")) ≡ Some (item.Step (step.Lemma (record { atom = 1; clause = pos 1 ∷ []; witness = witness.Tree [] }))) }
     ensures split { item_of (tokens_of (codes "split 1 1 -2 0 0")) ≡ Some (item.Step (step.Lemma (record { atom = 1; clause = pos 1 ∷ negsuc 1 ∷ []; witness = witness.Split (0 ∷ []) }))) }
     ensures least { item_of (tokens_of (codes "least 1 -4 0 1 2")) ≡ Some (item.Step (step.Lemma (record { atom = 1; clause = negsuc 3 ∷ []; witness = witness.Least (1 ∷ 2 ∷ []) }))) }
+    ensures cycle { item_of (tokens_of (codes "cycle 1 -1 -3 0 1 1")) ≡ Some (item.Step (step.Lemma (record { atom = 1; clause = negsuc 0 ∷ negsuc 2 ∷ []; witness = witness.Cycle (1 ∷ 1 ∷ []) }))) }
+    ensures order { item_of (tokens_of (codes "order 1 1 3 0 1 0")) ≡ Some (item.Step (step.Lemma (record { atom = 1; clause = pos 1 ∷ pos 3 ∷ []; witness = witness.Order (1 ∷ 0 ∷ []) }))) }
 {}
 
 /// What lines of lemmas may leave out, and what they may not.
@@ -50,6 +52,9 @@ pub fn lemma_lines()
     ensures odd_amounts { item_of (tokens_of (codes "flow 1 1 0 1")) ≡ None }
     ensures greatest_name { item_of (tokens_of (codes "tree 4294967295 0 4294967295")) ≡ Some (item.Step (step.Lemma (record { atom = 4294967295; clause = []; witness = witness.Tree (4294967295 ∷ []) }))) }
     ensures name_too_large { item_of (tokens_of (codes "tree 1 0 4294967296")) ≡ None }
+    ensures node_too_large { item_of (tokens_of (codes "order 1 0 0 4294967296")) ≡ None }
+    ensures negative_edge { item_of (tokens_of (codes "cycle 1 0 1 -1")) ≡ None }
+    ensures cycle_without_edges { item_of (tokens_of (codes "cycle 1 0")) ≡ Some (item.Step (step.Lemma (record { atom = 1; clause = []; witness = witness.Cycle [] }))) }
     ensures predicate_too_large { item_of (tokens_of (codes "tree 4294967296 0")) ≡ None }
     ensures greatest_value { item_of (tokens_of (codes "label 1 0 2 1152921504606846976")) ≡ Some (item.Step (step.Lemma (record { atom = 1; clause = []; witness = witness.Label (record { node = 2; value = 1152921504606846976 } ∷ []) }))) }
     ensures value_too_large { item_of (tokens_of (codes "label 1 0 2 1152921504606846977")) ≡ None }
@@ -101,6 +106,8 @@ pub fn answers_within_the_format()
     ensures lemma { is_step_within (step.Lemma (record { atom = 4294967295; clause = []; witness = witness.Label (record { node = 4294967295; value = 1152921504606846976 } ∷ []) })) ≡ true }
     ensures value_too_large { is_step_within (step.Lemma (record { atom = 1; clause = []; witness = witness.Flow (record { edge = 1; amount = 1152921504606846977 } ∷ []) })) ≡ false }
     ensures node_too_large { is_step_within (step.Lemma (record { atom = 1; clause = []; witness = witness.Cut (4294967296 ∷ []) })) ≡ false }
+    ensures node_of_an_order_too_large { is_step_within (step.Lemma (record { atom = 1; clause = []; witness = witness.Order (0 ∷ 4294967296 ∷ []) })) ≡ false }
+    ensures edge_of_a_cycle_too_large { is_step_within (step.Lemma (record { atom = 1; clause = []; witness = witness.Cycle (4294967296 ∷ []) })) ≡ false }
     ensures atom_too_large { is_step_within (step.Lemma (record { atom = 4294967296; clause = []; witness = witness.Tree [] })) ≡ false }
     ensures lemma_literal { is_step_within (step.Lemma (record { atom = 1; clause = pos 0 ∷ []; witness = witness.Tree [] })) ≡ false }
     ensures steps { is_within_format (answer.Progress (step.Chain (record { clause = []; used = [] }) ∷ [])) ≡ false }

@@ -31,8 +31,8 @@ pub const MAX_INPUT_BYTES: u64 = 268_435_456;
 /// Bytes of an answer that is checked: 2^40.
 pub const MAX_ANSWER_BYTES: u64 = 1_099_511_627_776;
 
-/// The weight of an edge: 2^32 - 1.
-pub const MAX_WEIGHT: u64 = 4_294_967_295;
+/// The weight of an edge: 2^64 - 1.
+pub const MAX_WEIGHT: u64 = 18_446_744_073_709_551_615;
 
 /// The bound of a predicate, as it is written: 2^53.
 pub const MAX_BOUND: u64 = 9_007_199_254_740_992;
@@ -51,7 +51,7 @@ pub fn limits_are_these_numbers()
     ensures literals { MAX_LITERALS ≡ 16000000 }
     ensures input_bytes { MAX_INPUT_BYTES ≡ 2 ^ 28 }
     ensures answer_bytes { MAX_ANSWER_BYTES ≡ 2 ^ 40 }
-    ensures weight { MAX_WEIGHT + 1 ≡ 2 ^ 32 }
+    ensures weight { MAX_WEIGHT + 1 ≡ 2 ^ 64 }
     ensures bound { MAX_BOUND ≡ 2 ^ 53 }
     ensures witness_value { MAX_WITNESS_VALUE ≡ 2 ^ 60 }
 {}

@@ -4,6 +4,7 @@ ghost use Rattle.std.specs.Prelude.{◌≡◌, ◌<◌, ◌≤◌, ◌↔◌, �
 ghost use Rattle.mono_base.specs.Literal.{value_in};
 ghost use Rattle.mono_graph.specs.Digraph.{edge_at, enabled, present};
 ghost use Rattle.mono_problem.specs.Instance.{graph_at};
+ghost use Rattle.mono_problem.specs.declared.atom.Predicate.TheVariants as kind;
 ghost use Rattle.mono_problem.specs.WellFormed.{IsOver};
 ghost use Rattle.mono_problem.specs.Holds.{Holds, HoldsAtom};
 ghost use Rattle.mono_problem.specs.Read.{atom_numbered};
@@ -11,8 +12,9 @@ ghost use Rattle.mono_check.specs.Atoms.{IsJudged};
 ghost use Rattle.mono_check.specs.Enabled.{IsEnabled};
 ghost use Rattle.mono_check.specs.Questions.{IsQuestion, AreAlike, AreTruths, question_at};
 
-use crate::predicates::{carries, reaches, reaches_within, spans};
+use crate::predicates::{carries, is_acyclic, reaches, reaches_within, spans};
 use crate::question::{WalkQuestion, keep_answers, targets_of};
+use mono_cycles::CycleFinder;
 use mono_flows::FlowFinder;
 use mono_graph::{Graph, Limit, Part};
 use mono_paths::WalkFinder;
@@ -29,6 +31,9 @@ pub(crate) struct EnabledPart {
     walks: WalkFinder,
     flows: FlowFinder,
     trees: TreeFinder,
+    cycles: CycleFinder,
+    /// Whether the part holds no cycle, once that was asked.
+    acyclic: Option<bool>,
 }
 
 /// The value of a variable.
@@ -85,8 +90,10 @@ impl EnabledPart {
             graph: place,
             part: enabled_edges(alloc, graph, model)?,
             trees: TreeFinder::new(alloc, nodes)?,
+            cycles: CycleFinder::new(alloc, nodes)?,
             walks: WalkFinder::new(alloc, nodes)?,
             flows: FlowFinder::new(alloc, nodes)?,
+            acyclic: None,
         })
     }
 
@@ -110,6 +117,29 @@ impl EnabledPart {
         Ok(())
     }
 
+    /// Whether no walk of one edge or more in the part leads from a node to itself. One search answers all predicates that ask
+    /// this of the graph.
+    fn has_no_cycle(&mut self, graph: &Graph) -> Result<bool, AllocError>
+        requires part { length self.old.part ≡ length graph.now.edges }
+        requires cycles { self.old.cycles ≡ graph.now.nodes }
+        requires acyclic { IfSome self.old.acyclic (λ b. IsTrue b ↔ Holds graph.now self.old.part kind.Acyclic) }
+        ensures holds { IfOk result (λ yes. IsTrue yes ↔ Holds graph.now self.old.part kind.Acyclic) }
+        ensures graph { self.new.graph ≡ self.old.graph }
+        ensures part { self.new.part ≡ self.old.part }
+        ensures walks { self.new.walks ≡ self.old.walks }
+        ensures flows { self.new.flows ≡ self.old.flows }
+        ensures trees { self.new.trees ≡ self.old.trees }
+        ensures cycles { self.new.cycles ≡ self.old.cycles }
+        ensures acyclic { IfSome self.new.acyclic (λ b. IsTrue b ↔ Holds graph.now self.old.part kind.Acyclic) }
+    {
+        if let Some(known) = self.acyclic {
+            return Ok(known);
+        }
+        let acyclic = is_acyclic(&mut self.cycles, graph, &self.part)?;
+        self.acyclic = Some(acyclic);
+        Ok(acyclic)
+    }
+
     /// Whether a predicate over the graph holds in the part.
     fn holds(
         &mut self,
@@ -122,12 +152,16 @@ impl EnabledPart {
         requires walks { self.old.walks ≡ graph.now.nodes }
         requires flows { self.old.flows ≡ graph.now.nodes }
         requires trees { self.old.trees ≡ graph.now.nodes }
+        requires cycles { self.old.cycles ≡ graph.now.nodes }
+        requires acyclic { IfSome self.old.acyclic (λ b. IsTrue b ↔ Holds graph.now self.old.part kind.Acyclic) }
         ensures holds { IfOk result (λ yes. IsTrue yes ↔ Holds graph.now self.old.part predicate) }
         ensures graph { self.new.graph ≡ self.old.graph }
         ensures part { self.new.part ≡ self.old.part }
         ensures walks { self.new.walks ≡ self.old.walks }
         ensures flows { self.new.flows ≡ self.old.flows }
         ensures trees { self.new.trees ≡ self.old.trees }
+        ensures cycles { self.new.cycles ≡ self.old.cycles }
+        ensures acyclic { IfSome self.new.acyclic (λ b. IsTrue b ↔ Holds graph.now self.new.part kind.Acyclic) }
     {
         let part = &self.part;
         match predicate {
@@ -144,6 +178,7 @@ impl EnabledPart {
                 least,
             } => carries(alloc, &mut self.flows, graph, part, source, sink, least),
             Predicate::Tree { most } => spans(&mut self.trees, graph, part, most),
+            Predicate::Acyclic => self.has_no_cycle(graph),
         }
     }
 

@@ -7,6 +7,7 @@ ghost use Rattle.mono_paths.specs.Found.{HasBound};
 ghost use Rattle.mono_problem.specs.Holds.{Holds};
 
 use mono_base::limits::MAX_BOUND;
+use mono_cycles::{CycleFinder, CycleOrOrder};
 use mono_flows::{FlowFinder, FlowOrCut};
 use mono_graph::{Graph, Limit, Part};
 use mono_paths::{PathOrCut, PathOrLabels, WalkFinder};
@@ -101,5 +102,22 @@ pub(crate) fn spans(
         TreeFound::Tree(_) => Ok(true),
         TreeFound::Split(_) => Ok(false),
         TreeFound::Least(_) => Ok(false),
+    }
+}
+
+/// Whether no walk of one edge or more leads from a node to itself.
+pub(crate) fn is_acyclic(
+    finder: &mut CycleFinder,
+    graph: &Graph,
+    part: &Part,
+) -> Result<bool, AllocError>
+    requires finder { finder.old ≡ graph.now.nodes }
+    requires part { IsPartOf part.now graph.now }
+    ensures holds { IfOk result (λ yes. IsTrue yes ↔ Holds graph.now part.now Predicate.Acyclic) }
+    ensures finder { finder.new ≡ finder.old }
+{
+    match finder.find_cycle(graph, part)? {
+        CycleOrOrder::Order(_) => Ok(true),
+        CycleOrOrder::Cycle(_) => Ok(false),
     }
 }

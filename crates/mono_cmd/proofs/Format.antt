@@ -88,6 +88,8 @@ witness_within g (by.FlowCut us) limited h small = all_more (λ u. nat_lt u g.no
 witness_within g (by.Tree es) limited h small = all_more (λ n. is_some (place_of g n)) is_name es (λ n k. edge_within g n limited k) h
 witness_within g (by.Split us) limited h small = all_more (λ u. nat_lt u g.nodes) is_name us (λ u k. node_within g u limited k) h
 witness_within g (by.Least es) limited h small = all_more (λ n. is_some (place_of g n)) is_name es (λ n k. edge_within g n limited k) h
+witness_within g (by.Cycle es) limited h small = all_more (λ n. is_some (place_of g n)) is_name es (λ n k. edge_within g n limited k) h
+witness_within g (by.Order us) limited h small = all_more (λ u. nat_lt u g.nodes) is_name us (λ u k. node_within g u limited k) h
 
 -- ---- lemmas
 

@@ -2,6 +2,7 @@ mod Causes
 mod Format
 mod Needs
 mod OneEnding
+mod OutOfMemory
 mod PlaceLaws
 mod Solutions
 mod Solves

@@ -15,7 +15,7 @@ use Rattle.mono_cmd.specs.declared.status.Status.{Status}
 use Rattle.mono_cmd.specs.declared.status.Status.TheVariants as status
 use Rattle.mono_cmd.specs.declared.ending.Ending.{Ending}
 use Rattle.mono_cmd.specs.declared.ending.Ending.TheVariants as ending
-use Rattle.mono_cmd.specs.Endings.{status_of, answer_status, verdict_status}
+use Rattle.mono_cmd.specs.Endings.{status_of, TakesMemory, answer_status, verdict_status}
 use Rattle.mono_cmd.specs.Runs.{ComesTo, Ends, Writes, HasProblem, HasNoFault, EachReached, IsHeld, IsHeldWithin, IsCarriedOut, IsGenerated}
 use Rattle.mono_cmd.proofs.Stages.{ends_else}
 
@@ -111,7 +111,7 @@ its_status e status.TooLong before now w no_fault found = w.0
 pub no_read_fault : (e : Ending) (s : Status) (before now : Option (List ℕ)) → Writes e s before now → s ≢ status.ReadFault → s ≢ status.WriteFault → e ≢ ending.ReadFault
 no_read_fault e status.WriteFault before now w other no_fault = absurd (no_fault refl)
 no_read_fault e status.ReadFault before now w other no_fault = absurd (other refl)
-no_read_fault e status.Memory before now w other no_fault = w.1
+no_read_fault e status.Memory before now w other no_fault = λ same. subst TakesMemory same w.1
 no_read_fault e status.Satisfiable before now w other no_fault = λ same. absurd (let is = w.0 ∙ ap status_of same in cc)
 no_read_fault e status.Unsatisfiable before now w other no_fault = λ same. absurd (let is = w.0 ∙ ap status_of same in cc)
 no_read_fault e status.Unknown before now w other no_fault = λ same. absurd (let is = w.0 ∙ ap status_of same in cc)

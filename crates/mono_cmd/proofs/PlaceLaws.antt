@@ -27,7 +27,7 @@ text_place file limit old new (ending.Summed s) else ends = absurd ends
 text_place file limit old new (ending.Solved reply) else ends = absurd ends
 text_place file limit old new (ending.Printed text) else ends = absurd ends
 
-read_place : (place : Option ℕ) (limit : ℕ) (text : List ℕ) → place ≡ Some (length text) → length text ≤ limit → IfSome place (λ at. at ≤ limit)
+pub read_place : (place : Option ℕ) (limit : ℕ) (text : List ℕ) → place ≡ Some (length text) → length text ≤ limit → IfSome place (λ at. at ≤ limit)
 read_place None limit text is within = absurd cc
 read_place (Some at) limit text is within = let same : at ≡ length text = cc in subst (λ (n : ℕ). n ≤ limit) (sym same) within
 

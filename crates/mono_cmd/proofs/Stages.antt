@@ -33,6 +33,33 @@ ends_else found old new (ending.Summed s) else ends = ends
 ends_else found old new (ending.Solved reply) else ends = ends
 ends_else found old new (ending.Printed text) else ends = ends
 
+-- ---- want of memory
+
+at_most_once : (n m : ℕ) → m ≡ counted n → m ≤ counted (counted n)
+at_most_once n m once = omega (arith, once)
+
+out_begun : (found : Option Command) (old new : ShelfView) → IsOutOfMemory found old new → new.begun ≤ begun_for (files_of found) old.begun
+out_begun None old new out = absurd out
+out_begun (Some (command.Solve file budget)) old new (inl same) = omega (arith, ap (λ (shelf : ShelfView). shelf.begun) same)
+out_begun (Some (command.Solve file budget)) old new (inr given) = omega (arith, given.once.begun)
+out_begun (Some (command.Print file)) old new (inl same) = omega (arith, ap (λ (shelf : ShelfView). shelf.begun) same)
+out_begun (Some (command.Print file)) old new (inr given) = omega (arith, given.once.begun)
+out_begun (Some (command.Gen k size seed solve)) old new same = omega (arith, ap (λ (shelf : ShelfView). shelf.begun) same)
+out_begun (Some (command.Check file answer)) old new (inl (inl same)) = omega (arith, ap (λ (shelf : ShelfView). shelf.begun) same)
+out_begun (Some (command.Check file answer)) old new (inl (inr given)) = at_most_once old.begun new.begun given.once.begun
+out_begun (Some (command.Check file answer)) old new (inr (p, read, has, given)) = omega (arith, given.once.begun ∙ ap counted has.read.once.begun)
+
+out_faults : (found : Option Command) (old new : ShelfView) → IsOutOfMemory found old new → new.faults ≡ old.faults
+out_faults None old new out = absurd out
+out_faults (Some (command.Solve file budget)) old new (inl same) = ap (λ (shelf : ShelfView). shelf.faults) same
+out_faults (Some (command.Solve file budget)) old new (inr given) = given.faults
+out_faults (Some (command.Print file)) old new (inl same) = ap (λ (shelf : ShelfView). shelf.faults) same
+out_faults (Some (command.Print file)) old new (inr given) = given.faults
+out_faults (Some (command.Gen k size seed solve)) old new same = ap (λ (shelf : ShelfView). shelf.faults) same
+out_faults (Some (command.Check file answer)) old new (inl (inl same)) = ap (λ (shelf : ShelfView). shelf.faults) same
+out_faults (Some (command.Check file answer)) old new (inl (inr given)) = given.faults
+out_faults (Some (command.Check file answer)) old new (inr (p, read, has, given)) = given.faults ∙ has.read.faults
+
 -- ---- one file
 
 pub text_begun : (file : List ℕ) (limit : ℕ) (old new : ShelfView) (e : Ending) → EndsAtText file limit old new e → new.begun ≡ counted old.begun
@@ -84,9 +111,6 @@ file_faults file old new (ending.Printed text) else ends = absurd ends
 
 -- ---- commands
 
-at_most_once : (n m : ℕ) → m ≡ counted n → m ≤ counted (counted n)
-at_most_once n m once = omega (arith, once)
-
 comes_begun : (found : Option Command) (old new : ShelfView) (e : Ending) → ComesTo found old new e → new.begun ≤ begun_for (files_of found) old.begun
 comes_begun None old new e comes = omega (arith, ap (λ (shelf : ShelfView). shelf.begun) comes.1)
 comes_begun (Some (command.Solve file budget)) old new e (inl ends) = omega (arith, file_begun file old new e ends)
@@ -118,7 +142,7 @@ comes_faults (Some (command.Check file answer)) old new e else (inr (p, read, ha
     ap (λ (s : ShelfView). s.faults) judged.1 ∙ given.faults ∙ has.read.faults
 
 pub ends_begun : (found : Option Command) (old new : ShelfView) (e : Ending) → Ends found old new e → new.begun ≤ begun_for (files_of found) old.begun
-ends_begun found old new e ends = elim (ends_cases found old new e ends) [ inl out ↦ out.begun | inr comes ↦ comes_begun found old new e comes ]
+ends_begun found old new e ends = elim (ends_cases found old new e ends) [ inl out ↦ out_begun found old new out | inr comes ↦ comes_begun found old new e comes ]
 
 pub ends_faults : (found : Option Command) (old new : ShelfView) (e : Ending) → e ≢ ending.ReadFault → Ends found old new e → new.faults ≡ old.faults
-ends_faults found old new e else ends = elim (ends_cases found old new e ends) [ inl out ↦ out.faults | inr comes ↦ comes_faults found old new e else comes ]
+ends_faults found old new e else ends = elim (ends_cases found old new e ends) [ inl out ↦ out_faults found old new out | inr comes ↦ comes_faults found old new e else comes ]

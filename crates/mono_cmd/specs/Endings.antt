@@ -91,6 +91,17 @@ text_of (ending.Judged v) = verdict_text v
 text_of (ending.Summed s) = summary_text s
 text_of (ending.Printed text) = text
 
+-- Memory may be wanting for the text of this ending, or was wanting on the way to it. A text of constants takes none, and
+-- neither does one that is there already.
+abbrev pub TakesMemory : Ending → Type 0
+TakesMemory ending.Words = ⊥
+TakesMemory ending.ReadFault = ⊥
+TakesMemory ending.TooLong = ⊥
+TakesMemory (ending.Printed text) = ⊥
+TakesMemory (ending.Judged verdict.Model) = ⊥
+TakesMemory (ending.Judged verdict.Refutation) = ⊥
+TakesMemory e = Unit {0}
+
 -- ---- the ending where a step of the run ends it
 
 abbrev pub unread_ending : ReadRefusal → Ending

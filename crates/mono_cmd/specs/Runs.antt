@@ -26,9 +26,10 @@ use Rattle.mono_cmd.specs.declared.status.Status.TheVariants as status
 use Rattle.mono_cmd.specs.declared.summary.Summary.{Summary}
 use Rattle.mono_cmd.specs.declared.ending.Ending.{Ending}
 use Rattle.mono_cmd.specs.declared.ending.Ending.TheVariants as ending
-use Rattle.mono_cmd.specs.Commands.{files_of}
+use Rattle.mono_cmd.specs.Commands.{command_of, files_of}
+use Rattle.mono_cmd.specs.Statuses.{code_of}
 use Rattle.mono_cmd.specs.declared.command.TheConstants.{DEFAULT_BUDGET}
-use Rattle.mono_cmd.specs.Endings.{status_of, text_of, summary_lines, verdict_text}
+use Rattle.mono_cmd.specs.Endings.{status_of, text_of, TakesMemory, summary_lines, verdict_text}
 use Rattle.mono_cmd.specs.Solved.{IsSolution, IsProgress, IsSummary}
 
 -- ---- a file on the way
@@ -111,10 +112,15 @@ abbrev pub begun_for : List (List ℕ) → ℕ → ℕ
 begun_for [] count = count
 begun_for (file ∷ files) count = begun_for files (counted count)
 
--- Memory was wanting: no call had failed, and no file that the words name was begun twice.
-pub record IsOutOfMemory (found : Option Command) (old new : ShelfView) : Type 0 where
-  pub faults : new.faults ≡ old.faults
-  pub begun : new.begun ≤ begun_for (files_of found) old.begun
+-- Memory was wanting, and no call had failed: before a file was begun, on the way with FILE, or on the way with ANSWER behind
+-- it. Of the file that was begun last no byte beyond its limit was read. Words that are no command need no memory.
+abbrev pub IsOutOfMemory : Option Command → ShelfView → ShelfView → Type 0
+IsOutOfMemory None old new = ⊥
+IsOutOfMemory (Some (command.Solve file budget)) old new = (new ≡ old) ⊎ IsGivenUp MAX_INPUT_BYTES old new
+IsOutOfMemory (Some (command.Print file)) old new = (new ≡ old) ⊎ IsGivenUp MAX_INPUT_BYTES old new
+IsOutOfMemory (Some (command.Gen k size seed solve)) old new = new ≡ old
+IsOutOfMemory (Some (command.Check file answer)) old new =
+    ((new ≡ old) ⊎ IsGivenUp MAX_INPUT_BYTES old new) ⊎ ((p : Instance) × (read : ShelfView) × HasProblem file old read p × IsGivenUp MAX_ANSWER_BYTES read new)
 
 -- What a run comes to.
 abbrev pub Ends : Option Command → ShelfView → ShelfView → Ending → Type 0
@@ -124,10 +130,10 @@ Ends found old new e = ComesTo found old new e
 -- ---- what is written
 
 -- What a run that comes to this ending writes, by its status: the text whole; a prefix of it where a write failed; nothing
--- where memory was wanting, and not in place of a read fault.
+-- where memory was wanting, and not in place of a text that takes none.
 abbrev pub Writes : Ending → Status → Option (List ℕ) → Option (List ℕ) → Type 0
 Writes e status.WriteFault before now = AppendsPrefix before now (text_of e)
-Writes e status.Memory before now = (now ≡ before) × (e ≢ ending.ReadFault)
+Writes e status.Memory before now = (now ≡ before) × TakesMemory e
 Writes e s before now = (s ≡ status_of e) × (now ≡ append_known before (text_of e))
 
 -- the run comes to an ending, and writes its text
@@ -135,6 +141,21 @@ pub record Runs (found : Option Command) (old new : ShelfView) (s : Status) (bef
   pub ending : Ending
   pub ends : Ends found old new ending
   pub writes : Writes ending s before now
+
+-- the same, and the process ends with the number of the status
+pub record Exits (found : Option Command) (old new : ShelfView) (code : ℕ) (before now : Option (List ℕ)) : Type 0 where
+  pub status : Status
+  pub runs : Runs found old new status before now
+  pub number : code ≡ code_of status
+
+-- real files before the first call: they tell nothing
+abbrev pub untold_shelf : ShelfView
+untold_shelf = record { texts = None; chosen = []; place = None; begun = 0; faults = 0; steady = false }
+
+-- The process ends with the number of the status of a run over real files and the standard output, which tell nothing; or
+-- no memory was found for its words.
+abbrev pub ExitsOverFiles : ℕ → Type 0
+ExitsOverFiles code = (code ≡ code_of status.Memory) ⊎ ((words : List (List ℕ)) × (new : ShelfView) × Exits (command_of words) untold_shelf new code None None)
 
 -- `solve` runs with this budget, and FILE is told and stands for the problem
 pub record Solves (found : Option Command) (texts : Option Texts) (p : Instance) (budget : ℕ) : Type 0 where

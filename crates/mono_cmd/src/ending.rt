@@ -2,11 +2,11 @@
 //!
 //! It is also the error of each step that may end a run, so that `?` ends it there.
 
-ghost use Rattle.std.specs.Prelude.{◌≡◌, ◌≢◌, ◌∷◌, [], IfOk, OnErr, codes, decimal};
+ghost use Rattle.std.specs.Prelude.{◌≡◌, ◌∷◌, [], IfOk, OnErr, codes, decimal};
 ghost use Rattle.std.specs.Cow.{cow_slice_items};
 ghost use Rattle.mono_text.specs.Text.{spaced};
 ghost use Rattle.mono_check.specs.Names.{reason_name};
-ghost use Rattle.mono_cmd.specs.Endings.{status_of, text_of, unread_ending, unjudged_ending, refused_ending, answer_status as status_of_answer, verdict_status as status_of_verdict, verdict_text as text_of_verdict};
+ghost use Rattle.mono_cmd.specs.Endings.{status_of, text_of, TakesMemory, unread_ending, unjudged_ending, refused_ending, answer_status as status_of_answer, verdict_status as status_of_verdict, verdict_text as text_of_verdict};
 ghost use Rattle.mono_cmd.specs.declared.ending.Ending.TheVariants.{Memory};
 
 use crate::status::Status;
@@ -106,10 +106,10 @@ impl Ending {
         }
     }
 
-    /// The text that is due. That of a read fault takes no memory, so that none is said to be wanting in its place.
+    /// The text that is due. One of constants takes no memory, so that none is said to be wanting in its place.
     pub fn into_text(self, alloc: Global) -> Result<CowSlice<'static, u8>, AllocError>
         ensures ok { IfOk result (λ text. cow_slice_items text ≡ text_of self) }
-        ensures err { OnErr result (self ≢ Ending.ReadFault) }
+        ensures err { OnErr result (TakesMemory self) }
     {
         let text = match self {
             Ending::Words => return Ok(fixed(USAGE)),
@@ -118,7 +118,7 @@ impl Ending {
             Ending::TooLong => return Ok(fixed(b"too long\n")),
             Ending::Refused { line, fault } => refused_text(alloc, line, fault)?,
             Ending::Solved(answer) => print_answer(alloc, &answer)?,
-            Ending::Judged(verdict) => verdict_text(alloc, verdict)?,
+            Ending::Judged(verdict) => return Ok(verdict_text(alloc, verdict)?),
             Ending::Summed(summary) => summary.text(alloc)?,
             Ending::Printed(text) => text.into_vec(),
         };
@@ -158,18 +158,27 @@ fn refused_text(alloc: Global, line: u64, fault: GnfFault) -> Result<Vec<u8>, Al
     Ok(format!(in alloc; "refused {line} {name}\n")?.into_bytes())
 }
 
-/// The line of a verdict.
-pub(crate) fn verdict_text(alloc: Global, verdict: Verdict) -> Result<Vec<u8>, AllocError>
-    ensures { IfOk result (λ text. text.items ≡ text_of_verdict verdict) }
+/// The line of a verdict. That of a model or of a refutation takes no memory.
+pub(crate) fn verdict_text(
+    alloc: Global,
+    verdict: Verdict,
+) -> Result<CowSlice<'static, u8>, AllocError>
+    ensures ok { IfOk result (λ text. cow_slice_items text ≡ text_of_verdict verdict) }
+    ensures err { OnErr result (TakesMemory (Ending.Judged verdict)) }
 {
-    match verdict {
-        Verdict::Model => b"accepted model\n".to_vec(alloc),
-        Verdict::Refutation => b"accepted refutation\n".to_vec(alloc),
-        Verdict::Progress(count) => {
-            Ok(format!(in alloc; "accepted progress {count}\n")?.into_bytes())
-        }
-        Verdict::Rejected { line, reason } => rejected_text(alloc, line, reason),
-    }
+    let text = match verdict {
+        Verdict::Model => return Ok(fixed(b"accepted model\n")),
+        Verdict::Refutation => return Ok(fixed(b"accepted refutation\n")),
+        Verdict::Progress(count) => progress_text(alloc, count)?,
+        Verdict::Rejected { line, reason } => rejected_text(alloc, line, reason)?,
+    };
+    Ok(CowSlice::Owned(text))
+}
+
+fn progress_text(alloc: Global, count: u64) -> Result<Vec<u8>, AllocError>
+    ensures { IfOk result (λ text. text.items ≡ text_of_verdict (Verdict.Progress count)) }
+{
+    Ok(format!(in alloc; "accepted progress {count}\n")?.into_bytes())
 }
 
 fn numbered_text(

@@ -2,14 +2,16 @@
 //! checks answers. `run` is the whole program; `main` makes the real shelf and sink and calls it.
 #![tactic(auto)]
 
-ghost use Rattle.std.specs.Prelude.{◌≡◌};
-ghost use Rattle.std.specs.Process.{exit_status};
-ghost use Rattle.mono_cmd.specs.Statuses.{code_of};
+ghost use Rattle.std.specs.Prelude.{map, string_bytes};
+ghost use Rattle.mono_cmd.specs.Commands.{command_of};
+ghost use Rattle.mono_cmd.specs.Runs.{Exits};
 
 /// Commands.
 pub mod command;
 /// What a run comes to, and the text that it writes.
 pub mod ending;
+/// What the process exits with.
+pub mod exit;
 /// What holds of the definitions alone.
 pub mod laws;
 /// The whole program.
@@ -29,10 +31,11 @@ pub mod worked;
 /// What `solve` may answer, worked by hand.
 pub mod worked_answers;
 
-use mono_io::{FileShelf, StdSink, SystemFiles};
+use exit::Exit;
+use mono_io::{FileShelf, Shelf, Sink, StdSink, SystemFiles};
 use run::run;
 use status::Status;
-use std::process::ExitCode;
+use std::alloc::Global;
 use std::rt::Env;
 use std::{env, io};
 
@@ -43,27 +46,32 @@ fn arguments<R: Env + AllocGlobal>(rt: &R) -> io::Result<Vec<String>> {
     Ok(all.collect(rt.alloc())?)
 }
 
-// Words that aren't text are no command, and neither are none.
-fn ends(rt: &HostRuntime) -> Status {
+/// The number of the status that the run of these words over this shelf and this output comes to.
+fn code_after<S: Shelf, K: Sink>(alloc: Global, words: &[String], shelf: &mut S, out: &mut K) -> u8
+    ensures { Exits (command_of (map string_bytes words.now)) (S.seen shelf.old) (S.seen shelf.new) result (K.written out.old) (K.written out.new) }
+{
+    run(alloc, words, shelf, out).code()
+}
+
+/// Runs over the real files and the standard output. Words that aren't text are no command, and neither are none.
+fn run_over_files(rt: &HostRuntime) -> Exit {
     let words = match arguments(rt) {
         Ok(words) => words,
         Err(error) => match error.kind() {
-            io::ErrorKind::OutOfMemory => return Status::Memory,
+            io::ErrorKind::OutOfMemory => {
+                return Exit {
+                    code: Status::Memory.code(),
+                };
+            }
             _ => Vec::new(rt.alloc()),
         },
     };
     let mut shelf = FileShelf::new(SystemFiles::new(rt));
     let mut out = StdSink::new(io::writer(rt));
-    run(rt.alloc(), words.as_slice(), &mut shelf, &mut out)
+    let code = code_after(rt.alloc(), words.as_slice(), &mut shelf, &mut out);
+    Exit { code }
 }
 
-/// What a process that ends with this status is to exit with.
-fn exit_code(status: Status) -> ExitCode
-    ensures { exit_status result ≡ code_of status }
-{
-    ExitCode::from(status.code())
-}
-
-fn main(rt: HostRuntime) -> ExitCode {
-    exit_code(ends(&rt))
+fn main(rt: HostRuntime) -> Exit {
+    run_over_files(&rt)
 }

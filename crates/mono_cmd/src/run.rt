@@ -1,7 +1,7 @@
 //! The whole program: words, a shelf of files and a sink in, a status out.
 //!
-//! The order is: the words; FILE is read, then its form; it is solved, or ANSWER is read to its end, its lines judged on the
-//! way; the text is written.
+//! The order is: the words; FILE is read, then its form; it is solved, or ANSWER is read to its end and judged; the text is
+//! written.
 //! The first refusal in this order decides. All text is made before the first write, so with want of memory nothing was written.
 //!
 //! Each step answers what the next one needs, or the ending of the run: `?` ends it there. So a form is a few lines.
@@ -16,7 +16,7 @@ ghost use Rattle.mono_cmd.specs.declared.command.TheConstants.{DEFAULT_BUDGET};
 ghost use Rattle.mono_cmd.specs.declared.summary.Summary.{Summary as SummaryOf};
 ghost use Rattle.mono_cmd.specs.Solved.{IsSummary};
 ghost use Rattle.mono_cmd.specs.Commands.{command_of, files_of};
-ghost use Rattle.mono_cmd.specs.Runs.{Ends, EndsAtFile, IsGenerated, SolvesGenerated, IsSummaryBy, HasProblem, Runs, Writes, Solves, IsVerdictBy, CheckWrote, IsCarriedOut, EachReached, IsHeld, IsHeldWithin, begun_for};
+ghost use Rattle.mono_cmd.specs.Runs.{Ends, IsOutOfMemory, EndsAtFile, IsGenerated, SolvesGenerated, IsSummaryBy, HasProblem, Runs, Writes, Solves, IsVerdictBy, CheckWrote, IsCarriedOut, EachReached, IsHeld, IsHeldWithin, begun_for};
 
 use crate::command::Command;
 use crate::ending::Ending;
@@ -44,11 +44,13 @@ use std::alloc::{AllocError, Global};
 ///   printed form, or with the generated input of a kind, a size and a seed.
 /// - `gen` with `--solve` ends as `solve` does on the generated input, with the six lines of its summary. The last one is
 ///   the checker's verdict on the answer; with `Unknown` the progress follows.
-/// - `ReadFault` comes only where one call of the shelf failed, the last one, at FILE, or at ANSWER where FILE has no
-///   fault. Over a steady shelf it comes only for a file that the shelf lacks.
+/// - `ReadFault` comes only where exactly one call of the shelf failed, at FILE, or at ANSWER where FILE has no fault. Over a
+///   steady shelf it comes only for a file that the shelf lacks.
 /// - `TooLong` comes only for a file with more bytes than its limit: the shelf's place is limit + 1 then.
-/// - `WriteFault` comes only where one write failed, the last one; a prefix of the text that was due was written.
-/// - With `Memory` nothing was written, and no call of the shelf or the sink had failed.
+/// - `WriteFault` comes only where exactly one write failed; a prefix of the text that was due was written.
+/// - With `Memory` nothing was written, no call of the shelf or the sink had failed, and of the file that was begun last no
+///   byte beyond its limit was read. It never comes in place of `Words`, `ReadFault`, `TooLong` or `Printed`, nor of an
+///   accepted model or refutation: those texts take no memory.
 pub fn run<S: Shelf, K: Sink>(alloc: Global, words: &[String], shelf: &mut S, out: &mut K) -> Status
     // The run comes to an ending in the order above, and writes its text.
     ensures runs { Runs (command_of (map string_bytes words.now)) (S.seen shelf.old) (S.seen shelf.new) result (K.written out.old) (K.written out.new) }
@@ -58,6 +60,7 @@ pub fn run<S: Shelf, K: Sink>(alloc: Global, words: &[String], shelf: &mut S, ou
     ensures write_fault { result ≡ Status.WriteFault → K.faults out.new ≡ counted (K.faults out.old) }
     ensures no_write_fault { result ≢ Status.WriteFault → K.faults out.new ≡ K.faults out.old }
     ensures memory { result ≡ Status.Memory → K.written out.new ≡ K.written out.old }
+    ensures given_up { result ≡ Status.Memory → IsOutOfMemory (command_of (map string_bytes words.now)) (S.seen shelf.old) (S.seen shelf.new) }
 
     // Each file is begun once at most.
     ensures begun { (S.seen shelf.new).begun ≤ begun_for (files_of (command_of (map string_bytes words.now))) (S.seen shelf.old).begun }

@@ -1,13 +1,13 @@
 //! Answers to problems, looked for by the search.
 
-ghost use Rattle.std.specs.Prelude.{◌≡◌, ◌≤◌, ℕ, IfOk, IsTrue};
+ghost use Rattle.std.specs.Prelude.{◌≡◌, ◌≤◌, ℕ, [], true, IfOk, IsTrue};
 ghost use Rattle.mono_problem.specs.WellFormed.{IsInstance};
 ghost use Rattle.mono_steps.specs.Steps.{are_justified, is_refutation};
 ghost use Rattle.mono_cmd.specs.Solved.{IsSolution, IsProgress};
 
 use mono_answer::Answer;
 use mono_base::Row;
-use mono_kinds::all_theories;
+use mono_kinds::{AnyTheory, all_theories};
 use mono_problem::Problem;
 use mono_search::{Outcome, Search};
 use mono_steps::{Journal, Step};
@@ -20,11 +20,26 @@ pub fn answer_to(alloc: Global, problem: &Problem, budget: u64) -> Result<Answer
     ensures { IfOk result (IsSolution problem.now budget) }
 {
     let theories = all_theories(alloc, problem)?;
-    let mut search = Search::new(alloc, problem, theories)?;
-    match search.run(budget)? {
+    let mut solver = Search::new(alloc, problem, theories)?;
+    answer_of(alloc, problem, &mut solver, budget)
+}
+
+/// What a new search comes to. It only borrows the search, so that dropping it, a large value, is written out once.
+fn answer_of(
+    alloc: Global,
+    problem: &Problem,
+    solver: &mut Search<'_, AnyTheory>,
+    budget: u64,
+) -> Result<Answer, AllocError>
+    requires problem { IsInstance problem.now }
+    requires budget { 1 ≤ budget }
+    requires new { solver.old ≡ record { problem = problem.now; steps = []; live = true } }
+    ensures { IfOk result (IsSolution problem.now budget) }
+{
+    match solver.run(budget)? {
         Outcome::Sat(values) => Ok(Answer::Model(values)),
-        Outcome::Unsat => refutation(problem, search.journal()),
-        Outcome::Unknown => progress(alloc, problem, budget, search.journal()),
+        Outcome::Unsat => refutation(problem, solver.journal()),
+        Outcome::Unknown => progress(alloc, problem, budget, solver.journal()),
     }
 }
 

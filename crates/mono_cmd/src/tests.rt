@@ -7,15 +7,23 @@ use std::alloc::{AllocError, Global};
 use std::process::Abort;
 use std::test::Fail;
 
+mod acyclic;
+mod altered;
 mod drawn;
+mod failing;
 mod faults;
 mod generated;
+mod handing;
 mod input;
 mod lemmas;
 mod memory;
 mod models;
+mod process;
 mod refutations;
+mod search;
+mod sizes;
 mod solving;
+mod witnesses;
 
 /// What a run wrote, and how it ended.
 #[derive(Drop)]
@@ -32,6 +40,53 @@ fn words_of(alloc: Global, line: &[&str]) -> Result<Vec<String>, AllocError> {
     Ok(words)
 }
 
+/// Runs these words.
+fn run_words(
+    alloc: Global,
+    line: &[&str],
+    shelf: &mut MemoryShelf,
+    out: &mut MemorySink,
+) -> Result<Status, AllocError> {
+    let words = words_of(alloc, line)?;
+    Ok(run(alloc, words.as_slice(), shelf, out))
+}
+
+/// Puts the files `f` and `a` on the shelf.
+fn put_files(shelf: &mut MemoryShelf, input: &[u8], answer: &[u8]) -> Result<(), AllocError> {
+    shelf.put("f", input)?;
+    shelf.put("a", answer)?;
+    Ok(())
+}
+
+/// A shelf that holds the files `f` and `a`.
+fn shelf_of(alloc: Global, input: &[u8], answer: &[u8]) -> Result<MemoryShelf, AllocError> {
+    let mut shelf = MemoryShelf::new(alloc);
+    put_files(&mut shelf, input, answer)?;
+    Ok(shelf)
+}
+
+/// What a run of these words over the shelf writes into this output, and how it ends.
+fn outcome_in(
+    alloc: Global,
+    line: &[&str],
+    shelf: &mut MemoryShelf,
+    out: &mut MemorySink,
+) -> Result<Outcome, AllocError> {
+    let status = run_words(alloc, line, shelf, out)?;
+    let text = out.bytes().to_vec(alloc)?;
+    Ok(Outcome { status, text })
+}
+
+/// The same, into an output of two million bytes.
+fn outcome_over(
+    alloc: Global,
+    line: &[&str],
+    shelf: &mut MemoryShelf,
+) -> Result<Outcome, AllocError> {
+    let mut out = MemorySink::new(alloc, 1 << 21)?;
+    outcome_in(alloc, line, shelf, &mut out)
+}
+
 /// Runs these words over a shelf that holds the files `f` and `a`, and gives at most that many bytes at a time.
 fn outcome_by(
     alloc: Global,
@@ -40,17 +95,9 @@ fn outcome_by(
     answer: &[u8],
     most: usize,
 ) -> Result<Outcome, AllocError> {
-    let mut shelf = MemoryShelf::new(alloc);
-    shelf.put("f", input)?;
-    shelf.put("a", answer)?;
+    let mut shelf = shelf_of(alloc, input, answer)?;
     shelf.pieces(most.max(1));
-    let mut out = MemorySink::new(alloc, 1 << 21)?;
-    let words = words_of(alloc, line)?;
-    let status = run(alloc, words.as_slice(), &mut shelf, &mut out);
-    Ok(Outcome {
-        status,
-        text: out.bytes().to_vec(alloc)?,
-    })
+    outcome_over(alloc, line, &mut shelf)
 }
 
 /// The same, by pieces as large as any.
@@ -63,6 +110,12 @@ fn outcome_of(
     outcome_by(alloc, line, input, answer, 1 << 16)
 }
 
+/// The run wrote this text, and ended so.
+fn assert_outcome(rt: &impl Abort, found: &Outcome, text: &[u8], status: Status) {
+    assert_eq!(rt; found.text.as_slice(), text);
+    assert_eq!(rt; found.status, status);
+}
+
 /// The run of `check f a` ends so, however the shelf cuts the files.
 fn checks(
     rt: &(impl Abort + AllocGlobal),
@@ -73,8 +126,7 @@ fn checks(
 ) -> Result<(), Fail> {
     for most in [1, 7, 1 << 16] {
         let found = outcome_by(rt.alloc(), &["check", "f", "a"], input, answer, most)?;
-        assert_eq!(rt; found.text.as_slice(), text);
-        assert_eq!(rt; found.status, status);
+        assert_outcome(rt, &found, text, status);
     }
     Ok(())
 }
@@ -108,12 +160,22 @@ fn judges(rt: &(impl Abort + AllocGlobal), rows: &[(&str, &str, &str)]) -> Resul
     Ok(())
 }
 
+/// The run of `print f` ends so.
+fn prints(
+    rt: &(impl Abort + AllocGlobal),
+    input: &[u8],
+    text: &[u8],
+    status: Status,
+) -> Result<(), Fail> {
+    let found = outcome_of(rt.alloc(), &["print", "f"], input, b"")?;
+    assert_outcome(rt, &found, text, status);
+    Ok(())
+}
+
 /// Each row has an input, and what `print` writes of it.
 fn prints_each(rt: &(impl Abort + AllocGlobal), rows: &[(&str, &str)]) -> Result<(), Fail> {
     for (input, text) in rows {
-        let found = outcome_of(rt.alloc(), &["print", "f"], input.as_bytes(), b"")?;
-        assert_eq!(rt; found.text.as_slice(), text.as_bytes());
-        assert_eq!(rt; found.status, status_of(text));
+        prints(rt, input.as_bytes(), text.as_bytes(), status_of(text))?;
     }
     Ok(())
 }

@@ -1,6 +1,6 @@
 //! The words of a command line, read by hand.
 
-ghost use Rattle.std.specs.Prelude.{◌≡◌, ◌≤◌, ◌∷◌, [], IfOk, IfSome, map, string_bytes};
+ghost use Rattle.std.specs.Prelude.{◌≡◌, ◌≤◌, ◌∷◌, [], IfOk, IfSome, IsSome, OnErr, map, string_bytes};
 ghost use Rattle.mono_cmd.specs.Commands.{IsWithinRange, command_of, budget_of, budgeted_command as budgeted, kind_of as kind_named, size_of as size_named, seed_of as seed_named, gen_command as generating, is_file_name as is_name};
 
 use crate::command::{Command, DEFAULT_BUDGET};
@@ -9,10 +9,11 @@ use mono_gen::GenKind;
 use mono_text::natural;
 use std::alloc::{AllocError, Global};
 
-/// The command that the words behind the program's name are: `None` exactly where they are no form.
+/// The command that the words behind the program's name are: `None` exactly where they are no form. Those take no memory.
 pub fn command(alloc: Global, words: &[String]) -> Result<Option<Command>, AllocError>
     ensures form { IfOk result (λ found. found ≡ command_of (map string_bytes words.now)) }
     ensures ranges { IfOk result (λ found. IfSome found IsWithinRange) }
+    ensures err { OnErr result (IsSome (command_of (map string_bytes words.now))) }
 {
     match words {
         [verb, file] => file_command(alloc, verb.as_str(), file.as_str()),
@@ -57,6 +58,7 @@ fn name(alloc: Global, word: &str) -> Result<Name, AllocError>
 fn file_command(alloc: Global, verb: &str, file: &str) -> Result<Option<Command>, AllocError>
     ensures form { IfOk result (λ found. found ≡ command_of (verb.now ∷ file.now ∷ [])) }
     ensures ranges { IfOk result (λ found. IfSome found IsWithinRange) }
+    ensures err { OnErr result (IsSome (command_of (verb.now ∷ file.now ∷ []))) }
 {
     if !is_file_name(file) {
         return Ok(None);
@@ -84,6 +86,7 @@ fn check_command(
 ) -> Result<Option<Command>, AllocError>
     ensures form { IfOk result (λ found. found ≡ command_of (verb.now ∷ file.now ∷ answer.now ∷ [])) }
     ensures ranges { IfOk result (λ found. IfSome found IsWithinRange) }
+    ensures err { OnErr result (IsSome (command_of (verb.now ∷ file.now ∷ answer.now ∷ []))) }
 {
     if verb != "check" || !is_file_name(file) || !is_file_name(answer) {
         return Ok(None);
@@ -115,6 +118,7 @@ fn budgeted_command(
 ) -> Result<Option<Command>, AllocError>
     ensures form { IfOk result (λ found. found ≡ budgeted verb.now file.now option.now number.now) }
     ensures ranges { IfOk result (λ found. IfSome found IsWithinRange) }
+    ensures err { OnErr result (IsSome (budgeted verb.now file.now option.now number.now)) }
 {
     if verb != "solve" || !is_file_name(file) || option != "--conflicts" {
         return Ok(None);
@@ -211,6 +215,7 @@ fn four_words(
 ) -> Result<Option<Command>, AllocError>
     ensures form { IfOk result (λ found. found ≡ command_of (verb.now ∷ first.now ∷ second.now ∷ third.now ∷ [])) }
     ensures ranges { IfOk result (λ found. IfSome found IsWithinRange) }
+    ensures err { OnErr result (IsSome (command_of (verb.now ∷ first.now ∷ second.now ∷ third.now ∷ []))) }
 {
     if verb == "gen" {
         return Ok(gen_command(kind(first), size(second), seed(third), false));

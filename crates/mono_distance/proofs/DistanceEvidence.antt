@@ -1,5 +1,5 @@
 -- Walks and labels show whether a predicate on walks within a limit holds.
-use Rattle.std.proofs.Common.{◌≡◌, ℕ, ◌<◌, ◌≤◌, Bool, ◌&&◌, List, [], ◌∷◌, map, length, leb, ltb, lt-ltb, refl, sym, ap, subst, ◌∙◌, arith, pos, All, le-leb}
+use Rattle.std.proofs.Common.{◌≡◌, ℕ, ◌<◌, ◌≤◌, Bool, false, ◌&&◌, List, [], ◌∷◌, map, length, leb, ltb, lt-ltb, refl, sym, ap, subst, ◌∙◌, arith, pos, All, le-leb}
 use Rattle.std.specs.Prelude.{IsTrue, int_lt}
 use Rattle.std.specs.Ordering.{int_eq}
 use Rattle.std.specs.List.{list_all}
@@ -9,21 +9,32 @@ use Rattle.mono_base.specs.declared.limits.TheConstants.{MAX_WITNESS_VALUE}
 use Rattle.mono_graph.specs.declared.label.Label.{Label}
 use Rattle.mono_graph.specs.declared.limit.Limit.{Limit}
 use Rattle.mono_graph.specs.declared.limit.Limit.TheVariants as limit
-use Rattle.mono_graph.specs.Digraph.{Digraph, IsGraph, is_distinct}
+use Rattle.mono_graph.specs.Digraph.{Digraph, IsGraph, IsSubpart, is_distinct}
 use Rattle.mono_graph.specs.Walks.{is_path, is_labelling, is_tense, label_at, bound_of}
 use Rattle.mono_paths.specs.Found.{HasBound}
 use Rattle.mono_problem.specs.declared.atom.Predicate.{Predicate}
+use Rattle.mono_problem.specs.declared.atom.Predicate.TheVariants as kind
+use Rattle.mono_problem.specs.Holds.{falls}
 use Rattle.mono_problem.specs.WellFormed.{IsOver}
 use Rattle.mono_steps.specs.declared.lemma.Witness.TheVariants as by
-use Rattle.mono_steps.specs.Witnesses.{passes}
+use Rattle.mono_steps.specs.Witnesses.{passes, rests_on_present}
 use Rattle.mono_theory.specs.declared.evidence.Evidence.{Evidence}
 use Rattle.mono_theory.specs.Evidences.{IsEvidence}
 use Rattle.mono_theory.specs.Walked.{walk_evidence}
-use Rattle.mono_theory.proofs.RestingLaws.{alike_none, resting_evidence}
+use Rattle.mono_theory.proofs.RestingLaws.{alike_none, evidence_within, resting_evidence}
 use Rattle.mono_theory.proofs.WalkedLaws.{walk_is_evidence}
 use Rattle.mono_distance.specs.Distances.{is_distance, predicate_of, IsLabelEvidence}
 
 -- ---- what a predicate asks for
+
+-- distances rise as edges come
+pub distance_rises : (q : Predicate) → IsTrue (is_distance q) → falls q ≡ false
+distance_rises (kind.Reach u v) d = refl
+distance_rises (kind.Steps u v most) d = refl
+distance_rises (kind.Distance u v most) d = refl
+distance_rises (kind.Flow u v least) d = refl
+distance_rises (kind.Tree most) d = refl
+distance_rises kind.Acyclic d = absurd cc
 
 pub has_bound : (g : Digraph) (u v : ℕ) (l : Limit) → IsTrue (is_distance (predicate_of u v l)) → IsOver g (predicate_of u v l) → HasBound l
 has_bound g u v limit.Free d h = absurd cc
@@ -61,3 +72,8 @@ pub labels_show : (g : Digraph) (P : List Bool) (u v : ℕ) (l : Limit) (ls : Li
 labels_show g P u v limit.Free ls e b known h is = absurd b
 labels_show g P u v (limit.Steps most) ls e b known h is = labelling_is_evidence g P (predicate_of u v (limit.Steps most)) u v (limit.Steps most) ls e (λ Q. refl) known h is
 labels_show g P u v (limit.Weight most) ls e b known h is = labelling_is_evidence g P (predicate_of u v (limit.Weight most)) u v (limit.Weight most) ls e (λ Q. refl) known h is
+
+pub far_show : (g : Digraph) (P Q : List Bool) (u v : ℕ) (l : Limit) (ls : List Label) (e : Evidence) → HasBound l → All (λ (m : Label). (m.node < g.nodes) × (m.value ≤ MAX_WITNESS_VALUE)) ls → IsTrue (is_labelling g Q u v l ls) → IsSubpart P Q
+    → IsLabelEvidence g Q l ls e → IsEvidence g P (predicate_of u v l) e
+far_show g P Q u v l ls e b known h sub is =
+    evidence_within g P Q (predicate_of u v l) e (ap rests_on_present is.witness) sub (labels_show g Q u v l ls e b known h is)

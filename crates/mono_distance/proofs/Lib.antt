@@ -3,3 +3,4 @@ pub mod DistanceEvidence
 pub mod SureLaws
 pub mod SourceLaws
 pub mod ReadingLaws
+pub mod WorkedRows

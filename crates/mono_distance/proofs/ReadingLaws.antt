@@ -27,7 +27,7 @@ use Rattle.mono_problem.specs.Read.{no_atom}
 use Rattle.mono_problem.specs.WellFormed.{IsOver}
 use Rattle.mono_steps.specs.declared.lemma.Witness.{Witness}
 use Rattle.mono_steps.specs.declared.lemma.Witness.TheVariants as by
-use Rattle.mono_steps.specs.Witnesses.{is_positive, passes, placed}
+use Rattle.mono_steps.specs.Witnesses.{rests_on_present, passes, placed}
 use Rattle.mono_theory.specs.declared.evidence.Evidence.{Evidence}
 use Rattle.mono_theory.specs.declared.stage.Stage.{Stage}
 use Rattle.mono_theory.specs.declared.stage.Stage.TheVariants as stage
@@ -48,10 +48,11 @@ use Rattle.mono_distance.specs.Labels.{entry_in, value_by}
 use Rattle.mono_theory.proofs.AtomPlaceLaws.{place_held}
 use Rattle.mono_theory.proofs.PartLaws.{part_len}
 use Rattle.mono_theory.proofs.SideLaws.{shown_now}
-use Rattle.mono_theory.proofs.SoundLaws.{sound_decides, sound_witness}
+use Rattle.mono_theory.proofs.SoundLaws.{rising_decides, sound_witness}
 use Rattle.mono_distance.specs.declared.node_labels.Labels.{Labels}
 use Rattle.mono_distance.specs.Readings.{IsReached, IsLeast, IsRightSide, above, bound_number, labels_at, labels_in, over_by, over_in, over_of, under_at, under_in}
 use Rattle.mono_distance.specs.SureLabels.{SureLabels, AreLabelsAfter, last_node, is_alike, is_within, limit_of, row_of_atom, under_label}
+use Rattle.mono_distance.proofs.DistanceEvidence.{distance_rises}
 use Rattle.mono_distance.proofs.LabelLaws.{label_is}
 use Rattle.mono_distance.proofs.SourceLaws.{alike_itself}
 use Rattle.mono_distance.proofs.SureLaws.{label_walk, label_decides, labels_uncut, last_asked, limit_asked, low_enough, of_holds, under_cap}
@@ -159,9 +160,12 @@ witness_least g P q v (by.FlowCut es) bound d h = none_least g P q v bound
 witness_least g P q v (by.Tree es) bound d h = none_least g P q v bound
 witness_least g P q v (by.Split es) bound d h = none_least g P q v bound
 witness_least g P q v (by.Least es) bound d h = none_least g P q v bound
+witness_least g P q v (by.Cycle es) bound d h = none_least g P q v bound
+witness_least g P q v (by.Order us) bound d h = none_least g P q v bound
 witness_least g P (kind.Reach x y) v (by.Label ls) bound d h = absurd cc
 witness_least g P (kind.Flow x y least) v (by.Label ls) bound d h = absurd cc
 witness_least g P (kind.Tree most) v (by.Label ls) bound d h = absurd cc
+witness_least g P kind.Acyclic v (by.Label ls) bound d h = absurd cc
 
 -- where nothing is shown, nothing is known
 pub over_none : (l : Limit) (v : ℕ) (s : Stage) (o : Option Evidence) → shows s ≡ false → over_of l v s o ≡ 0
@@ -194,7 +198,7 @@ labelled_high g P u v l ls bound h =
     beyond : (x : ℤ) (m : ℕ) → pos m ≡ x +ℤ pos 1 → int_le (pos m) x ≡ false
     beyond x m e = grind (arith, ints)
 
-witness_high : (g : Digraph) (P : List Bool) (q : Predicate) (w : Witness) → HasBound (limit_of q) → IsTrue (is_distance q) → is_positive w ≡ false → IsTrue (passes g P q w) → is_within (over_by (limit_of q) (last_node q) w) (limit_of q) ≡ false
+witness_high : (g : Digraph) (P : List Bool) (q : Predicate) (w : Witness) → HasBound (limit_of q) → IsTrue (is_distance q) → rests_on_present w ≡ false → IsTrue (passes g P q w) → is_within (over_by (limit_of q) (last_node q) w) (limit_of q) ≡ false
 witness_high g P (kind.Steps x y most) (by.Label ls) bound d sign h = labelled_high g P x y (limit.Steps most) ls bound h
 witness_high g P (kind.Distance x y most) (by.Label ls) bound d sign h = labelled_high g P x y (limit.Weight most) ls bound h
 witness_high g P (kind.Steps x y most) (by.Path es) bound d sign h = absurd cc
@@ -211,9 +215,14 @@ witness_high g P (kind.Steps x y most) (by.Split es) bound d sign h = absurd cc
 witness_high g P (kind.Distance x y most) (by.Split es) bound d sign h = absurd cc
 witness_high g P (kind.Steps x y most) (by.Least es) bound d sign h = absurd cc
 witness_high g P (kind.Distance x y most) (by.Least es) bound d sign h = absurd cc
+witness_high g P (kind.Steps x y most) (by.Cycle es) bound d sign h = absurd cc
+witness_high g P (kind.Distance x y most) (by.Cycle es) bound d sign h = absurd cc
+witness_high g P (kind.Steps x y most) (by.Order us) bound d sign h = absurd cc
+witness_high g P (kind.Distance x y most) (by.Order us) bound d sign h = absurd cc
 witness_high g P (kind.Reach x y) w bound d sign h = absurd cc
 witness_high g P (kind.Flow x y least) w bound d sign h = absurd cc
 witness_high g P (kind.Tree most) w bound d sign h = absurd cc
+witness_high g P kind.Acyclic w bound d sign h = absurd cc
 
 -- ---- what is known decides
 
@@ -223,7 +232,7 @@ decides_by g P q b c e h = subst (Decides g P q) (sym e) h
 shown_high : (g : Digraph) (P : List Bool) (q : Predicate) (m : ℕ) (o : Option Evidence) → length P ≡ length g.edges → HasBound (limit_of q) → IsTrue (is_distance q) → IfSome o (IsSound g q false) → IsRightIn P false o
     → is_within (over_of (limit_of q) (last_node q) (stage.Shows m) o) (limit_of q) ≡ false
 shown_high g P q m None len bound d sound right = absurd right
-shown_high g P q m (Some e) len bound d sound right = (let w = sound_witness g P q false e len sound right in witness_high g P q e.witness bound d w.sign w.passes)
+shown_high g P q m (Some e) len bound d sound right = (let w = sound_witness g P q false e len sound right in witness_high g P q e.witness bound d w.rests w.passes)
 
 bound_of_kind : (g : Digraph) (q : Predicate) → IsTrue (is_distance q) → IsOver g q → HasBound (limit_of q)
 bound_of_kind g (kind.Steps u v most) d h = h.2
@@ -231,6 +240,7 @@ bound_of_kind g (kind.Distance u v most) d h = h.2
 bound_of_kind g (kind.Reach u v) d h = absurd cc
 bound_of_kind g (kind.Flow u v least) d h = absurd cc
 bound_of_kind g (kind.Tree most) d h = absurd cc
+bound_of_kind g kind.Acyclic d h = absurd cc
 
 at_stage : {f : Facts} {r : SideView} (a : ℕ) (st : Stage) → IsGraph f.graph → IsOver f.graph (atom_at f.atoms a).predicate → IsTrue (is_distance (atom_at f.atoms a).predicate) → a < length f.atoms → IsSideFor f true true r → stage_at r.stages a ≡ st → (st ≡ stage.Waits → ⊥)
     → Decides f.graph (over f.graph f.seen) (atom_at f.atoms a).predicate (is_within (over_of (limit_of (atom_at f.atoms a).predicate) (last_node (atom_at f.atoms a).predicate) st (evidence_at r.shown a)) (limit_of (atom_at f.atoms a).predicate))
@@ -239,7 +249,7 @@ at_stage {f = f} {r = r} a stage.Stands graph over-it kind-it lt h at some =
     let q = (atom_at f.atoms a).predicate in
     let P = over f.graph f.seen in
     let right : StageIs f true r a stage.Stands = subst (StageIs f true r a) at (h.side.right a lt) in
-    let holds : Holds f.graph P q = sound_decides f.graph P q true (evidence_at r.supports a) graph over-it (part_len f.graph f.seen true) (h.side.supports.each a lt) right in
+    let holds : Holds f.graph P q = rising_decides f.graph P q true (evidence_at r.supports a) (distance_rises q kind-it) graph over-it (part_len f.graph f.seen true) (h.side.supports.each a lt) right in
     let w = of_holds f.graph P q (limit_of q) kind-it (alike_itself (limit_of q)) holds in
     decides_by f.graph P q true (is_within 0 (limit_of q)) (low_enough 0 (cost_along (limit_of q) f.graph w.0) (bound_of (limit_of q)) (omega arith) w.2) holds
 at_stage {f = f} {r = r} a (stage.Shows m) graph over-it kind-it lt h at some =
@@ -250,7 +260,7 @@ at_stage {f = f} {r = r} a (stage.Shows m) graph over-it kind-it lt h at some =
     let right : IsRightIn P false (evidence_at r.shown a) = shown_now {x = atom_at f.atoms a} shown h.thorough sound in
     decides_by f.graph P q false (is_within (over_of (limit_of q) (last_node q) (stage.Shows m) (evidence_at r.shown a)) (limit_of q))
     (shown_high f.graph P q m (evidence_at r.shown a) (part_len f.graph f.seen true) (bound_of_kind f.graph q kind-it over-it) kind-it sound right)
-    (sound_decides f.graph P q false (evidence_at r.shown a) graph over-it (part_len f.graph f.seen true) sound right)
+    (rising_decides f.graph P q false (evidence_at r.shown a) (distance_rises q kind-it) graph over-it (part_len f.graph f.seen true) sound right)
 
 some_within : (b : Bool) (n : ℕ) → is_some (cond b (Some n) None) ≡ b
 some_within true n = refl
@@ -262,6 +272,7 @@ last_inside g (kind.Distance u v most) d o = o.1
 last_inside g (kind.Reach u v) d o = absurd cc
 last_inside g (kind.Flow u v least) d o = absurd cc
 last_inside g (kind.Tree most) d o = absurd cc
+last_inside g kind.Acyclic d o = absurd cc
 
 decided_by_rows : {f : Facts} {s : SureLabels} {n : ℕ} (a : ℕ) → IsOver f.graph (atom_at f.atoms a).predicate → IsTrue (is_distance (atom_at f.atoms a).predicate) → a < length f.atoms → n ≡ length f.seen → AreLabelsAfter f n s
     → Decides f.graph (under f.graph f.seen) (atom_at f.atoms a).predicate (is_some (under_at s a (atom_at f.atoms a).predicate (last_node (atom_at f.atoms a).predicate)))
@@ -271,15 +282,15 @@ decided_by_rows {f = f} {s = s} {n = n} a over-it kind-it lt e h =
     decides_by f.graph (under f.graph f.seen) q (is_within label (limit_of q)) (is_some (under_at s a q (last_node q))) (some_within (is_within label (limit_of q)) label)
     (subst (λ (P : List Bool). Decides f.graph P q (is_within label (limit_of q))) (sure_all f n e) (label_decides a lt kind-it (last_inside f.graph q kind-it over-it) h))
 
-by_stage : {f : Facts} {s : SideView} (a : ℕ) (st : Stage) → IsGraph f.graph → IsOver f.graph (atom_at f.atoms a).predicate → a < length f.atoms → IsSideFor f false true s → stage_at s.stages a ≡ st → (st ≡ stage.Waits → ⊥)
+by_stage : {f : Facts} {s : SideView} (a : ℕ) (st : Stage) → IsGraph f.graph → IsOver f.graph (atom_at f.atoms a).predicate → IsTrue (is_distance (atom_at f.atoms a).predicate) → a < length f.atoms → IsSideFor f false true s → stage_at s.stages a ≡ st → (st ≡ stage.Waits → ⊥)
     → Decides f.graph (under f.graph f.seen) (atom_at f.atoms a).predicate (shows st)
-by_stage a stage.Waits graph over-it lt h at some = absurd (some refl)
-by_stage {f = f} {s = s} a stage.Stands graph over-it lt h at some =
-    sound_decides f.graph (under f.graph f.seen) (atom_at f.atoms a).predicate false (evidence_at s.supports a) graph over-it (part_len f.graph f.seen false) (h.side.supports.each a lt) (subst (StageIs f false s a) at (h.side.right a lt))
-by_stage {f = f} {s = s} a (stage.Shows m) graph over-it lt h at some =
+by_stage a stage.Waits graph over-it kind-it lt h at some = absurd (some refl)
+by_stage {f = f} {s = s} a stage.Stands graph over-it kind-it lt h at some =
+    rising_decides f.graph (under f.graph f.seen) (atom_at f.atoms a).predicate false (evidence_at s.supports a) (distance_rises (atom_at f.atoms a).predicate kind-it) graph over-it (part_len f.graph f.seen false) (h.side.supports.each a lt) (subst (StageIs f false s a) at (h.side.right a lt))
+by_stage {f = f} {s = s} a (stage.Shows m) graph over-it kind-it lt h at some =
     let shown : StageIs f false s a (stage.Shows m) = subst (StageIs f false s a) at (h.side.right a lt) in
     let sound = h.side.shown.each a lt in
-    sound_decides f.graph (under f.graph f.seen) (atom_at f.atoms a).predicate true (evidence_at s.shown a) graph over-it (part_len f.graph f.seen false) sound (shown_now {x = atom_at f.atoms a} shown h.thorough sound)
+    rising_decides f.graph (under f.graph f.seen) (atom_at f.atoms a).predicate true (evidence_at s.shown a) (distance_rises (atom_at f.atoms a).predicate kind-it) graph over-it (part_len f.graph f.seen false) sound (shown_now {x = atom_at f.atoms a} shown h.thorough sound)
 
 at_last : (q : Predicate) (b : Bool) (n : ℕ) → is_some (cond (eqb (last_node q) (last_node q) && b) (Some n) None) ≡ b
 at_last q b n = ap (λ (x : Bool). is_some (cond (x && b) (Some n) None)) (eq-eqb (last_node q) (last_node q) refl) ∙ some_within b n
@@ -291,7 +302,7 @@ decided_under f (side.Searches s) a graph over-it kind-it lt none h =
     let q = (atom_at f.atoms a).predicate in
     let len = h.side.stages_len in
     decides_by f.graph (under f.graph f.seen) q (shows (stage_at s.stages a)) (is_some (under_in (side.Searches s) a q (last_node q))) (at_last q (shows (stage_at s.stages a)) (bound_number (bound_of (limit_of q))))
-    (by_stage a (stage_at s.stages a) graph over-it lt h refl (none a stage.Waits (omega (arith, lt, len))))
+    (by_stage a (stage_at s.stages a) graph over-it kind-it lt h refl (none a stage.Waits (omega (arith, lt, len))))
 
 found_at : (f : Facts) (n : ℕ) (x : Atom) → AreAtomsOf f.graph f.atoms → atom_of f.atoms n ≡ Some x → (place_of_atom f.atoms n < length f.atoms) × (atom_at f.atoms (place_of_atom f.atoms n) ≡ x)
 found_at f n x known is =
@@ -403,7 +414,7 @@ number_within c (pos n) h = itself n
 number_within c (negsuc n) h = absurd (below_none c (negsuc n) (omega (arith, ints)) h)
 
 -- a walk that is shown costs at most the bound
-reach_by : (g : Digraph) (P : List Bool) (q : Predicate) (x : Witness) → IsTrue (is_distance q) → is_positive x ≡ true → IsTrue (passes g P q x) → IsReached g P q (last_node q) (bound_number (bound_of (limit_of q)))
+reach_by : (g : Digraph) (P : List Bool) (q : Predicate) (x : Witness) → IsTrue (is_distance q) → rests_on_present x ≡ true → IsTrue (passes g P q x) → IsReached g P q (last_node q) (bound_number (bound_of (limit_of q)))
 reach_by g P (kind.Steps u v most) (by.Path es) d sign h =
     let ks = placed g es in
     let p = and_parts (is_walk g P u v ks) (int_le (pos (length ks)) most) h in
@@ -426,9 +437,14 @@ reach_by g P (kind.Steps u v most) (by.Split es) d sign h = absurd cc
 reach_by g P (kind.Distance u v most) (by.Split es) d sign h = absurd cc
 reach_by g P (kind.Steps u v most) (by.Least es) d sign h = absurd cc
 reach_by g P (kind.Distance u v most) (by.Least es) d sign h = absurd cc
+reach_by g P (kind.Steps u v most) (by.Cycle es) d sign h = absurd cc
+reach_by g P (kind.Distance u v most) (by.Cycle es) d sign h = absurd cc
+reach_by g P (kind.Steps u v most) (by.Order us) d sign h = absurd cc
+reach_by g P (kind.Distance u v most) (by.Order us) d sign h = absurd cc
 reach_by g P (kind.Reach x y) w d sign h = absurd cc
 reach_by g P (kind.Flow x y least) w d sign h = absurd cc
 reach_by g P (kind.Tree most) w d sign h = absurd cc
+reach_by g P kind.Acyclic w d sign h = absurd cc
 
 pub searches_reach : (f : Facts) (a u w v number : ℕ) (l : Limit) (x : Witness) → (atom_at f.atoms a).predicate ≡ predicate_of u w l → v ≡ w → number ≡ bound_number (bound_of l) → IsTrue (is_distance (atom_at f.atoms a).predicate)
     → IsWitnessIn f.graph (under f.graph f.seen) (atom_at f.atoms a).predicate true x → IsReached f.graph (under f.graph f.seen) (atom_at f.atoms a).predicate v number
@@ -436,7 +452,7 @@ searches_reach f a u w v number l x is last same kind-it shown =
     let g = f.graph in
     let P = under f.graph f.seen in
     let q = (atom_at f.atoms a).predicate in
-    let shows-it = reach_by g P q x kind-it shown.sign shown.passes in
+    let shows-it = reach_by g P q x kind-it shown.rests shown.passes in
     let number-is : bound_number (bound_of (limit_of q)) ≡ number = ap (λ (k : Limit). bound_number (bound_of k)) (limit_is q u w l is) ∙ sym same in
     subst (λ (m : ℕ). IsReached g P q m number) (sym (last ∙ sym (ap last_node is ∙ last_asked u w l))) (subst (λ (d : ℕ). IsReached g P q (last_node q) d) number-is shows-it)
 

@@ -139,6 +139,7 @@ holds_of g P (kind.Distance u v most) (limit.Weight a) ks d alike w low = (ks, a
 holds_of g P (kind.Reach u v) l ks d alike w low = absurd cc
 holds_of g P (kind.Flow u v least) l ks d alike w low = absurd cc
 holds_of g P (kind.Tree most) l ks d alike w low = absurd cc
+holds_of g P kind.Acyclic l ks d alike w low = absurd cc
 
 pub of_holds : (g : Digraph) (P : List Bool) (q : Predicate) (l : Limit) → IsTrue (is_distance q) → is_alike l (limit_of q) ≡ true → Holds g P q → (ks : List ℕ) × IsTrue (is_walk g P (first_node q) (last_node q) ks) × IsTrue (is_within (cost_along l g ks) (limit_of q))
 of_holds g P (kind.Steps u v most) limit.Free d alike h = absurd cc
@@ -150,6 +151,7 @@ of_holds g P (kind.Distance u v most) (limit.Weight a) d alike h = (let p = and_
 of_holds g P (kind.Reach u v) l d alike h = absurd cc
 of_holds g P (kind.Flow u v least) l d alike h = absurd cc
 of_holds g P (kind.Tree most) l d alike h = absurd cc
+of_holds g P kind.Acyclic l d alike h = absurd cc
 
 -- ---- what labels tell
 

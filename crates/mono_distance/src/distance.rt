@@ -1,10 +1,12 @@
 //! Predicates on walks within a limit: a walk shows that one holds, labels that it fails.
 //!
 //! Both come from one search, breadth first under a number of edges, by Dijkstra's method under a weight. A walk rests on
-//! its edges. Labels rest on the absent edges along which they rise by more than the edge costs.
+//! its edges. Labels rest on the absent edges along which they rise by more than the edge costs. Of two labellings, the
+//! one counted from the first node and the one counted from the last, it is the one that rests on fewer.
 
 ghost use Rattle.std.specs.Prelude.{◌≡◌, ◌<◌, ◌≤◌, All, IfOk, IsTrue, length};
 ghost use Rattle.mono_graph.specs.Digraph.{IsPartOf};
+ghost use Rattle.mono_graph.specs.Walks.{is_labelling};
 ghost use Rattle.mono_paths.specs.Found.{HasBound};
 ghost use Rattle.mono_problem.specs.WellFormed.{IsOver};
 ghost use Rattle.mono_theory.specs.Evidences.{IsEvidence};
@@ -12,6 +14,7 @@ ghost use Rattle.mono_distance.specs.Distances.{is_distance, predicate_of, IsLab
 
 use crate::label_table::LabelTable;
 use crate::least_rows::LeastRows;
+use crate::nearest::widened_for;
 use mono_base::Row;
 use mono_base::limits::MAX_WITNESS_VALUE;
 use mono_graph::{Graph, Label, Limit, Part};
@@ -92,6 +95,47 @@ fn label_evidence(
     })
 }
 
+/// The evidence that labels are by which each walk from `from` to `to` is beyond the limit: these, or those that are
+/// counted from `to`, whichever rest on fewer edges.
+fn least_labels(
+    alloc: Global,
+    finder: &mut WalkFinder,
+    table: &mut LabelTable,
+    graph: &Graph,
+    part: &Part,
+    asked: Asked,
+    labels: Vec<Label>,
+) -> Result<Evidence, AllocError>
+    requires finder { finder.old ≡ graph.now.nodes }
+    requires table { table.old ≡ graph.now.nodes }
+    requires part { IsPartOf part.now graph.now }
+    requires from { asked.from < graph.now.nodes }
+    requires to { asked.to < graph.now.nodes }
+    requires limit { HasBound asked.limit }
+    requires labels { All (λ l. (l.node < graph.now.nodes) × (l.value ≤ MAX_WITNESS_VALUE)) labels.items }
+    requires labelling { IsTrue (is_labelling graph.now part.now asked.from asked.to asked.limit labels.items) }
+    ensures finder { finder.new ≡ finder.old }
+    ensures table { table.new ≡ table.old }
+    ensures evidence { IfOk result (IsEvidence graph.now part.now (predicate_of asked.from asked.to asked.limit)) }
+{
+    let near = label_evidence(alloc, table, graph, part, asked.limit, labels)?;
+    if near.edges.as_slice().len() < 2 {
+        return Ok(near);
+    }
+    let wide = widened_for(alloc, graph, part, asked.to, asked.limit)?;
+    match finder.find_light(graph, &wide, asked.from, asked.to, asked.limit)? {
+        PathOrLabels::Path(_) => Ok(near),
+        PathOrLabels::Labels(others) => {
+            let far = label_evidence(alloc, table, graph, &wide, asked.limit, others)?;
+            if far.edges.as_slice().len() < near.edges.as_slice().len() {
+                Ok(far)
+            } else {
+                Ok(near)
+            }
+        }
+    }
+}
+
 impl Kind for Distance {
     ghost use Rattle.std.specs.Prelude.{true};
     ghost use Rattle.mono_distance.specs.Distances.{is_distance};
@@ -103,6 +147,8 @@ impl Kind for Distance {
     const IS_THOROUGH: bool = true;
 
     ghost IS_THOROUGH = { true };
+
+    const FOLLOWS_WITNESS: bool = false;
 
     fn with_nodes(alloc: Global, count: u32) -> Result<Self, AllocError> {
         let finder = WalkFinder::new(alloc, count)?;
@@ -124,9 +170,15 @@ impl Kind for Distance {
             .find_light(graph, part, asked.from, asked.to, asked.limit)?
         {
             PathOrLabels::Path(places) => walk_evidence(alloc, graph, places),
-            PathOrLabels::Labels(labels) => {
-                label_evidence(alloc, &mut self.table, graph, part, asked.limit, labels)
-            }
+            PathOrLabels::Labels(labels) => least_labels(
+                alloc,
+                &mut self.finder,
+                &mut self.table,
+                graph,
+                part,
+                asked,
+                labels,
+            ),
         }
     }
 }

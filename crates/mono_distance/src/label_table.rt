@@ -5,13 +5,13 @@
 
 ghost use Rattle.std.specs.Prelude.{◌≡◌, ◌<◌, ◌≤◌, ◌+◌, ◌++◌, ◌+ℤ◌, ℕ, pos, length, All, IfOk, slice_index_or};
 ghost use Rattle.mono_graph.specs.Digraph.{IsPartOf, edge_at, leaving, entering};
-ghost use Rattle.mono_graph.specs.Walks.{bound_of, label_at, is_tense, cost_of as cost_by};
+ghost use Rattle.mono_graph.specs.Walks.{bound_of, label_at, is_tense};
 ghost use Rattle.mono_paths.specs.Found.{HasBound};
 ghost use Rattle.mono_theory.specs.Resting.{AreAbsent};
 ghost use Rattle.mono_distance.specs.Labels.{entry_in, label_in, rises as rises_by, absent_rising, absent_at, absent_tense as absent_tense_of, AreSmall};
 
 use mono_base::limits::{MAX_BOUND, MAX_WITNESS_VALUE};
-use mono_graph::{Edge, Graph, Label, Limit, Part};
+use mono_graph::{Graph, Label, Limit, Part};
 use std::alloc::{AllocError, Global};
 use std::marker::Model;
 
@@ -27,17 +27,6 @@ struct Labelled<'a> {
     ghost part_of_graph: { IsPartOf part.now graph.now },
     ghost sized: { length entries.now ≡ graph.now.nodes },
     ghost small: { AreSmall entries.now others },
-}
-
-/// What an edge counts towards the limit.
-fn cost_of(limit: Limit, edge: Edge) -> u64
-    ensures { result ≡ cost_by limit edge }
-{
-    match limit {
-        Limit::Free => 0,
-        Limit::Steps(_) => 1,
-        Limit::Weight(_) => edge.weight,
-    }
 }
 
 impl<'a> Labelled<'a> {
@@ -59,7 +48,9 @@ impl<'a> Labelled<'a> {
         ensures { result ≡ rises_by self.now.entries.now self.now.others self.now.limit (edge_at self.now.graph.now place) }
     {
         let edge = self.graph.edge(place);
-        self.label(edge.from) + cost_of(self.limit, edge) < self.label(edge.to)
+        let start = self.label(edge.from);
+        let end = self.label(edge.to);
+        start < end && self.limit.cost_of(edge) < end - start
     }
 
     /// Adds those of the edges that are absent and along which the labels rise.

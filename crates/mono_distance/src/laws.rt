@@ -1,6 +1,6 @@
 //! What follows from the definitions alone, of what a theory of distances knows of nodes.
 
-ghost use Rattle.std.specs.Prelude.{◌≡◌, ℕ, ℤ, true, Some};
+ghost use Rattle.std.specs.Prelude.{◌≡◌, ℕ, ℤ, true, Some, IfOk};
 ghost use Rattle.std.specs.Option.{is_some};
 ghost use Rattle.mono_graph.specs.Digraph.{IsGraph};
 ghost use Rattle.mono_problem.specs.Quiet.{under, over};
@@ -13,8 +13,12 @@ ghost use Rattle.mono_theory.specs.Theories.{atom_of};
 ghost use Rattle.mono_rows.specs.declared.either_side.EitherSide.{EitherSide};
 ghost use Rattle.mono_rows.specs.EitherSides.{IsEitherDecided, IsEitherKept};
 ghost use Rattle.mono_distance.specs.Distances.{is_distance};
-ghost use Rattle.mono_distance.specs.Readings.{labels_in, IsRightSide};
+ghost use Rattle.mono_distance.specs.Readings.{AreBothDecided, labels_in, IsRightSide};
 ghost use Rattle.mono_distance.specs.SureLabels.{SureLabels, is_within, last_node, limit_of};
+
+use crate::DistanceTheory;
+use mono_theory::{Force, Theory};
+use std::alloc::AllocError;
 
 /// Once what is kept with the surely present edges decides and no atom waits, the labels of an atom's last node decide: its
 /// predicate holds with the surely present edges exactly where `under` is there, and with the possibly present ones exactly
@@ -27,3 +31,12 @@ pub fn labels_of_last_nodes_decide()
 pub fn labels_stay_while_literals_come()
     ensures { (s r : GraphTheoryView (EitherSide SureLabels)) (lit : ℤ) (n v : ℕ) → r.atoms ≡ s.atoms → IsEitherKept (facts_in s) lit s.surely r.surely → IsKeptBy s.graph true lit s.possibly r.possibly → labels_in r n v ≡ labels_in s n v }
 {}
+
+/// Asks what is forced. Where the answer is Quiet, what is kept decides each predicate, with the surely present edges and with
+/// the possibly present ones.
+pub fn quiet_decides(theory: &mut DistanceTheory) -> Result<Force, AllocError>
+    ensures { IfOk result (λ answer. answer ≡ Force.Quiet → AreBothDecided theory.new) }
+{
+    let answer = theory.force()?;
+    Ok(answer)
+}

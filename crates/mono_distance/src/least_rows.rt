@@ -180,7 +180,7 @@ impl Rows<Distance> for LeastRows {
         self.rows.undo_to(kept as u32);
     }
 
-    fn holds(&self, frame: &Frame, looked: usize, place: usize) -> bool {
+    fn shows(&self, frame: &Frame, looked: usize, place: usize) -> bool {
         let _ = (frame.seen(), looked);
         let atom = frame.atom_at(place);
         let asked = what_is_asked(atom.predicate);

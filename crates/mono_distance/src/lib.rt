@@ -9,10 +9,14 @@ mod label_table;
 mod least_rows;
 /// What follows from the definitions alone.
 pub mod laws;
+/// Labels counted from a walk's last node.
+mod nearest;
 /// What a theory knows of a node.
 mod node_labels;
 /// The rows of labels for which atoms ask.
 mod sources;
+/// Rows of what is told of labels, worked by hand.
+pub mod worked;
 
 pub use distance::{Distance, DistanceTheory};
 pub use least_rows::{LeastRows, MAX_LABELS};

@@ -7,7 +7,7 @@ ghost use Rattle.mono_graph.specs.declared.limit.Limit.{Limit};
 ghost use Rattle.mono_dynamic.specs.Costs.{change_at, cost_along, label_by, label_of, labels_after, node_by, unwound, made_by, made_after, AreLeastAlong, AreLinked, IsGiven, IsLast, IsLed};
 
 use crate::change::Change;
-use mono_base::limits::{MAX_BOUND, MAX_WEIGHT};
+use mono_base::limits::MAX_BOUND;
 use mono_graph::{Edge, Limit};
 use std::alloc::{AllocError, Global};
 use std::marker::Model;
@@ -124,15 +124,9 @@ impl CostTable {
 
     /// What an edge counts.
     pub fn cost_of(&self, edge: Edge) -> u64
-        requires { edge.weight ≤ MAX_WEIGHT }
-        ensures cost { result ≡ cost_by self.now.limit edge }
-        ensures most { result ≤ MAX_WEIGHT }
+        ensures { result ≡ cost_by self.now.limit edge }
     {
-        match self.limit {
-            Limit::Free => 0,
-            Limit::Steps(_) => 1,
-            Limit::Weight(_) => edge.weight,
-        }
+        self.limit.cost_of(edge)
     }
 
     /// Which change gave a node its label, counted from 1; 0 if none did.

@@ -1,4 +1,7 @@
 //! Labels that are lowered along edges until each is tight (Dijkstra's method, from the edges that are new).
+//!
+//! An edge may weigh more than any label, so its weight is compared with what is left below the old label before it is
+//! added.
 
 ghost use Rattle.std.specs.Prelude.{◌≡◌, ◌+◌, ◌<◌, ◌≤◌, ◌∷◌, [], ℕ, List, All, IfOk, length};
 ghost use Rattle.std.specs.BinaryHeap.{heap_items, heap_len};
@@ -33,9 +36,10 @@ fn relax(
         return Ok(());
     }
     let edge = graph.edge(place);
-    let label = table.label(edge.from) + table.cost_of(edge);
+    let start = table.label(edge.from);
     let old = table.label(edge.to);
-    if label >= old {
+    let cost = table.cost_of(edge);
+    if old <= start || old - start <= cost {
         return Ok(());
     }
     let change = Change {
@@ -44,7 +48,7 @@ fn relax(
         before: table.last(edge.from),
         previous: table.last(edge.to),
         old,
-        label,
+        label: start + cost,
         stamp,
     };
     table.lower(change)?;

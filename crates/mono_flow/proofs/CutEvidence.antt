@@ -1,15 +1,15 @@
 -- A set of nodes shows that a predicate on flows fails, also where it rests on some of the absent edges that leave it alone.
-use Rattle.std.proofs.Common.{◌≡◌, ℕ, ◌+◌, ◌<◌, ◌≤◌, Bool, true, false, not, ◌&&◌, ◌⊎◌, List, [], ◌∷◌, length, filter, sum_by, refl, sym, ap, subst, ◌∙◌, inl, inr, arith, ℤ, pos, int_lt}
-use Rattle.std.specs.Prelude.{IsTrue, All, if◌then◌else◌, ◌==◌}
-use Rattle.std.proofs.lemmas.Bool.{and_parts, and_from, both_ways, cases_Bool, cases_eq, eq-eqb, ne_eqb, not-true, not_from_false, false_from_ne_true}
+use Rattle.std.proofs.Common.{◌≡◌, ℕ, ◌+◌, ◌<◌, ◌≤◌, Bool, true, false, not, ◌&&◌, ◌⊎◌, List, [], ◌∷◌, length, filter, sum_by, refl, sym, subst, inl, inr, arith, ℤ, pos, int_lt}
+use Rattle.std.specs.Prelude.{IsTrue, All, if◌then◌else◌}
+use Rattle.std.proofs.lemmas.Bool.{and_parts, and_from, both_ways, cases_Bool, not-true, not_from_false, false_from_ne_true}
 use Rattle.std.proofs.lemmas.Int.{ints}
 use Rattle.std.proofs.lemmas.List.FromFn.{length-map-range_with_len}
-use Rattle.std.proofs.lemmas.List.Sums.{sum_by-cons}
-use Rattle.mono_graph.specs.Digraph.{Digraph, edge_at, has, is_distinct, leads_out, places, present, present_by, weight_of}
+use Rattle.mono_graph.specs.Digraph.{Digraph, edge_at, has, leads_out, places, present, present_by, weight_of}
 use Rattle.mono_graph.specs.Flows.{is_flow_cut}
 use Rattle.mono_graph.proofs.FlowLaws.{total, total_is}
-use Rattle.mono_graph.proofs.Membership.{filter_has, has_cons, has_filter, has_here, has_there, range_has}
+use Rattle.mono_graph.proofs.Membership.{filter_has, has_filter, range_has}
 use Rattle.mono_graph.proofs.Places.{present_below}
+use Rattle.mono_graph.proofs.WeightSums.{sum_within}
 use Rattle.mono_flows.proofs.Results.{range_distinct}
 use Rattle.mono_problem.specs.declared.atom.Predicate.TheVariants as kind
 use Rattle.mono_steps.specs.declared.lemma.Witness.{Witness}
@@ -22,45 +22,6 @@ use Rattle.mono_theory.proofs.Pigeons.{all_has}
 use Rattle.mono_theory.proofs.RestingLaws.{leaving_are_absent}
 use Rattle.mono_theory.proofs.WalkedLaws.{all_by, nodes-known}
 use Rattle.mono_flow.specs.Flowing.{AreNeeded, IsCutEvidence}
-
--- ---- a sum over different numbers is at most one over a list that has them all
-
--- a list without the first number that is v
-abbrev without : ℕ → List ℕ → List ℕ
-without v [] = []
-without v (e ∷ es) = if e == v then es else e ∷ without v es
-
-sum-without : (f : ℕ → ℕ) (v : ℕ) (es : List ℕ) → IsTrue (has es v) → sum_by f es ≡ f v + sum_by f (without v es)
-sum-without f v [] h = absurd cc
-sum-without f v (e ∷ es) h = elim (cases_eq e v) [
-  | inl same ↦ rw (eq-eqb e v same) (sum_by-cons f e es ∙ ap (λ (u : ℕ). f u + sum_by f es) same)
-  | inr ne ↦ rw (ne_eqb e v ne) (
-      let there : IsTrue (has es v) = elim (has_cons e v es h) [ inl same ↦ absurd (ne same) | inr t ↦ t ] in
-      let later = sum-without f v es there in
-      let first = sum_by-cons f e es in
-      let second = sum_by-cons f e (without v es) in
-      omega (arith, later, first, second))
-]
-
-has-without : (v w : ℕ) (es : List ℕ) → (w ≡ v → ⊥) → IsTrue (has es w) → IsTrue (has (without v es) w)
-has-without v w [] ne h = h
-has-without v w (e ∷ es) ne h = elim (cases_eq e v) [
-  | inl same ↦ rw (eq-eqb e v same) (elim (has_cons e w es h) [ inl is ↦ absurd (ne (sym is ∙ same)) | inr t ↦ t ])
-  | inr other ↦ rw (ne_eqb e v other) (elim (has_cons e w es h) [
-    | inl is ↦ subst (λ (u : ℕ). IsTrue (has (e ∷ without v es) u)) is (has_here e (without v es))
-    | inr t ↦ has_there e w (without v es) (has-without v w es ne t)
-  ])
-]
-
-sum_within : (f : ℕ → ℕ) (ns es : List ℕ) → IsTrue (is_distinct ns) → ((v : ℕ) → IsTrue (has ns v) → IsTrue (has es v)) → sum_by f ns ≤ sum_by f es
-sum_within f [] es d h = omega arith
-sum_within f (n ∷ ns) es d h =
-    let parts = and_parts (not (has ns n)) (is_distinct ns) d in
-    let rest : sum_by f ns ≤ sum_by f (without n es) = sum_within f ns (without n es) parts.1 (λ w m.
-    has-without n w es (λ e. both_ways (has ns n) (not-true (has ns n) parts.0) (subst (λ (u : ℕ). IsTrue (has ns u)) e m)) (h w (has_there n w ns m))) in
-    let all = sum-without f n es (h n (has_here n ns)) in
-    let first = sum_by-cons f n ns in
-    omega (arith, rest, all, first)
 
 -- ---- what leaves the set where all edges come that aren't named
 

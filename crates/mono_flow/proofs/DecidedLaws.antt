@@ -8,7 +8,6 @@ use Rattle.mono_graph.specs.Flows.{amount_at, inflow, is_flow, outflow, value_of
 use Rattle.mono_flows.proofs.OneEdge.{same_inflow, same_outflow}
 use Rattle.mono_problem.specs.declared.atom.Predicate.{Predicate}
 use Rattle.mono_problem.specs.declared.atom.Predicate.TheVariants as kind
-use Rattle.mono_problem.specs.Holds.{Holds}
 use Rattle.mono_problem.specs.WellFormed.{IsOver}
 use Rattle.mono_steps.specs.declared.lemma.Witness.{Witness}
 use Rattle.mono_steps.specs.declared.lemma.Witness.TheVariants as by
@@ -17,6 +16,7 @@ use Rattle.mono_theory.specs.declared.evidence.Evidence.{Evidence}
 use Rattle.mono_theory.specs.declared.stage.Stage.{Stage}
 use Rattle.mono_theory.specs.declared.stage.Stage.TheVariants as stage
 use Rattle.mono_theory.specs.Frames.{AreAtomsOf}
+use Rattle.mono_theory.specs.Evidences.{Decides, shown_by}
 use Rattle.mono_theory.specs.Sound.{IsRightIn, IsSound, IsWitnessIn, atom_at, evidence_at}
 use Rattle.mono_theory.specs.Stages.{NoneWaits, stage_at}
 use Rattle.mono_theory.specs.Supports.{IsSideFor, SideView, StageIs, part_of}
@@ -32,11 +32,12 @@ use Rattle.mono_flow.proofs.Numbered.{placed_amount}
 -- ---- by one witness
 
 -- nothing carries less than a bound that no flow reaches
-nothing_decides : (g : Digraph) (P : List Bool) (q : Predicate) → ¬ Holds g P q → IsDecidedBy g P q (carried_at g [])
+nothing_decides : (g : Digraph) (P : List Bool) (q : Predicate) → Decides g P q (shown_by q false) → IsDecidedBy g P q (carried_at g [])
 nothing_decides g P (kind.Reach u v) fails = tt
 nothing_decides g P (kind.Steps u v most) fails = tt
 nothing_decides g P (kind.Distance u v most) fails = tt
 nothing_decides g P (kind.Tree most) fails = tt
+nothing_decides g P kind.Acyclic fails = tt
 nothing_decides g P (kind.Flow s t least) fails =
     (λ holds. absurd (fails holds), λ enough. absurd (fails (carried_at g [], and_from (is_flow g P s t (carried_at g [])) (int_le least (value_of g s (carried_at g []))) (no_flow g P s t) enough)))
 
@@ -49,6 +50,7 @@ witness_decides g P (kind.Reach u v) w ok h = tt
 witness_decides g P (kind.Steps u v most) w ok h = tt
 witness_decides g P (kind.Distance u v most) w ok h = tt
 witness_decides g P (kind.Tree most) w ok h = tt
+witness_decides g P kind.Acyclic w ok h = tt
 witness_decides g P (kind.Flow s t least) (by.Flow ms) ok h =
     let parts : IsFlowOf g P s t least (placed_amounts g ms) = flow_parts (placed_amounts g ms) h.passes in
     let enough : IsTrue (int_le least (value_of g s (carried_at g ms))) =
@@ -56,11 +58,13 @@ witness_decides g P (kind.Flow s t least) (by.Flow ms) ok h =
     (λ holds. enough, λ yes. (carried_at g ms, and_from (is_flow g P s t (carried_at g ms)) (int_le least (value_of g s (carried_at g ms))) (witness_flows g P (kind.Flow s t least) (by.Flow ms) ok h) enough))
 witness_decides g P (kind.Flow s t least) (by.Path es) ok h = let p = h.passes in absurd cc
 witness_decides g P (kind.Flow s t least) (by.Tree es) ok h = let p = h.passes in absurd cc
-witness_decides g P (kind.Flow s t least) (by.Cut us) ok h = let p = h.sign in absurd cc
-witness_decides g P (kind.Flow s t least) (by.Label ls) ok h = let p = h.sign in absurd cc
-witness_decides g P (kind.Flow s t least) (by.FlowCut us) ok h = let p = h.sign in absurd cc
-witness_decides g P (kind.Flow s t least) (by.Split us) ok h = let p = h.sign in absurd cc
-witness_decides g P (kind.Flow s t least) (by.Least es) ok h = let p = h.sign in absurd cc
+witness_decides g P (kind.Flow s t least) (by.Cut us) ok h = let p = h.rests in absurd cc
+witness_decides g P (kind.Flow s t least) (by.Label ls) ok h = let p = h.rests in absurd cc
+witness_decides g P (kind.Flow s t least) (by.FlowCut us) ok h = let p = h.rests in absurd cc
+witness_decides g P (kind.Flow s t least) (by.Split us) ok h = let p = h.rests in absurd cc
+witness_decides g P (kind.Flow s t least) (by.Least es) ok h = let p = h.rests in absurd cc
+witness_decides g P (kind.Flow s t least) (by.Cycle es) ok h = let p = h.passes in absurd cc
+witness_decides g P (kind.Flow s t least) (by.Order us) ok h = let p = h.rests in absurd cc
 
 -- ---- by kept evidence
 

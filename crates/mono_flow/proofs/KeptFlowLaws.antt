@@ -55,6 +55,7 @@ nothing_flows g P (kind.Steps u v most) = tt
 nothing_flows g P (kind.Distance u v most) = tt
 nothing_flows g P (kind.Flow s t least) = no_flow g P s t
 nothing_flows g P (kind.Tree most) = tt
+nothing_flows g P kind.Acyclic = tt
 
 -- a flow that passes is one
 pub witness_flows : (g : Digraph) (P : List Bool) (q : Predicate) (w : Witness) → IsGraph g → IsWitnessIn g P q true w → IsFlowFor g P q (carried_at g (amounts_in w))
@@ -62,6 +63,7 @@ witness_flows g P (kind.Reach u v) w ok h = tt
 witness_flows g P (kind.Steps u v most) w ok h = tt
 witness_flows g P (kind.Distance u v most) w ok h = tt
 witness_flows g P (kind.Tree most) w ok h = tt
+witness_flows g P kind.Acyclic w ok h = tt
 witness_flows g P (kind.Flow s t least) (by.Flow ms) ok h =
     let parts : IsFlowOf g P s t least (placed_amounts g ms) = flow_parts (placed_amounts g ms) h.passes in
     same_flow g P s t (amount_at (placed_amounts g ms)) (carried_at g ms) (λ k lt. placed_amount g ms k ok lt)
@@ -73,6 +75,8 @@ witness_flows g P (kind.Flow s t least) (by.FlowCut us) ok h = no_flow g P s t
 witness_flows g P (kind.Flow s t least) (by.Tree es) ok h = no_flow g P s t
 witness_flows g P (kind.Flow s t least) (by.Split us) ok h = no_flow g P s t
 witness_flows g P (kind.Flow s t least) (by.Least es) ok h = no_flow g P s t
+witness_flows g P (kind.Flow s t least) (by.Cycle es) ok h = no_flow g P s t
+witness_flows g P (kind.Flow s t least) (by.Order us) ok h = no_flow g P s t
 
 -- ---- what is read
 

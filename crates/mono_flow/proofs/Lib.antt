@@ -6,3 +6,4 @@ pub mod DistinctEdges
 pub mod KeptFlowLaws
 pub mod DecidedLaws
 pub mod StayingLaws
+pub mod WorkedRows

@@ -8,7 +8,7 @@ use Rattle.mono_problem.specs.declared.atom.Predicate.TheVariants as kind
 use Rattle.mono_problem.specs.Read.{no_atom}
 use Rattle.mono_steps.specs.declared.lemma.Witness.{Witness}
 use Rattle.mono_steps.specs.declared.lemma.Witness.TheVariants as by
-use Rattle.mono_steps.specs.Witnesses.{is_positive, passes}
+use Rattle.mono_steps.specs.Witnesses.{rests_on_present, passes}
 use Rattle.mono_theory.specs.declared.evidence.Evidence.{Evidence}
 use Rattle.mono_theory.specs.declared.stage.Stage.{Stage}
 use Rattle.mono_theory.specs.declared.stage.Stage.TheVariants as stage
@@ -37,11 +37,12 @@ under_stays g l s r h a =
     ]
 
 -- a flow that holds gives something to each edge on which it rests
-flow_carries : (g : Digraph) (P : List Bool) (q : Predicate) (w : Witness) (k : ℕ) → IsTrue (is_flow_predicate q) → is_positive w ≡ true → IsTrue (passes g P q w) → IsTrue (uses g w k) → 0 < carried_at g (amounts_in w) k
+flow_carries : (g : Digraph) (P : List Bool) (q : Predicate) (w : Witness) (k : ℕ) → IsTrue (is_flow_predicate q) → rests_on_present w ≡ true → IsTrue (passes g P q w) → IsTrue (uses g w k) → 0 < carried_at g (amounts_in w) k
 flow_carries g P (kind.Reach u v) w k is sign h used = absurd cc
 flow_carries g P (kind.Steps u v most) w k is sign h used = absurd cc
 flow_carries g P (kind.Distance u v most) w k is sign h used = absurd cc
 flow_carries g P (kind.Tree most) w k is sign h used = absurd cc
+flow_carries g P kind.Acyclic w k is sign h used = absurd cc
 flow_carries g P (kind.Flow s t least) (by.Flow ms) k is sign h used = ltb-true 0 (carried_at g ms k) used
 flow_carries g P (kind.Flow s t least) (by.Path es) k is sign h used = absurd cc
 flow_carries g P (kind.Flow s t least) (by.Tree es) k is sign h used = absurd cc
@@ -50,10 +51,12 @@ flow_carries g P (kind.Flow s t least) (by.Label ls) k is sign h used = absurd c
 flow_carries g P (kind.Flow s t least) (by.FlowCut us) k is sign h used = absurd cc
 flow_carries g P (kind.Flow s t least) (by.Split us) k is sign h used = absurd cc
 flow_carries g P (kind.Flow s t least) (by.Least es) k is sign h used = absurd cc
+flow_carries g P (kind.Flow s t least) (by.Cycle es) k is sign h used = absurd cc
+flow_carries g P (kind.Flow s t least) (by.Order us) k is sign h used = absurd cc
 
 support_carries : (g : Digraph) (q : Predicate) (o : Option Evidence) (k : ℕ) → IsTrue (is_flow_predicate q) → IfSome o (IsSound g q true) → RestsOn o k → 0 < carried_at g (supporting stage.Stands o) k
 support_carries g q None k is sound rests = absurd rests
-support_carries g q (Some e) k is sound rests = flow_carries g (only g e.edges) q e.witness k is sound.sign sound.passes (all_has (λ j. IsTrue (uses g e.witness j)) e.edges k sound.used rests)
+support_carries g q (Some e) k is sound rests = flow_carries g (only g e.edges) q e.witness k is sound.rests sound.passes (all_has (λ j. IsTrue (uses g e.witness j)) e.edges k sound.used rests)
 
 pub over_stays : (f : Facts) (l : ℤ) (s r : SideView) → AreCovered is_flow_predicate f.atoms → IsSide f true s → IsKeptBy f.graph true l s r → (a : ℕ) → a < length f.atoms → (over_flow r a ≡ over_flow s a) ⊎ LosesFlow f.graph l s a
 over_stays f l s r covered side h a lt = elim (h.each a) [

@@ -1,2 +1,3 @@
 pub mod Flowing
 pub mod KeptFlows
+pub mod Worked

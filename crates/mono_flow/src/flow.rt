@@ -5,7 +5,7 @@
 //! together weigh less than is asked for, they may come.
 
 ghost use Rattle.std.specs.Prelude.{◌≡◌, ◌<◌, ◌+◌, All, IfOk, IsTrue, int_lt, length, pos};
-ghost use Rattle.mono_flows.specs.Answers.{HasValue, IsKnown, IsSmall, Passes};
+ghost use Rattle.mono_flows.specs.Answers.{HasValue, IsDistinct, IsKnown, IsSmall, Passes};
 ghost use Rattle.mono_graph.specs.Digraph.{IsPartOf, is_distinct};
 ghost use Rattle.mono_problem.specs.WellFormed.{IsOver};
 ghost use Rattle.mono_theory.specs.Evidences.{IsEvidence};
@@ -82,12 +82,13 @@ fn flow_evidence(alloc: Global, graph: &Graph, amounts: &[Amount]) -> Result<Evi
     })
 }
 
-/// Those of the edges that have to stay absent, where the others may weigh `spare` in sum. Where no edge is listed twice,
-/// none of them could come as well.
+/// Those of the edges that have to stay absent, where the others may weigh `spare` in sum. None of them could come as
+/// well. No edge is listed twice.
 fn needed(alloc: Global, graph: &Graph, absent: &[u32], spare: u64) -> Result<Vec<u32>, AllocError>
-    requires { All (λ k. k < length graph.now.edges) absent.now }
+    requires known { All (λ k. k < length graph.now.edges) absent.now }
+    requires distinct { IsTrue (is_distinct absent.now) }
     ensures others { IfOk result (λ named. AreNeeded graph.now spare absent.now named.items) }
-    ensures each { IfOk result (λ named. IsTrue (is_distinct absent.now) → EachIsNeeded graph.now spare absent.now named.items) }
+    ensures each { IfOk result (λ named. EachIsNeeded graph.now spare absent.now named.items) }
 {
     let mut left = spare;
     let mut named = Vec::new(alloc);
@@ -103,7 +104,7 @@ fn needed(alloc: Global, graph: &Graph, absent: &[u32], spare: u64) -> Result<Ve
 }
 
 /// The evidence that a set of nodes is, where absent edges that weigh `spare` in sum may come. It rests on the other
-/// absent edges that leave it, none of which could come as well where no node is listed twice.
+/// absent edges that leave it, none of which could come as well. No node is listed twice.
 fn cut_evidence(
     alloc: Global,
     marks: &mut NodeMarks,
@@ -115,9 +116,10 @@ fn cut_evidence(
     requires size { marks.old ≡ graph.now.nodes }
     requires part { IsPartOf part.now graph.now }
     requires nodes { All (λ u. u < graph.now.nodes) nodes.items }
+    requires distinct { IsTrue (is_distinct nodes.items) }
     ensures size { marks.new ≡ marks.old }
     ensures evidence { IfOk result (IsCutEvidence graph.now part.now spare nodes.items) }
-    ensures each { IfOk result (λ e. IsTrue (is_distinct nodes.items) → EachIsNeeded graph.now spare (absent_out graph.now part.now nodes.items) e.edges) }
+    ensures each { IfOk result (λ e. EachIsNeeded graph.now spare (absent_out graph.now part.now nodes.items) e.edges) }
 {
     let absent = marks.absent_leaving(alloc, graph, part, nodes.as_slice())?;
     let edges = needed(alloc, graph, absent.as_slice(), spare)?;
@@ -154,6 +156,7 @@ impl Flow {
         ensures passes { IfOk result (λ found. Passes graph.now part.now source sink least found.answer) }
         ensures known { IfOk result (λ found. IsKnown graph.now found.answer) }
         ensures small { IfOk result (λ found. IsSmall found.answer) }
+        ensures distinct { IfOk result (λ found. IsDistinct found.answer) }
         ensures value { IfOk result (λ found. HasValue graph.now part.now source found.value found.answer) }
     {
         let mut flow = self.kept.take(alloc, graph, part, source, sink);
@@ -205,6 +208,8 @@ impl Kind for Flow {
     const IS_THOROUGH: bool = true;
 
     ghost IS_THOROUGH = { true };
+
+    const FOLLOWS_WITNESS: bool = true;
 
     fn with_nodes(alloc: Global, count: u32) -> Result<Self, AllocError> {
         let finder = FlowFinder::new(alloc, count)?;

@@ -1,6 +1,6 @@
 //! What follows for the flows that a theory keeps from what its calls say of the evidence of its atoms.
 
-ghost use Rattle.std.specs.Prelude.{◌≡◌, ◌<◌, ◌⊎◌, ℕ, ℤ, true, false, length};
+ghost use Rattle.std.specs.Prelude.{◌≡◌, ◌<◌, ◌⊎◌, ℕ, ℤ, true, false, length, IfOk};
 ghost use Rattle.mono_graph.specs.Digraph.{Digraph, IsGraph};
 ghost use Rattle.mono_problem.specs.Quiet.{under, over};
 ghost use Rattle.mono_theory.specs.Frames.{AreAtomsOf};
@@ -8,7 +8,11 @@ ghost use Rattle.mono_theory.specs.Stages.{NoneWaits};
 ghost use Rattle.mono_theory.specs.Supports.{AreCovered, IsKeptBy, IsSide, IsSideFor, SideView, atom_at, gone_back};
 ghost use Rattle.mono_theory.specs.Theories.{Facts};
 ghost use Rattle.mono_flow.specs.Flowing.{is_flow_predicate};
-ghost use Rattle.mono_flow.specs.KeptFlows.{IsDecidedBy, LosesFlow, carried_at, over_flow, under_flow};
+ghost use Rattle.mono_flow.specs.KeptFlows.{AreBothDecided, IsDecidedBy, LosesFlow, carried_at, over_flow, under_flow};
+
+use crate::FlowTheory;
+use mono_theory::{Force, Theory};
+use std::alloc::AllocError;
 
 /// Where no atom waits, as after a question that was answered by Quiet, each atom's predicate holds with the surely present
 /// edges exactly where the value of its flow along them is at least the bound, and so with the possibly present ones.
@@ -25,3 +29,12 @@ pub fn kept_flows_stay()
     ensures assign_over { (f : Facts) (l : ℤ) (s r : SideView) → AreCovered is_flow_predicate f.atoms → IsSide f true s → IsKeptBy f.graph true l s r → (a : ℕ) → a < length f.atoms → (over_flow r a ≡ over_flow s a) ⊎ LosesFlow f.graph l s a }
     ensures undo_over { (kept : ℕ) (s : SideView) (a : ℕ) → over_flow (gone_back kept s) a ≡ over_flow s a }
 {}
+
+/// Asks what is forced. Where the answer is Quiet, what is kept decides each predicate, with the surely present edges and with
+/// the possibly present ones.
+pub fn quiet_decides(theory: &mut FlowTheory) -> Result<Force, AllocError>
+    ensures { IfOk result (λ answer. answer ≡ Force.Quiet → AreBothDecided theory.new) }
+{
+    let answer = theory.force()?;
+    Ok(answer)
+}

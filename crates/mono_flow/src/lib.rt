@@ -9,6 +9,8 @@ mod flows;
 mod kept_flows;
 /// What follows for kept flows.
 pub mod laws;
+/// Rows of what is told of flows, worked by hand.
+pub mod worked;
 
 pub use flow::{Flow, FlowTheory};
 pub use flows::{Flows, HasFlows};

@@ -1,14 +1,16 @@
 -- The weight of the edges that leave a set, node by node.
 use Rattle.std.proofs.Common.{◌≡◌, ℕ, ◌+◌, ◌*◌, ◌<◌, ◌≤◌, ◌⊎◌, Bool, true, false, not, ◌&&◌, ◌==◌, ◌++◌, List, [], ◌∷◌, length, get_or, set, take, filter, sum_by, refl, sym, ap, subst, ◌∙◌, inl, inr, arith, ℤ, pos, int_lt}
-use Rattle.std.specs.Prelude.{IsTrue, if◌then◌else◌}
+use Rattle.std.specs.Prelude.{IsTrue, count_by, if◌then◌else◌}
 use Rattle.std.proofs.lemmas.Bool.{and_from, not_from_false, cases_eq, eq-eqb, ne_eqb}
 use Rattle.std.proofs.lemmas.List.{take_more, length-set}
+use Rattle.std.proofs.lemmas.List.Sums.{count_by-le-length}
 use Rattle.mono_base.specs.declared.limits.TheConstants.{MAX_EDGES, MAX_WEIGHT}
 use Rattle.mono_graph.specs.Digraph.{Digraph, present, present_by, places, edge_at, has, leads_out, leaving, weight_of}
 use Rattle.mono_graph.specs.Flows.{is_flow_cut}
 use Rattle.mono_graph.proofs.FlowLaws.{total, total_is}
 use Rattle.mono_flows.specs.Cuts.{weight_out}
 use Rattle.mono_graph.proofs.Prefixes.{has_new, has_other, has_again, marked_more}
+use Rattle.mono_flows.proofs.ListedSums.{fewer}
 
 same_test : (f : ℕ → ℕ) (p q : ℕ → Bool) (ks : List ℕ) → ((k : ℕ) → p k ≡ q k) → total f p ks ≡ total f q ks
 same_test f p q [] h = refl
@@ -78,15 +80,20 @@ cut_weight g P inside s m =
 
 -- ---- node by node
 
--- the weight that leaves the first nodes of the list, which are those that are counted
+-- the weight that leaves the first nodes of the list, which are those that are counted. It leaves room for the others
 pub record Weighed (g : Digraph) (P inside counted : List Bool) (nodes : List ℕ) (i weight : ℕ) : Type 0 where
   pub exact : weight ≡ weight_from g P inside (take i nodes)
-  pub bound : weight ≤ i * (MAX_EDGES * MAX_WEIGHT)
+  pub bound : weight + count_by (λ b. not b) counted * (MAX_EDGES * MAX_WEIGHT) ≤ g.nodes * (MAX_EDGES * MAX_WEIGHT)
   pub len : length counted ≡ g.nodes
   pub marked : (u : ℕ) → get_or counted u false ≡ has (take i nodes) u
 
 pub weighed_none : (g : Digraph) (P inside counted : List Bool) (nodes : List ℕ) → length counted ≡ g.nodes → ((u : ℕ) → get_or counted u false ≡ false) → Weighed g P inside counted nodes 0 0
-weighed_none g P inside counted nodes len clear = record { exact = sym (weight_none g P inside); bound = omega arith; len = len; marked = λ u. clear u }
+weighed_none g P inside counted nodes len clear = record {
+  exact = sym (weight_none g P inside);
+  bound = omega (arith, len, count_by-le-length (λ (b : Bool). not b) counted);
+  len = len;
+  marked = λ u. clear u;
+}
 
 pub weighed_new : (g : Digraph) (P inside counted : List Bool) (nodes : List ℕ) (i weight more u : ℕ) → i < length nodes → u ≡ get_or nodes i 0 → u < g.nodes → get_or counted u false ≡ false
     → more ≡ sum_by (weight_out g P inside) (leaving g u) → more ≤ MAX_EDGES * MAX_WEIGHT → Weighed g P inside counted nodes i weight → Weighed g P inside (set counted u true) nodes (i + 1) (weight + more)
@@ -96,7 +103,7 @@ weighed_new g P inside counted nodes i weight more u lt is within new more-is sm
     record {
       exact = ap (λ (m : ℕ). m + more) w.exact ∙ (ap (λ (m : ℕ). weight_from g P inside (take i nodes) + m) more-is
           ∙ (sym (weight_new g P inside (take i nodes) u (sym (w.marked u) ∙ new)) ∙ sym (ap (λ (s : List ℕ). weight_from g P inside s) next)));
-      bound = let b = w.bound in omega arith;
+      bound = let b = w.bound in omega (arith, b, small, fewer counted u room new);
       len = length-set counted u true ∙ w.len;
       marked = λ v. marked_more counted (take i nodes) u room w.marked v ∙ sym (ap (λ (s : List ℕ). has s v) next);
     }
@@ -108,7 +115,7 @@ weighed_again g P inside counted nodes i weight u lt is old w =
     let there : IsTrue (has (take i nodes) u) = sym (w.marked u) ∙ old in
     record {
       exact = w.exact ∙ (sym (weight_again g P inside (take i nodes) u there) ∙ sym (ap (λ (s : List ℕ). weight_from g P inside s) next));
-      bound = let b = w.bound in omega arith;
+      bound = w.bound;
       len = w.len;
       marked = λ v. w.marked v ∙ (sym (has_again (take i nodes) u v there) ∙ sym (ap (λ (s : List ℕ). has s v) next));
     }

@@ -1,7 +1,7 @@
 -- What a search for a flow finds.
 use Rattle.std.specs.Prelude.{◌≡◌, ℕ, ℤ, pos, ◌<◌, ◌≤◌, Bool, true, false, List, All, IsTrue, length}
 use Rattle.mono_base.specs.declared.limits.TheConstants.{MAX_WITNESS_VALUE}
-use Rattle.mono_graph.specs.Digraph.{Digraph, leads_out, present_by, weight_of}
+use Rattle.mono_graph.specs.Digraph.{Digraph, is_distinct, leads_out, present_by, weight_of}
 use Rattle.mono_graph.specs.declared.amount.Amount.{Amount}
 use Rattle.mono_graph.specs.Flows.{amount_at, is_flow_of, is_flow_cut, value_of}
 use Rattle.mono_flows.specs.declared.found.FlowOrCut.{FlowOrCut}
@@ -26,6 +26,16 @@ IsKnown g (found.Cut set) = All (λ u. u < g.nodes) set.items
 abbrev pub IsSmall : FlowOrCut → Type 0
 IsSmall (found.Flow amounts) = All (λ a. a.amount ≤ MAX_WITNESS_VALUE) amounts.items
 IsSmall (found.Cut set) = Unit
+
+-- a cut lists each node once; that a flow lists each edge once is a part of its test
+abbrev pub IsDistinct : FlowOrCut → Type 0
+IsDistinct (found.Flow amounts) = Unit
+IsDistinct (found.Cut set) = IsTrue (is_distinct set.items)
+
+-- a flow has exactly this value
+abbrev pub IsExact : Digraph → ℕ → ℤ → FlowOrCut → Type 0
+IsExact g s least (found.Flow amounts) = value_of g s (amount_at amounts.items) ≡ least
+IsExact g s least (found.Cut set) = Unit
 
 -- the flow has this value, or the present edges that leave the cut weigh it
 abbrev pub HasValue : Digraph → List Bool → ℕ → ℕ → FlowOrCut → Type 0

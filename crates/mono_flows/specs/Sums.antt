@@ -1,5 +1,5 @@
 -- What leaves and enters each node.
-use Rattle.std.specs.Prelude.{◌≡◌, ◌⊎◌, ℕ, List, length, slice_index_or}
+use Rattle.std.specs.Prelude.{◌≡◌, ◌⊎◌, ◌<◌, ◌^◌, ℕ, List, length, slice_index_or}
 use Rattle.mono_graph.specs.declared.amount.Amount.{Amount}
 use Rattle.mono_graph.specs.Digraph.{Digraph}
 use Rattle.mono_flows.specs.declared.node_sums.NodeSums.{NodeSums}
@@ -13,6 +13,11 @@ pub record AreSums (nodes : ℕ) (x : NodeSums) : Type 0 where
 pub record AreZero (x : NodeSums) : Type 0 where
   pub leaving : (u : ℕ) → slice_index_or x.leaving.items u 0 ≡ 0
   pub entering : (u : ℕ) → slice_index_or x.entering.items u 0 ≡ 0
+
+-- 128 bits hold the difference of two
+pub record AreSmall (x : NodeSums) : Type 0 where
+  pub leaving : (u : ℕ) → slice_index_or x.leaving.items u 0 < 2 ^ 120
+  pub entering : (u : ℕ) → slice_index_or x.entering.items u 0 < 2 ^ 120
 
 -- they are what the listed amounts make leave and enter
 pub record AreSumsOf (g : Digraph) (amounts : List Amount) (x : NodeSums) : Type 0 where

@@ -1,8 +1,8 @@
 //! The weight of the present edges that leave a set of nodes.
 //!
 //! Each function goes over the set and the edges at its nodes, and not over the graph. A node may be listed again, so
-//! the nodes that were counted are marked too. Weights are below 2^32 and a graph has at most 10^6 edges, so 64 bits
-//! hold what leaves one node; the sum over a list has 128 bits, since nothing bounds the list's length.
+//! the nodes that were counted are marked too. Weights are below 2^64 and a graph has at most 10^6 edges, so a sum needs
+//! more than 64 bits, and 128 hold it.
 
 ghost use Rattle.std.specs.Prelude.{◌≡◌, ◌<◌, ◌≤◌, ◌*◌, ◌^◌, ℕ, pos, false, All, IsTrue, length, slice_index_or, sum_by, filter, int_lt};
 ghost use Rattle.mono_graph.specs.Digraph.{has, leaving, places, edge_at};
@@ -13,7 +13,7 @@ use crate::network::Network;
 use mono_base::limits::{MAX_EDGES, MAX_WEIGHT};
 
 /// What the present edges weigh that lead from the node to one outside.
-fn weight_leaving(network: &Network, inside: &[bool], node: u32) -> u64
+fn weight_leaving(network: &Network, inside: &[bool], node: u32) -> u128
     requires inside { length inside.now ≡ network.now.graph.now.nodes }
     requires node { node < network.now.graph.now.nodes }
     ensures exact { result ≡ sum_by (weight_out network.now.graph.now network.now.part.now inside.now) (leaving network.now.graph.now node) }
@@ -21,11 +21,11 @@ fn weight_leaving(network: &Network, inside: &[bool], node: u32) -> u64
 {
     // A graph has few edges, so the sum fits.
     let _ = network.graph.nodes();
-    let mut weight = 0;
+    let mut weight: u128 = 0;
     for place in network.graph.leaving(node) {
         let edge = network.graph.edge(*place);
         if network.part.has(*place) && !inside[edge.to as usize] {
-            weight += edge.weight;
+            weight += u128::from(edge.weight);
         }
     }
     weight
@@ -42,10 +42,12 @@ fn weight_out_of(network: &Network, inside: &[bool], counted: &mut Vec<bool>, no
     ensures counted { (u : ℕ) → slice_index_or counted.new.items u false ≡ has nodes.now u }
     ensures bound { result < 2 ^ 120 }
 {
+    // A graph has few nodes and edges, so the sum fits.
+    let _ = network.graph.nodes();
     let mut weight: u128 = 0;
     for node in nodes {
         if !counted[*node as usize] {
-            weight += u128::from(weight_leaving(network, inside, *node));
+            weight += weight_leaving(network, inside, *node);
             counted[*node as usize] = true;
         }
     }

@@ -6,14 +6,15 @@
 //! carries nothing, so what leaves them weighs exactly as much as is carried (Ford and Fulkerson, 1956). A search may
 //! begin with what an earlier one found.
 
-ghost use Rattle.std.specs.Prelude.{◌≡◌, ◌≢◌, ◌<◌, ◌≤◌, ◌+◌, ◌^◌, ◌≤ℤ◌, pos, All, IfOk, OnOk, length};
+ghost use Rattle.std.specs.Prelude.{◌≡◌, ◌≢◌, ◌<◌, ◌≤◌, ◌+◌, ◌^◌, ◌≤ℤ◌, pos, All, IfOk, OnErr, OnOk, filter, length, map, nat_lt};
+ghost use Rattle.std.specs.List.{range_with_len};
 ghost use Rattle.mono_graph.specs.Digraph.{IsPartOf};
 ghost use Rattle.mono_flows.specs.Residual.{amount_of};
 ghost use Rattle.mono_flows.specs.Visits.{IsSearch, IsBlocked};
 ghost use Rattle.mono_flows.specs.Flowing.{IsFlow};
 ghost use Rattle.mono_flows.specs.Levels.{AreLevels};
 ghost use Rattle.mono_flows.specs.Sums.{AreSums, AreZero};
-ghost use Rattle.mono_flows.specs.Answers.{Passes, IsKnown, IsSmall, HasValue, IsFlowOfValue};
+ghost use Rattle.mono_flows.specs.Answers.{Passes, IsKnown, IsSmall, IsDistinct, IsExact, HasValue, IsFlowOfValue};
 
 use crate::blocking_flow::add_blocking_flow;
 use crate::flow::Flow;
@@ -69,8 +70,7 @@ impl FlowFinder {
     /// A flow in the part from the source to the sink with a value of at least `least`, or a cut that shows that there
     /// is none. `least` is from 0 to 2^53 + 1.
     ///
-    /// The flow has exactly the value `least`, and lists the edges that carry something by rising place; the cut lists
-    /// its nodes from the least to the greatest. Neither is promised.
+    /// The flow has exactly the value `least`, and the cut lists each node once. Their order isn't promised.
     pub fn find_flow(
         &mut self,
         alloc: Global,
@@ -90,6 +90,8 @@ impl FlowFinder {
         ensures passes { IfOk result (Passes graph.now part.now source sink least) }
         ensures known { IfOk result (IsKnown graph.now) }
         ensures small { IfOk result IsSmall }
+        ensures distinct { IfOk result IsDistinct }
+        ensures exact { IfOk result (IsExact graph.now source least) }
         ensures finder { self.new ≡ self.old }
     {
         let mut kept = Vec::new(alloc);
@@ -101,7 +103,7 @@ impl FlowFinder {
     ///
     /// The search begins with the amounts `kept`, without what they carry through edges that aren't present, where that
     /// is a flow with a value of at most `least`, else with nothing; and it leaves there the flow that it came to. So it
-    /// costs less where an earlier flow in much the same part is given.
+    /// costs less where an earlier flow in much the same part is given. Where memory runs out, `kept` stays as it was.
     pub fn find_flow_from(
         &mut self,
         alloc: Global,
@@ -123,9 +125,12 @@ impl FlowFinder {
         ensures passes { IfOk result (λ found. Passes graph.now part.now source sink least found.answer) }
         ensures known { IfOk result (λ found. IsKnown graph.now found.answer) }
         ensures small { IfOk result (λ found. IsSmall found.answer) }
+        ensures distinct { IfOk result (λ found. IsDistinct found.answer) }
+        ensures exact { IfOk result (λ found. IsExact graph.now source least found.answer) }
         ensures value { IfOk result (λ found. HasValue graph.now part.now source found.value found.answer) }
         ensures flow { IfOk result (λ found. IsFlowOfValue graph.now part.now source sink found.value kept.new.items) }
         ensures kept { All (λ a. a.edge < length graph.now.edges) kept.new.items }
+        ensures unchanged { OnErr result (kept.new.items ≡ kept.old.items) }
         ensures finder { self.new ≡ self.old }
     {
         let network = Network {
@@ -209,8 +214,37 @@ fn grow(
     Ok(())
 }
 
-/// The flow that a search came to, or where it carries less than is asked for, the cut that the marked nodes are. The
-/// amounts of the flow are kept.
+/// The flow of these amounts, or where it carries less than is asked for, the cut that the marked nodes are.
+fn answer_of(
+    alloc: Global,
+    network: &Network,
+    flow: &Flow,
+    marks: &[bool],
+    goal: u64,
+    amounts: &[Amount],
+) -> Result<FlowOrCut, AllocError>
+    requires flow { IsFlow network.now flow.now }
+    requires most { flow.now.value ≤ goal }
+    requires small { goal ≤ MAX_BOUND + 1 }
+    requires marks { length marks.now ≡ network.now.graph.now.nodes }
+    requires blocked { flow.now.value < goal → IsBlocked network.now.graph.now network.now.part.now (amount_of flow.now.amounts.items) network.now.source network.now.sink marks.now }
+    requires amounts { amounts.now ≡ map (λ k. record { edge = k; amount = amount_of flow.now.amounts.items k }) (filter (λ k. nat_lt 0 (amount_of flow.now.amounts.items k)) (range_with_len 0 (length network.now.graph.now.edges))) }
+    requires places { All (λ a. a.edge < length network.now.graph.now.edges) amounts.now }
+    ensures passes { IfOk result (Passes network.now.graph.now network.now.part.now network.now.source network.now.sink (pos goal)) }
+    ensures known { IfOk result (IsKnown network.now.graph.now) }
+    ensures small { IfOk result IsSmall }
+    ensures distinct { IfOk result IsDistinct }
+    ensures exact { IfOk result (IsExact network.now.graph.now network.now.source (pos goal)) }
+    ensures value { IfOk result (HasValue network.now.graph.now network.now.part.now network.now.source flow.now.value) }
+{
+    if flow.value < goal {
+        let nodes = marked_nodes(alloc, marks, network.graph.nodes())?;
+        return Ok(FlowOrCut::Cut(nodes));
+    }
+    Ok(FlowOrCut::Flow(Vec::from_slice(alloc, amounts)?))
+}
+
+/// What a search came to. The amounts of the flow are kept, unless memory runs out.
 fn outcome(
     alloc: Global,
     network: &Network,
@@ -228,23 +262,19 @@ fn outcome(
     ensures passes { IfOk result (λ found. Passes network.now.graph.now network.now.part.now network.now.source network.now.sink (pos goal) found.answer) }
     ensures known { IfOk result (λ found. IsKnown network.now.graph.now found.answer) }
     ensures small { IfOk result (λ found. IsSmall found.answer) }
+    ensures distinct { IfOk result (λ found. IsDistinct found.answer) }
+    ensures exact { IfOk result (λ found. IsExact network.now.graph.now network.now.source (pos goal) found.answer) }
     ensures value { IfOk result (λ found. HasValue network.now.graph.now network.now.part.now network.now.source found.value found.answer) }
     ensures flow { IfOk result (λ found. IsFlowOfValue network.now.graph.now network.now.part.now network.now.source network.now.sink found.value kept.new.items) }
     ensures kept { All (λ a. a.edge < length network.now.graph.now.edges) kept.new.items }
+    ensures unchanged { OnErr result (kept.new.items ≡ kept.old.items) }
 {
-    let value = flow.value;
-    *kept = flow.listed(alloc, network)?;
-    if value < goal {
-        let nodes = marked_nodes(alloc, marks, network.graph.nodes())?;
-        return Ok(Found {
-            answer: FlowOrCut::Cut(nodes),
-            value,
-        });
-    }
-    let amounts = Vec::from_slice(alloc, kept.as_slice())?;
+    let carried = flow.listed(alloc, network)?;
+    let answer = answer_of(alloc, network, flow, marks, goal, carried.as_slice())?;
+    *kept = carried;
     Ok(Found {
-        answer: FlowOrCut::Flow(amounts),
-        value,
+        answer,
+        value: flow.value,
     })
 }
 
@@ -274,6 +304,8 @@ pub fn find_flow(
     ensures passes { IfOk result (Passes graph.now part.now source sink least) }
     ensures known { IfOk result (IsKnown graph.now) }
     ensures small { IfOk result IsSmall }
+    ensures distinct { IfOk result IsDistinct }
+    ensures exact { IfOk result (IsExact graph.now source least) }
 {
     FlowFinder::new(alloc, graph.nodes())?.find_flow(alloc, graph, part, source, sink, least)
 }

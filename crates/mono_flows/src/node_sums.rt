@@ -1,13 +1,13 @@
 //! By node, what a list of amounts makes leave it and enter it.
 //!
 //! Each function goes over the list, and none over the graph: at a node that the list doesn't name both sums are 0, so
-//! it is balanced. Amounts are at most the weights of their edges, and there are at most as many as edges, so no sum
-//! exceeds 10^6 times 2^32, which 64 bits hold.
+//! it is balanced. Amounts are at most the weights of their edges, and there are at most as many as edges, so a sum may
+//! need 84 bits: it has 128.
 
-ghost use Rattle.std.specs.Prelude.{◌≡◌, ◌<◌, ◌≤◌, ◌⊎◌, ◌+◌, ◌-ℤ◌, ℕ, pos, All, IfOk, IfSome, length, slice_index_or, int_le};
+ghost use Rattle.std.specs.Prelude.{◌≡◌, ◌<◌, ◌≤◌, ◌⊎◌, ◌+◌, ◌^◌, ◌-ℤ◌, ℕ, pos, All, IfOk, IfSome, length, slice_index_or, int_le};
 ghost use Rattle.std.specs.List.{list_all};
 ghost use Rattle.mono_flows.specs.Listed.{listed_out, listed_in, has_balanced_ends, is_balanced_at as is_balanced_node};
-ghost use Rattle.mono_flows.specs.Sums.{AreSums, AreZero, AreSumsOf, MayBeSumsOf};
+ghost use Rattle.mono_flows.specs.Sums.{AreSmall, AreSums, AreZero, AreSumsOf, MayBeSumsOf};
 
 use crate::network::Network;
 use mono_base::limits::{MAX_EDGES, MAX_WEIGHT};
@@ -17,8 +17,17 @@ use std::alloc::{AllocError, Global};
 /// By node, how much leaves it and how much enters it.
 #[derive(Drop)]
 pub(crate) struct NodeSums {
-    pub leaving: Vec<u64>,
-    pub entering: Vec<u64>,
+    pub leaving: Vec<u128>,
+    pub entering: Vec<u128>,
+}
+
+/// Whether at least `least` more leaves than enters.
+fn is_enough(leaving: u128, entering: u128, least: i64) -> bool
+    requires leaving { leaving < 2 ^ 120 }
+    requires entering { entering < 2 ^ 120 }
+    ensures { result ≡ int_le least (pos leaving -ℤ pos entering) }
+{
+    (leaving as i128) - (entering as i128) >= i128::from(least)
 }
 
 impl NodeSums {
@@ -42,11 +51,13 @@ impl NodeSums {
         requires zero { AreZero self.old }
         ensures sums { AreSums graph.now.nodes self.new }
         ensures listed { AreSumsOf graph.now amounts.now self.new }
+        ensures small { AreSmall self.new }
     {
         for amount in amounts {
             let edge = graph.edge(amount.edge);
-            self.leaving[edge.from as usize] += amount.amount;
-            self.entering[edge.to as usize] += amount.amount;
+            let carried = u128::from(amount.amount);
+            self.leaving[edge.from as usize] += carried;
+            self.entering[edge.to as usize] += carried;
         }
     }
 
@@ -80,14 +91,17 @@ impl NodeSums {
     pub fn is_enough_at(&self, node: u32, least: i64) -> bool
         requires leaving { node < length self.now.leaving.items }
         requires entering { node < length self.now.entering.items }
+        requires small { AreSmall self.now }
         ensures { result ≡ int_le least (pos (slice_index_or self.now.leaving.items node 0) -ℤ pos (slice_index_or self.now.entering.items node 0)) }
     {
-        let leaving = i128::from(self.leaving[node as usize]);
-        let entering = i128::from(self.entering[node as usize]);
-        leaving - entering >= i128::from(least)
+        is_enough(
+            self.leaving[node as usize],
+            self.entering[node as usize],
+            least,
+        )
     }
 
-    /// How much more leaves the node than enters it, if not less does.
+    /// How much more leaves the node than enters it, if not less does and 64 bits hold it.
     pub fn surplus_at(&self, node: u32) -> Option<u64>
         requires leaving { node < length self.now.leaving.items }
         requires entering { node < length self.now.entering.items }
@@ -95,10 +109,10 @@ impl NodeSums {
     {
         let leaving = self.leaving[node as usize];
         let entering = self.entering[node as usize];
-        if leaving < entering {
+        if leaving < entering || leaving - entering > u128::from(u64::MAX) {
             return None;
         }
-        Some(leaving - entering)
+        Some((leaving - entering) as u64)
     }
 
     /// Sets the sums at the ends of the listed edges back to 0.

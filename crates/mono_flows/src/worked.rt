@@ -6,7 +6,7 @@ ghost use Rattle.std.specs.Prelude.{◌≡◌, ◌∷◌, [], ◌+◌, pos, true
 ghost use Rattle.std.specs.declared.alloc.Global.{Global};
 ghost use Rattle.mono_graph.specs.Worked.{amount, parallel, both};
 ghost use Rattle.mono_graph.specs.declared.amount.Amount.{Amount};
-ghost use Rattle.mono_flows.specs.Answers.{Passes, IsKnown, IsSmall, is_flow_found};
+ghost use Rattle.mono_flows.specs.Answers.{Passes, IsKnown, IsSmall, IsDistinct, IsExact, is_flow_found};
 ghost use Rattle.mono_flows.specs.declared.found.FlowOrCut.TheVariants as found;
 
 use mono_base::limits::MAX_WITNESS_VALUE;
@@ -32,6 +32,20 @@ pub fn found_is_small()
     ensures greatest { (amounts : Vec Amount Global) → amounts.items ≡ amount 0 (MAX_WITNESS_VALUE) ∷ [] → IsSmall (found.Flow amounts) }
     ensures too_great { (amounts : Vec Amount Global) → amounts.items ≡ amount 0 (MAX_WITNESS_VALUE + 1) ∷ [] → IsSmall (found.Flow amounts) → ⊥ }
     ensures cut { (nodes : Vec ℕ Global) → IsSmall (found.Cut nodes) }
+{}
+
+/// A found cut lists each node once.
+pub fn found_is_distinct()
+    ensures cut { (nodes : Vec ℕ Global) → nodes.items ≡ 1 ∷ 0 ∷ [] → IsDistinct (found.Cut nodes) }
+    ensures twice { (nodes : Vec ℕ Global) → nodes.items ≡ 0 ∷ 1 ∷ 0 ∷ [] → IsDistinct (found.Cut nodes) → ⊥ }
+    ensures flow { (amounts : Vec Amount Global) → IsDistinct (found.Flow amounts) }
+{}
+
+/// A found flow has exactly the value that was asked for.
+pub fn found_is_exact()
+    ensures flow { (amounts : Vec Amount Global) → amounts.items ≡ amount 0 1 ∷ amount 1 4 ∷ [] → IsExact (parallel 1 4) 0 (pos 5) (found.Flow amounts) }
+    ensures more { (amounts : Vec Amount Global) → amounts.items ≡ amount 0 1 ∷ amount 1 4 ∷ [] → IsExact (parallel 1 4) 0 (pos 4) (found.Flow amounts) → ⊥ }
+    ensures cut { (nodes : Vec ℕ Global) → IsExact (parallel 1 4) 0 (pos 6) (found.Cut nodes) }
 {}
 
 /// A found flow is told from a found cut.

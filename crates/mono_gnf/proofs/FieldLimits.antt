@@ -112,6 +112,7 @@ form_within word.Edge ts s h = edge_within ts s h
 form_within word.Reach ts s h = said (MAX_WIDE ∷ MAX_WIDE ∷ MAX_WIDE ∷ MAX_VARS ∷ []) ts (λ fs. says.Atom (field_at fs 0) (field_at fs 3) (kind.Reach (field_at fs 1) (field_at fs 2))) s h (λ fs low. (low 3, tt))
 form_within (word.Bounded m strict) ts s h = said (MAX_WIDE ∷ MAX_WIDE ∷ MAX_WIDE ∷ MAX_VARS ∷ MAX_BOUND ∷ []) ts (λ fs. says.Atom (field_at fs 0) (field_at fs 3) (bounded_by m strict (field_at fs 1) (field_at fs 2) (field_at fs 4))) s h (λ fs low. (low 3, bounded_within m strict (field_at fs 1) (field_at fs 2) (get_or fs 4 0) (low 4)))
 form_within (word.Tree strict) ts s h = said (MAX_WIDE ∷ MAX_VARS ∷ MAX_BOUND ∷ []) ts (λ fs. says.Atom (field_at fs 0) (field_at fs 1) (kind.Tree (at_most strict (field_at fs 2)))) s h (λ fs low. (low 1, most_within strict (get_or fs 2 0) (low 2)))
+form_within word.Acyclic ts s h = said (MAX_WIDE ∷ MAX_VARS ∷ []) ts (λ fs. says.Atom (field_at fs 0) (field_at fs 1) kind.Acyclic) s h (λ fs low. (low 1, tt))
 
 pub statement_within : (line : List (List ℕ)) (s : Statement) → statement_of line ≡ Ok s → IsWithin s
 unfolding statement_of

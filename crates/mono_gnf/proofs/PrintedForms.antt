@@ -39,6 +39,7 @@ IsFitting (kind.Steps u v most) = (u ≤ MAX_WIDE) × (v ≤ MAX_WIDE) × IsMost
 IsFitting (kind.Distance u v most) = (u ≤ MAX_WIDE) × (v ≤ MAX_WIDE) × IsMost most
 IsFitting (kind.Flow s t least) = (s ≤ MAX_WIDE) × (t ≤ MAX_WIDE) × IsLeast least
 IsFitting (kind.Tree most) = IsMost most
+IsFitting kind.Acyclic = Unit {0}
 
 -- ---- what the lines say
 
@@ -84,6 +85,11 @@ module _ (id x : ℕ) (a : id ≤ MAX_WIDE) (d : x ≤ MAX_VARS) where
       let P : ℕ → Type 0 = λ m. statement_of (predicate_line id x (kind.Tree (negsuc m))) ≡ Ok (says.Atom id x (kind.Tree (negsuc m))) in
       subst P (sym (most_never m e)) (ap (λ r. with_fields r (λ fs. says.Atom (slice_index fs 0) (slice_index fs 1) (kind.Tree (at_most true (slice_index fs 2))))) (fields_of-decimal (MAX_WIDE ∷ MAX_VARS ∷ MAX_BOUND ∷ []) (id ∷ x ∷ 0 ∷ []) (a, omega arith, (d, omega arith, (omega arith, omega arith, tt)))))
 
+  acyclic_says : statement_of (predicate_line id x kind.Acyclic) ≡ Ok (says.Atom id x kind.Acyclic)
+  unfolding statement_of
+  acyclic_says =
+      ap (λ r. with_fields r (λ fs. says.Atom (slice_index fs 0) (slice_index fs 1) kind.Acyclic)) (fields_of-decimal (MAX_WIDE ∷ MAX_VARS ∷ []) (id ∷ x ∷ []) (a, omega arith, (d, omega arith, tt)))
+
   reach_says : (u v : ℕ) → u ≤ MAX_WIDE → v ≤ MAX_WIDE → statement_of (predicate_line id x (kind.Reach u v)) ≡ Ok (says.Atom id x (kind.Reach u v))
   unfolding statement_of
   reach_says u v b c =
@@ -112,6 +118,7 @@ module _ (id x : ℕ) (a : id ≤ MAX_WIDE) (d : x ≤ MAX_VARS) where
   atom_says (kind.Distance u v most) h = distance_says u v most h.0 h.1 h.2
   atom_says (kind.Flow s t least) h = flow_says s t least h.0 h.1 h.2
   atom_says (kind.Tree most) h = tree_says most h
+  atom_says kind.Acyclic h = acyclic_says
 
 -- ---- graphs
 
@@ -223,6 +230,7 @@ word_line n id x p last (kind.Flow s t (pos f)) h = word_line_flow n id x s t f 
 word_line n id x p last (kind.Flow s t (negsuc f)) h = absurd (least_positive f h.2)
 word_line n id x p last (kind.Tree (pos k)) h = refl
 word_line n id x p last (kind.Tree (negsuc k)) h = refl
+word_line n id x p last kind.Acyclic h = refl
 
 pub Leads-atoms : (n : ℕ) (w p q : Instance) (last : ℕ) (xs : List Atom) → AddsAtoms w p xs q → Leads n (state p [] last) (map (atom_line w) xs) (state q [] last)
 Leads-atoms n w p q last [] h = ap (λ p. state p [] last) h

@@ -107,6 +107,7 @@ predicate_tokens id x (kind.Flow s t (pos f)) a d h = flow_tokens id s t x f (lt
 predicate_tokens id x (kind.Flow s t (negsuc f)) a d h = absurd (least_positive f h.2)
 predicate_tokens id x (kind.Tree (pos k)) a d h = (token_from (codes "mst_weight_leq") refl, decimals (id ∷ x ∷ k ∷ []) (omega arith, (omega arith, (omega (arith, most_within k h), tt))))
 predicate_tokens id x (kind.Tree (negsuc k)) a d h = (token_from (codes "mst_weight_lt") refl, decimals (id ∷ x ∷ 0 ∷ []) (omega arith, (omega arith, (omega arith, tt))))
+predicate_tokens id x kind.Acyclic a d h = (token_from (codes "acyclic") refl, decimals (id ∷ x ∷ []) (omega arith, (omega arith, tt)))
 
 pub atom_lines : (w p q : Instance) (xs : List Atom) → AddsAtoms w p xs q → AreTokenLines (map (atom_line w) xs)
 atom_lines w p q [] h = tt

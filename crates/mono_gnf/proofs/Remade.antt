@@ -160,6 +160,7 @@ ends_of g (kind.Steps u v most) o = rw (lt-ltb u g.nodes o.0, lt-ltb v g.nodes o
 ends_of g (kind.Distance u v most) o = rw (lt-ltb u g.nodes o.0, lt-ltb v g.nodes o.1) refl
 ends_of g (kind.Flow s t least) o = rw (lt-ltb s g.nodes o.0, lt-ltb t g.nodes o.1) refl
 ends_of g (kind.Tree most) o = refl
+ends_of g kind.Acyclic o = refl
 
 apart_of : (g : Digraph) (q : Predicate) → IsOver g q → has_same_ends q ≡ false
 apart_of g (kind.Reach u v) o = refl
@@ -167,6 +168,7 @@ apart_of g (kind.Steps u v most) o = refl
 apart_of g (kind.Distance u v most) o = refl
 apart_of g (kind.Flow s t least) o = ne_eqb s t o.2
 apart_of g (kind.Tree most) o = refl
+apart_of g kind.Acyclic o = refl
 
 fitting : (g : Digraph) (q : Predicate) → g.nodes ≤ MAX_NODES → IsOver g q → IsFitting q
 fitting g (kind.Reach u v) few o = (omega (arith, o.0), omega (arith, o.1))
@@ -174,6 +176,7 @@ fitting g (kind.Steps u v most) few o = (omega (arith, o.0), omega (arith, o.1),
 fitting g (kind.Distance u v most) few o = (omega (arith, o.0), omega (arith, o.1), o.2)
 fitting g (kind.Flow s t least) few o = (omega (arith, o.0), omega (arith, o.1), o.3)
 fitting g (kind.Tree most) few o = o
+fitting g kind.Acyclic few o = tt
 
 -- the atoms of a problem from a place on
 abbrev AreAtoms : Instance → ℕ → List Atom → Type 0

@@ -132,6 +132,7 @@ over p k (kind.Flow u v least) ends apart b =
     let other : u ≢ v = grind (arith, nat_tests, apart) in
     (low.0, low.1, other, b)
 over p k (kind.Tree most) ends apart b = b
+over p k kind.Acyclic ends apart b = tt
 
 atom_sound : (s t : Seen) (k var : ℕ) (q : Predicate) → IsSound s → k < length s.problem.graphs → IsWithin (says.Atom 0 var q) → put_atom_at s k var q ≡ Ok t → IsSound t
 atom_sound s t k var q h held low e =

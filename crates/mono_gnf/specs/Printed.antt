@@ -72,6 +72,7 @@ predicate_line id x (kind.Flow s t least) =
     least_word (codes "maximum_flow_geq") (codes "maximum_flow_gt") least ∷ map decimal (id ∷ s ∷ t ∷ x ∷ least_number least ∷ [])
 predicate_line id x (kind.Tree most) =
     most_word (codes "mst_weight_leq") (codes "mst_weight_lt") most ∷ map decimal (id ∷ x ∷ most_number most ∷ [])
+predicate_line id x kind.Acyclic = codes "acyclic" ∷ map decimal (id ∷ x ∷ [])
 
 abbrev pub atom_line : Instance → Atom → List (List ℕ)
 atom_line p x = predicate_line (identity_at p x.graph) x.var x.predicate

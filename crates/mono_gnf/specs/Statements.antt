@@ -32,6 +32,7 @@ word_of t =
     else if bytes_eq t (codes "maximum_flow_gt") then Some (word.Bounded measure.Flow true)
     else if bytes_eq t (codes "mst_weight_leq") then Some (word.Tree false)
     else if bytes_eq t (codes "mst_weight_lt") then Some (word.Tree true)
+    else if bytes_eq t (codes "acyclic") then Some word.Acyclic
     else None
 
 -- a refused field as a fault of the line
@@ -122,6 +123,10 @@ bounded_of m strict ts = with_fields (fields_of (MAX_WIDE ∷ MAX_WIDE ∷ MAX_W
 abbrev pub tree_of : Bool → List (List ℕ) → Result Statement GnfFault
 tree_of strict ts = with_fields (fields_of (MAX_WIDE ∷ MAX_VARS ∷ MAX_BOUND ∷ []) ts) (λ fs. says.Atom (field fs 0) (field fs 1) (kind.Tree (at_most strict (field fs 2))))
 
+-- `acyclic G x`: x is true exactly where there is no cycle
+abbrev pub acyclic_of : List (List ℕ) → Result Statement GnfFault
+acyclic_of ts = with_fields (fields_of (MAX_WIDE ∷ MAX_VARS ∷ []) ts) (λ fs. says.Atom (field fs 0) (field fs 1) kind.Acyclic)
+
 abbrev pub form_of : Word → List (List ℕ) → Result Statement GnfFault
 form_of word.Header ts = header_of ts
 form_of word.Digraph ts = graph_of ts
@@ -129,6 +134,7 @@ form_of word.Edge ts = edge_of ts
 form_of word.Reach ts = reach_of ts
 form_of (word.Bounded m strict) ts = bounded_of m strict ts
 form_of (word.Tree strict) ts = tree_of strict ts
+form_of word.Acyclic ts = acyclic_of ts
 
 -- what a word line says, or the first of the checks on its text alone that it fails
 unfoldable pub statement_of : List (List ℕ) → Result Statement GnfFault
@@ -144,6 +150,7 @@ has_ends n (kind.Steps u v most) = nat_lt u n && nat_lt v n
 has_ends n (kind.Distance u v most) = nat_lt u n && nat_lt v n
 has_ends n (kind.Flow s t least) = nat_lt s n && nat_lt t n
 has_ends n (kind.Tree most) = true
+has_ends n kind.Acyclic = true
 
 abbrev pub has_same_ends : Predicate → Bool
 has_same_ends (kind.Flow s t least) = s == t
@@ -151,3 +158,4 @@ has_same_ends (kind.Reach u v) = false
 has_same_ends (kind.Steps u v most) = false
 has_same_ends (kind.Distance u v most) = false
 has_same_ends (kind.Tree most) = false
+has_same_ends kind.Acyclic = false

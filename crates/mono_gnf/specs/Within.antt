@@ -14,6 +14,7 @@ IsBounded (kind.Steps u v most) = IsMost most
 IsBounded (kind.Distance u v most) = IsMost most
 IsBounded (kind.Flow s t least) = IsLeast least
 IsBounded (kind.Tree most) = IsMost most
+IsBounded kind.Acyclic = Unit {0}
 
 abbrev pub IsWithin : Statement → Type 0
 IsWithin (says.Header vars) = vars ≤ MAX_VARS

@@ -211,6 +211,7 @@ fn push_predicate(
             let word = word_of_most(b"mst_weight_leq", b"mst_weight_lt", most);
             push_line(out, word, &[id, var, number_of_most(most)])
         }
+        Predicate::Acyclic => push_line(out, b"acyclic", &[id, var]),
     }
 }
 

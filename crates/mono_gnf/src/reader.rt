@@ -64,6 +64,7 @@ fn has_nodes(nodes: u32, predicate: Predicate) -> bool
             least: _,
         } => source < nodes && sink < nodes,
         Predicate::Tree { most: _ } => true,
+        Predicate::Acyclic => true,
     }
 }
 

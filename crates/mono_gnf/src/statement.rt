@@ -3,7 +3,7 @@
 //! The first token is the word. Each word has a form: a row of fields, each with its limit.
 
 ghost use Rattle.std.specs.Prelude.{◌≡◌, ◌<◌, ◌≤◌, ◌∷◌, bytes_eq, slice_index, ℕ, IfOk};
-ghost use Rattle.mono_gnf.specs.Statements.{word_of, header_of, graph_of, edge_of, edge_from, reach_of, bounded_by, bounded_of, tree_of, form_of, statement_of, at_most, at_least};
+ghost use Rattle.mono_gnf.specs.Statements.{word_of, header_of, graph_of, edge_of, edge_from, reach_of, bounded_by, bounded_of, tree_of, acyclic_of, form_of, statement_of, at_most, at_least};
 ghost use Rattle.mono_gnf.specs.Within.{IsBounded, IsWithin};
 ghost use Rattle.mono_problem.specs.WellFormed.{IsMost, IsLeast};
 
@@ -32,6 +32,8 @@ const BOUNDED: [u64; 5] = [WIDE, WIDE, WIDE, VARS, MAX_BOUND];
 
 const TREE: [u64; 3] = [WIDE, VARS, MAX_BOUND];
 
+const ACYCLIC: [u64; 2] = [WIDE, VARS];
+
 /// What the bound of a predicate between two nodes is on: the steps of a walk, its weight, or the value of a flow.
 #[derive(Clone, Copy)]
 pub(crate) enum Measure {
@@ -49,6 +51,7 @@ pub(crate) enum Word {
     Reach,
     Bounded(Measure, bool),
     Tree(bool),
+    Acyclic,
 }
 
 /// What a word line says. Graphs are named by their identities.
@@ -108,6 +111,8 @@ fn word_named(token: &[u8]) -> Option<Word>
         Some(Word::Tree(false))
     } else if is(token, b"mst_weight_lt") {
         Some(Word::Tree(true))
+    } else if is(token, b"acyclic") {
+        Some(Word::Acyclic)
     } else {
         None
     }
@@ -303,6 +308,18 @@ fn tree(tokens: Tokens<'_>, strict: bool) -> Result<Statement, GnfFault>
     })
 }
 
+fn acyclic(tokens: Tokens<'_>) -> Result<Statement, GnfFault>
+    ensures value { result ≡ acyclic_of tokens.entry }
+    ensures within { IfOk result IsWithin }
+{
+    let f = fields(tokens, &ACYCLIC)?;
+    Ok(Statement::Atom {
+        graph: f[0] as u32,
+        var: f[1] as u32,
+        predicate: Predicate::Acyclic,
+    })
+}
+
 /// What a line says by its word and the tokens behind it, or the first check of its text that it fails.
 #[tactic(auto, unfolding(crate::specs::Statements::statement_of))]
 pub(crate) fn statement_in(word: &[u8], tokens: Tokens<'_>) -> Result<Statement, GnfFault>
@@ -317,5 +334,6 @@ pub(crate) fn statement_in(word: &[u8], tokens: Tokens<'_>) -> Result<Statement,
         Some(Word::Reach) => reach(tokens),
         Some(Word::Bounded(measure, strict)) => bounded(tokens, measure, strict),
         Some(Word::Tree(strict)) => tree(tokens, strict),
+        Some(Word::Acyclic) => acyclic(tokens),
     }
 }

@@ -1,12 +1,17 @@
 //! Worked cases: texts with their first faults, and what texts stand for.
 
-ghost use Rattle.std.specs.Prelude.{◌≡◌, ◌∷◌, [], ℕ, codes, Some, None, Ok, Err, pos, negsuc};
+ghost use Rattle.std.specs.Prelude.{◌≡◌, ◌+◌, ◌∷◌, [], ℕ, ℤ, List, codes, length, sum_by, Some, None, Ok, Err, pos, negsuc};
+ghost use Rattle.mono_base.specs.declared.limits.TheConstants.{MAX_GRAPHS, MAX_EDGES, MAX_ATOMS, MAX_CLAUSES, MAX_LITERALS};
 ghost use Rattle.mono_problem.specs.Instance.{Instance};
 ghost use Rattle.mono_problem.specs.declared.atom.Predicate.TheVariants as kind;
 ghost use Rattle.mono_gnf.specs.declared.fault.GnfFault.{GnfFault};
 ghost use Rattle.mono_gnf.specs.declared.fault.GnfFault.TheVariants as fault;
 ghost use Rattle.mono_gnf.specs.declared.refusal.GnfRefusal.TheVariants as refusal;
-ghost use Rattle.mono_gnf.specs.Faults.{first_fault};
+ghost use Rattle.mono_gnf.specs.declared.statement.Statement.{Statement};
+ghost use Rattle.mono_gnf.specs.declared.statement.Statement.TheVariants as says;
+ghost use Rattle.mono_gnf.specs.Lines.{clauses_of, literal_count};
+ghost use Rattle.mono_gnf.specs.Declarations.{graphs, edges, atoms, nodes_named};
+ghost use Rattle.mono_gnf.specs.Faults.{first_fault, number_fault, statement_fault};
 ghost use Rattle.mono_gnf.specs.Stands.{Stands, Reads};
 
 /// Each fault, but for counts that take thousands of lines.
@@ -25,9 +30,15 @@ pub fn worked_faults()
     ensures no_weight_word { first_fault (codes "digraph int 2 1") ≡ Some (1, fault.NotNumber) }
     ensures large { first_fault (codes "1000001 0") ≡ Some (1, fault.TooLarge) }
     ensures variable_large { first_fault (codes "edge 0 0 0 1000001") ≡ Some (1, fault.TooLarge) }
+    ensures weight_large { first_fault (codes "digraph 1 0 0\nedge 0 0 0 1 18446744073709551616") ≡ Some (2, fault.TooLarge) }
     ensures bound_large { first_fault (codes "mst_weight_leq 0 1 9007199254740993") ≡ Some (1, fault.TooLarge) }
     ensures count { first_fault (codes "p cnf 3") ≡ Some (1, fault.FieldCount) }
     ensures alone { first_fault (codes "p") ≡ Some (1, fault.FieldCount) }
+    ensures acyclic_count { first_fault (codes "digraph 1 0 0\nacyclic 0") ≡ Some (2, fault.FieldCount) }
+    ensures acyclic_name { first_fault (codes "digraph 1 0 0\nacyclic 0 1 name") ≡ Some (2, fault.FieldCount) }
+    ensures acyclic_large { first_fault (codes "acyclic 0 1000001") ≡ Some (1, fault.TooLarge) }
+    ensures acyclic_graph { first_fault (codes "acyclic 0 1") ≡ Some (1, fault.UnknownGraph) }
+    ensures acyclic_variable { first_fault (codes "digraph 1 0 0\nacyclic 0 0") ≡ Some (2, fault.BadVariable) }
     ensures more { first_fault (codes "p cnf 1 2 3") ≡ Some (1, fault.FieldCount) }
     ensures name { first_fault (codes "digraph int 2 1 0 name") ≡ Some (1, fault.FieldCount) }
     ensures unknown { first_fault (codes "edge 0 0 1 1") ≡ Some (1, fault.UnknownGraph) }
@@ -62,6 +73,28 @@ pub fn worked_order()
     ensures last_literal { first_fault (codes "1 0 2\n0 3\n-4\nc\n\t\n") ≡ Some (3, fault.UnfinishedClause) }
 {}
 
+/// How many graphs, edges and predicates there may be. Graph 7 is new, graph 5 has 2 nodes.
+pub fn worked_counts()
+    ensures graphs { (before : List Statement) → length (graphs before) ≡ MAX_GRAPHS → nodes_named (graphs before) 7 ≡ None → statement_fault before (says.Graph 7 1) ≡ Some fault.TooMany }
+    ensures last_graph { (before : List Statement) → length (graphs before) + 1 ≡ MAX_GRAPHS → sum_by (λ g. g.1) (graphs before) ≡ 5000 → nodes_named (graphs before) 7 ≡ None → statement_fault before (says.Graph 7 1) ≡ None }
+    ensures edges { (before : List Statement) → length (edges before) ≡ MAX_EDGES → nodes_named (graphs before) 5 ≡ Some 2 → statement_fault before (says.Edge 5 0 1 1 0) ≡ Some fault.TooMany }
+    ensures last_edge { (before : List Statement) → length (edges before) + 1 ≡ MAX_EDGES → nodes_named (graphs before) 5 ≡ Some 2 → statement_fault before (says.Edge 5 0 1 1 0) ≡ None }
+    ensures predicates { (before : List Statement) → length (atoms before) ≡ MAX_ATOMS → nodes_named (graphs before) 5 ≡ Some 2 → statement_fault before (says.Atom 5 1 kind.Acyclic) ≡ Some fault.TooMany }
+    ensures last_predicate { (before : List Statement) → length (atoms before) + 1 ≡ MAX_ATOMS → nodes_named (graphs before) 5 ≡ Some 2 → statement_fault before (says.Atom 5 1 kind.Acyclic) ≡ None }
+{}
+
+/// How many clauses and literals there may be, those of the line itself among them.
+pub fn worked_number_counts()
+    ensures clauses { (zs : List ℤ) → length (clauses_of zs) ≡ MAX_CLAUSES → number_fault zs (codes "0" ∷ []) ≡ Some fault.TooMany }
+    ensures last_clause { (zs : List ℤ) → length (clauses_of zs) + 1 ≡ MAX_CLAUSES → number_fault zs (codes "0" ∷ []) ≡ None }
+    ensures clause_of_the_line { (zs : List ℤ) → length (clauses_of zs) + 1 ≡ MAX_CLAUSES → number_fault zs (codes "0" ∷ codes "0" ∷ []) ≡ Some fault.TooMany }
+    ensures clauses_alone { (zs : List ℤ) → length (clauses_of zs) ≡ MAX_CLAUSES → literal_count zs ≡ 0 → number_fault zs (codes "-1" ∷ []) ≡ None }
+    ensures literals { (zs : List ℤ) → literal_count zs ≡ MAX_LITERALS → number_fault zs (codes "-1" ∷ []) ≡ Some fault.TooMany }
+    ensures last_literal { (zs : List ℤ) → literal_count zs + 1 ≡ MAX_LITERALS → number_fault zs (codes "-1" ∷ []) ≡ None }
+    ensures literal_of_the_line { (zs : List ℤ) → literal_count zs + 1 ≡ MAX_LITERALS → number_fault zs (codes "1" ∷ codes "1" ∷ []) ≡ Some fault.TooMany }
+    ensures literals_alone { (zs : List ℤ) → literal_count zs ≡ MAX_LITERALS → length (clauses_of zs) ≡ 0 → number_fault zs (codes "0" ∷ []) ≡ None }
+{}
+
 /// Texts without a fault.
 #[tactic(auto, unfolding(crate::specs::Statements::statement_of))]
 pub fn worked_problems()
@@ -92,10 +125,17 @@ pub fn worked_problems()
               ∷ record { number = 7; graph = 0; var = 7; predicate = kind.Tree (pos 6) } ∷ [];
           clauses = [];
         }) }
-    ensures limits { Stands (codes "p gnf 1000000 4294967295\ndigraph 1000000 4294967295 4294967295\nedge 4294967295 999999 0 1000000 4294967295\n-1000000 0")
+    ensures acyclic { Stands (codes "digraph 1 0 5\ndigraph 2 0 3\nacyclic 3 4\nacyclic 5 2")
+        (record {
+          vars = 4;
+          graphs = (5, record { nodes = 1; edges = [] }) ∷ (3, record { nodes = 2; edges = [] }) ∷ [];
+          atoms = record { number = 1; graph = 1; var = 4; predicate = kind.Acyclic } ∷ record { number = 2; graph = 0; var = 2; predicate = kind.Acyclic } ∷ [];
+          clauses = [];
+        }) }
+    ensures limits { Stands (codes "p gnf 1000000 4294967295\ndigraph 1000000 4294967295 4294967295\nedge 4294967295 999999 0 1000000 18446744073709551615\n-1000000 0")
         (record {
           vars = 1000000;
-          graphs = (4294967295, record { nodes = 1000000; edges = record { number = 1; from = 999999; to = 0; var = 1000000; weight = 4294967295 } ∷ [] }) ∷ [];
+          graphs = (4294967295, record { nodes = 1000000; edges = record { number = 1; from = 999999; to = 0; var = 1000000; weight = 18446744073709551615 } ∷ [] }) ∷ [];
           atoms = [];
           clauses = (negsuc 999999 ∷ []) ∷ [];
         }) }

@@ -13,5 +13,7 @@ pub mod Joins
 pub mod Components
 pub mod LeastLaw
 pub mod Subparts
+pub mod CycleLaws
 pub mod Prefixes
 pub mod Seen
+pub mod WeightSums

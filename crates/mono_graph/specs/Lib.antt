@@ -4,4 +4,5 @@ pub mod Kept
 pub mod Walks
 pub mod Flows
 pub mod Trees
+pub mod Cycles
 pub mod Worked

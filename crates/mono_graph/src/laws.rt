@@ -1,4 +1,4 @@
-//! What follows from the definitions of walks, flows and trees alone.
+//! What follows from the definitions of walks, flows, trees and cycles alone.
 //!
 //! Each test of a witness on the one side excludes what it denies: where a cut passes there is no walk, and so on. What
 //! passes over a part passes over each larger one, and what denies it passes over each smaller one: this is what makes
@@ -7,12 +7,13 @@
 //! `P` and `Q` are parts: lists by place. None of the laws asks that they are parts of the graph, since a walk, a flow and
 //! a tree have edges of the graph alone.
 
-ghost use Rattle.std.specs.Prelude.{◌≡◌, ◌≢◌, ◌+◌, ◌∷◌, false, ◌≤◌, ◌≤ℤ◌, ◌<◌, ◌&&◌, ◌↔◌, ℕ, ℤ, Bool, List, length, pos, not, int_le, IsTrue};
+ghost use Rattle.std.specs.Prelude.{◌≡◌, ◌≢◌, ◌+◌, ◌^◌, ◌∷◌, false, ◌≤◌, ◌≤ℤ◌, ◌<◌, ◌&&◌, ◌↔◌, ℕ, ℤ, Bool, List, length, pos, not, int_le, IsTrue};
 ghost use Rattle.std.specs.List.{list_all, range_with_len};
-ghost use Rattle.mono_graph.specs.Digraph.{Digraph, HasEnds, IsSubpart, has, leads_out, present_by, weight_of};
+ghost use Rattle.mono_graph.specs.Digraph.{Digraph, HasEnds, IsGraph, IsSubpart, has, is_distinct, is_place, leads_out, present_by, weight_of};
 ghost use Rattle.mono_graph.specs.Walks.{is_walk, is_path, is_cut, is_labelling};
 ghost use Rattle.mono_graph.specs.Flows.{is_flow, is_flow_of, is_flow_cut, value_of};
 ghost use Rattle.mono_graph.specs.Trees.{joins, component_count, is_tree, is_split, is_least, IsRoute};
+ghost use Rattle.mono_graph.specs.Cycles.{is_cycle, is_order, IsAcyclic};
 ghost use Rattle.mono_graph.specs.declared.edge.Edge.{Edge};
 
 use crate::{Amount, Label, Limit};
@@ -87,4 +88,30 @@ pub fn smaller_part_keeps_what_is_not_there()
     ensures flow_cut { (g : Digraph) (P Q : List Bool) → IsSubpart P Q → (s t : ℕ) (least : ℤ) (set : List ℕ) → IsTrue (is_flow_cut g Q s t least set) → IsTrue (is_flow_cut g P s t least set) }
     ensures split { (g : Digraph) (P Q : List Bool) → IsSubpart P Q → (set : List ℕ) → IsTrue (is_split g Q set) → IsTrue (is_split g P set) }
     ensures least { (g : Digraph) (P Q : List Bool) → IsSubpart P Q → (most : ℤ) (tree : List ℕ) → IsTrue (is_least g Q most tree) → IsTrue (is_least g P most tree) }
+{}
+
+/// A cycle is a nonempty walk from a node to itself.
+pub fn cycle_is_a_closed_walk()
+    ensures { (g : Digraph) (P : List Bool) (cycle : List ℕ) → IsTrue (is_cycle g P cycle) → IsAcyclic g P → ⊥ }
+{}
+
+/// Where there is an order, no nonempty walk leads from a node to itself.
+pub fn order_means_no_closed_walk()
+    ensures { (g : Digraph) (P : List Bool) (order : List ℕ) → IsTrue (is_order g P order) → IsAcyclic g P }
+{}
+
+/// A cycle passes over each larger part.
+pub fn larger_part_keeps_cycles()
+    ensures { (g : Digraph) (P Q : List Bool) → IsSubpart P Q → (cycle : List ℕ) → IsTrue (is_cycle g P cycle) → IsTrue (is_cycle g Q cycle) }
+{}
+
+/// An order passes over each smaller part, and so does that there is no cycle.
+pub fn smaller_part_keeps_orders()
+    ensures order { (g : Digraph) (P Q : List Bool) → IsSubpart P Q → (order : List ℕ) → IsTrue (is_order g Q order) → IsTrue (is_order g P order) }
+    ensures acyclic { (g : Digraph) (P Q : List Bool) → IsSubpart P Q → IsAcyclic g Q → IsAcyclic g P }
+{}
+
+/// Different edges of a graph weigh less than 2^84 together: there are fewer than 2^20, and each weighs less than 2^64.
+pub fn different_edges_weigh_less_than_two_to_the_84()
+    ensures { (g : Digraph) (ks : List ℕ) → IsGraph g → IsTrue (is_distinct ks) → IsTrue (list_all (is_place g) ks) → weight_of g ks < 2 ^ 84 }
 {}

@@ -1,4 +1,4 @@
-//! Directed graphs whose edges are named by variables, their parts, and what walks, flows and spanning trees are.
+//! Directed graphs whose edges are named by variables, their parts, and what walks, flows, spanning trees and cycles are.
 #![tactic(auto)]
 
 /// Amounts on edges.
@@ -11,7 +11,7 @@ mod edge;
 mod graph;
 /// Labels of nodes.
 mod label;
-/// What follows from the definitions of walks, flows and trees alone.
+/// What follows from the definitions of walks, flows, trees and cycles alone.
 pub mod laws;
 /// Limits of walks.
 mod limit;

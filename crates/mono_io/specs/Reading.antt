@@ -24,7 +24,7 @@ pub record IsTooLong (name : List ℕ) (limit : ℕ) (old new : ShelfView) : Typ
   pub place : new.place ≡ Some (limit + 1)
   pub faults : new.faults ≡ old.faults
 
--- One call failed, the last one: over a steady shelf, since no text has that name. No byte beyond the limit was read.
+-- Exactly one call failed: over a steady shelf, since no text has that name. No byte beyond the limit was read.
 pub record IsNotRead (name : List ℕ) (limit : ℕ) (old new : ShelfView) : Type 0 where
   pub once : BeginsOnce old new
   pub lacking : IsTrue old.steady → Lacks old.texts name

@@ -5,6 +5,7 @@ use Rattle.mono_reach.specs.Reaches.{is_reach}
 use Rattle.mono_distance.specs.Distances.{is_distance}
 use Rattle.mono_flow.specs.Flowing.{is_flow_predicate}
 use Rattle.mono_tree.specs.Spanning.{is_tree_predicate}
+use Rattle.mono_acyclic.specs.Cyclic.{is_cycle_predicate}
 use Rattle.mono_problem.specs.declared.atom.Predicate.TheVariants as kind
 use Rattle.std.specs.List.{range_with_len, list_all, list_any}
 use Rattle.std.proofs.lemmas.Bool.{and_from, and_parts, both_ways, not-true, not_from_false, cases_Bool, cases_eq, cases_lt, false_from_ne_true, eqb-true, ne_eqb, lt-ltb, le-ltb}
@@ -90,13 +91,14 @@ slots_more p m lists lt h = record {
 
 -- ---- the theory of a slot
 
--- the numbers of kinds are below 4
-pub kind_few : (q : Predicate) → kind_index q < 4
+-- the numbers of kinds are below 5
+pub kind_few : (q : Predicate) → kind_index q < 5
 kind_few (kind.Reach u v) = omega arith
 kind_few (kind.Steps u v most) = omega arith
 kind_few (kind.Distance u v most) = omega arith
 kind_few (kind.Flow s t least) = omega arith
 kind_few (kind.Tree most) = omega arith
+kind_few kind.Acyclic = omega arith
 
 -- the kinds by their numbers
 pub reach_kind : (q : Predicate) → kind_index q ≡ 0 → IsTrue (is_reach q)
@@ -105,6 +107,7 @@ reach_kind (kind.Steps u v most) e = absurd (omega (arith, e))
 reach_kind (kind.Distance u v most) e = absurd (omega (arith, e))
 reach_kind (kind.Flow s t least) e = absurd (omega (arith, e))
 reach_kind (kind.Tree most) e = absurd (omega (arith, e))
+reach_kind kind.Acyclic e = absurd (omega (arith, e))
 
 pub distance_kind : (q : Predicate) → kind_index q ≡ 1 → IsTrue (is_distance q)
 distance_kind (kind.Reach u v) e = absurd (omega (arith, e))
@@ -112,6 +115,7 @@ distance_kind (kind.Steps u v most) e = refl
 distance_kind (kind.Distance u v most) e = refl
 distance_kind (kind.Flow s t least) e = absurd (omega (arith, e))
 distance_kind (kind.Tree most) e = absurd (omega (arith, e))
+distance_kind kind.Acyclic e = absurd (omega (arith, e))
 
 pub flow_kind : (q : Predicate) → kind_index q ≡ 2 → IsTrue (is_flow_predicate q)
 flow_kind (kind.Reach u v) e = absurd (omega (arith, e))
@@ -119,6 +123,7 @@ flow_kind (kind.Steps u v most) e = absurd (omega (arith, e))
 flow_kind (kind.Distance u v most) e = absurd (omega (arith, e))
 flow_kind (kind.Flow s t least) e = refl
 flow_kind (kind.Tree most) e = absurd (omega (arith, e))
+flow_kind kind.Acyclic e = absurd (omega (arith, e))
 
 pub tree_kind : (q : Predicate) → kind_index q ≡ 3 → IsTrue (is_tree_predicate q)
 tree_kind (kind.Reach u v) e = absurd (omega (arith, e))
@@ -126,18 +131,27 @@ tree_kind (kind.Steps u v most) e = absurd (omega (arith, e))
 tree_kind (kind.Distance u v most) e = absurd (omega (arith, e))
 tree_kind (kind.Flow s t least) e = absurd (omega (arith, e))
 tree_kind (kind.Tree most) e = refl
+tree_kind kind.Acyclic e = absurd (omega (arith, e))
+
+pub acyclic_kind : (q : Predicate) → kind_index q ≡ 4 → IsTrue (is_cycle_predicate q)
+acyclic_kind (kind.Reach u v) e = absurd (omega (arith, e))
+acyclic_kind (kind.Steps u v most) e = absurd (omega (arith, e))
+acyclic_kind (kind.Distance u v most) e = absurd (omega (arith, e))
+acyclic_kind (kind.Flow s t least) e = absurd (omega (arith, e))
+acyclic_kind (kind.Tree most) e = absurd (omega (arith, e))
+acyclic_kind kind.Acyclic e = refl
 
 -- a slot's graph and kind
-slot_parts : (x : Atom) (j : ℕ) → slot_of x ≡ j → (x.graph ≡ j / 4) × (kind_index x.predicate ≡ j % 4)
+slot_parts : (x : Atom) (j : ℕ) → slot_of x ≡ j → (x.graph ≡ j / 5) × (kind_index x.predicate ≡ j % 5)
 slot_parts x j e = let few = kind_few x.predicate in (omega (arith, e, few), omega (arith, e, few))
 
 held_in : (p : Instance) (j : ℕ) → All (IsHeld p) (numbers_in p (length p.atoms) j)
 held_in p j = all_by (IsHeld p) (numbers_in p (length p.atoms) j) (λ n h. let r = in_range p (length p.atoms) j n h in (r.0, r.1))
 
-graph_in : (p : Instance) (j : ℕ) → All (λ n. (atom_numbered p n).graph ≡ j / 4) (numbers_in p (length p.atoms) j)
-graph_in p j = all_by (λ n. (atom_numbered p n).graph ≡ j / 4) (numbers_in p (length p.atoms) j) (λ n h. (slot_parts (atom_numbered p n) j (in_range p (length p.atoms) j n h).2).0)
+graph_in : (p : Instance) (j : ℕ) → All (λ n. (atom_numbered p n).graph ≡ j / 5) (numbers_in p (length p.atoms) j)
+graph_in p j = all_by (λ n. (atom_numbered p n).graph ≡ j / 5) (numbers_in p (length p.atoms) j) (λ n h. (slot_parts (atom_numbered p n) j (in_range p (length p.atoms) j n h).2).0)
 
-pub numbers_are : (covers : Predicate → Bool) (p : Instance) (j k : ℕ) → j % 4 ≡ k → ((q : Predicate) → kind_index q ≡ k → IsTrue (covers q)) → AreNumbersOf covers p (j / 4) (numbers_in p (length p.atoms) j)
+pub numbers_are : (covers : Predicate → Bool) (p : Instance) (j k : ℕ) → j % 5 ≡ k → ((q : Predicate) → kind_index q ≡ k → IsTrue (covers q)) → AreNumbersOf covers p (j / 5) (numbers_in p (length p.atoms) j)
 numbers_are covers p j k is of_kind = record {
   held = held_in p j;
   graph = graph_in p j;
@@ -163,10 +177,10 @@ exact_made p j ok =
     let held = held_in p j i d lt in
     ap (numbered p.atoms) (own_number p n ok held) ∙ numbered_is p n held.0 held.1)
 
-graphs_made : (p : Instance) (j : ℕ) → All (λ x. graph_at p (j / 4) ≡ graph_at p x.graph) (made_of p j (numbers_in p (length p.atoms) j)).atoms
+graphs_made : (p : Instance) (j : ℕ) → All (λ x. graph_at p (j / 5) ≡ graph_at p x.graph) (made_of p j (numbers_in p (length p.atoms) j)).atoms
 graphs_made p j =
     let ns : List ℕ = numbers_in p (length p.atoms) j in
-    All-map (λ (x : Atom). graph_at p (j / 4) ≡ graph_at p x.graph) (atom_numbered p) ns (λ i d lt. ap (graph_at p) (sym (graph_in p j i d lt)))
+    All-map (λ (x : Atom). graph_at p (j / 5) ≡ graph_at p x.graph) (atom_numbered p) ns (λ i d lt. ap (graph_at p) (sym (graph_in p j i d lt)))
 
 -- ---- one slot after the other
 

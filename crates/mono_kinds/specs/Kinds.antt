@@ -10,15 +10,18 @@ graph_of (any.Reach t) = t.graph
 graph_of (any.Distance t) = t.graph
 graph_of (any.Flow t) = t.graph
 graph_of (any.Tree t) = t.graph
+graph_of (any.Acyclic t) = t.graph
 
 abbrev pub atoms_of : AnyTheory → List Atom
 atoms_of (any.Reach t) = t.atoms
 atoms_of (any.Distance t) = t.atoms
 atoms_of (any.Flow t) = t.atoms
 atoms_of (any.Tree t) = t.atoms
+atoms_of (any.Acyclic t) = t.atoms
 
 abbrev pub seen_of : AnyTheory → List ℤ
 seen_of (any.Reach t) = t.seen
 seen_of (any.Distance t) = t.seen
 seen_of (any.Flow t) = t.seen
 seen_of (any.Tree t) = t.seen
+seen_of (any.Acyclic t) = t.seen

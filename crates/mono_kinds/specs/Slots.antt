@@ -15,13 +15,14 @@ kind_index (kind.Steps u v most) = 1
 kind_index (kind.Distance u v most) = 1
 kind_index (kind.Flow s t least) = 2
 kind_index (kind.Tree most) = 3
+kind_index kind.Acyclic = 4
 
 -- the slot of an atom: each graph has one for each kind
 abbrev pub slot_of : Atom → ℕ
-slot_of x = 4 * x.graph + kind_index x.predicate
+slot_of x = 5 * x.graph + kind_index x.predicate
 
 abbrev pub slot_count : Instance → ℕ
-slot_count p = 4 * length p.graphs
+slot_count p = 5 * length p.graphs
 
 -- of the first m atoms, the numbers of those in the slot
 abbrev pub numbers_in : Instance → ℕ → ℕ → List ℕ
@@ -34,7 +35,7 @@ pub record AreSlots (p : Instance) (m : ℕ) (lists : List (List ℕ)) : Type 0 
 
 -- the theory of a slot, which has seen nothing
 abbrev pub made_of : Instance → ℕ → List ℕ → Facts
-made_of p j ns = record { graph = graph_at p (j / 4); atoms = map (atom_numbered p) ns; seen = [] }
+made_of p j ns = record { graph = graph_at p (j / 5); atoms = map (atom_numbered p) ns; seen = [] }
 
 -- the theories of the first j slots: each atom there is one theory's
 pub record AreMade (p : Instance) (j : ℕ) (fs : List Facts) : Type 0 where

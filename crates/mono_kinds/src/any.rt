@@ -1,5 +1,6 @@
 //! A theory of any kind, chosen at run time.
 
+use mono_acyclic::AcyclicTheory;
 use mono_base::Lit;
 use mono_distance::DistanceTheory;
 use mono_flow::FlowTheory;
@@ -20,6 +21,8 @@ pub enum AnyTheory {
     Flow(FlowTheory),
     /// Predicates on spanning trees.
     Tree(TreeTheory),
+    /// Predicates on cycles.
+    Acyclic(AcyclicTheory),
 }
 
 /// One call of the theory, whatever its kind.
@@ -30,6 +33,7 @@ macro_rules! each {
             AnyTheory::Distance($theory) => $call,
             AnyTheory::Flow($theory) => $call,
             AnyTheory::Tree($theory) => $call,
+            AnyTheory::Acyclic($theory) => $call,
         }
     };
 }
@@ -47,8 +51,12 @@ impl Theory for AnyTheory {
         each!(self, theory => theory.concerns(var))
     }
 
-    fn variables(&self) -> &[u32] {
+    fn variables(&self) -> Option<&[u32]> {
         each!(self, theory => theory.variables())
+    }
+
+    fn prefers(&self, var: u32) -> bool {
+        each!(self, theory => theory.prefers(var))
     }
 
     fn seen(&self) -> usize {

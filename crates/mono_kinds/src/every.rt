@@ -7,6 +7,7 @@ ghost use Rattle.mono_kinds.specs.Slots.{AreMade, AreSlots, made_of, numbers_in,
 
 use crate::AnyTheory;
 use crate::slots::{slot_count, slots_of};
+use mono_acyclic::AcyclicTheory;
 use mono_distance::DistanceTheory;
 use mono_flow::FlowTheory;
 use mono_graph::Buckets;
@@ -26,8 +27,8 @@ fn theory_of(
     requires numbers { numbers.now ≡ numbers_in problem.now (length problem.now.atoms) slot }
     ensures { IfOk result (λ t. fact_of graph_of atoms_of seen_of t ≡ made_of problem.now slot numbers.now) }
 {
-    let graph = slot / 4;
-    let kind = slot % 4;
+    let graph = slot / 5;
+    let kind = slot % 5;
     if kind == 0 {
         let theory = ReachTheory::new(alloc, problem, graph, numbers)?;
         return Ok(AnyTheory::Reach(theory));
@@ -40,8 +41,12 @@ fn theory_of(
         let theory = FlowTheory::new(alloc, problem, graph, numbers)?;
         return Ok(AnyTheory::Flow(theory));
     }
-    let theory = TreeTheory::new(alloc, problem, graph, numbers)?;
-    Ok(AnyTheory::Tree(theory))
+    if kind == 3 {
+        let theory = TreeTheory::new(alloc, problem, graph, numbers)?;
+        return Ok(AnyTheory::Tree(theory));
+    }
+    let theory = AcyclicTheory::new(alloc, problem, graph, numbers)?;
+    Ok(AnyTheory::Acyclic(theory))
 }
 
 /// The theories of the slots that have an atom.

@@ -10,7 +10,7 @@ use std::alloc::{AllocError, Global};
 /// The number of a predicate's kind.
 fn kind_index(predicate: Predicate) -> u32
     ensures kind { result ≡ index_of_kind predicate }
-    ensures few { result < 4 }
+    ensures few { result < 5 }
 {
     match predicate {
         Predicate::Reach { .. } => 0,
@@ -18,6 +18,7 @@ fn kind_index(predicate: Predicate) -> u32
         Predicate::Distance { .. } => 1,
         Predicate::Flow { .. } => 2,
         Predicate::Tree { .. } => 3,
+        Predicate::Acyclic => 4,
     }
 }
 
@@ -26,7 +27,7 @@ fn slot_of(atom: Atom) -> u32
     requires { atom.graph < 1024 }
     ensures { result ≡ slot_by atom }
 {
-    4 * atom.graph + kind_index(atom.predicate)
+    5 * atom.graph + kind_index(atom.predicate)
 }
 
 /// How many slots there are.
@@ -34,7 +35,7 @@ pub(crate) fn slot_count(problem: &Problem) -> u32
     ensures { result ≡ count_of_slots problem.now }
 {
     let _ = problem.vars();
-    4 * problem.graph_count()
+    5 * problem.graph_count()
 }
 
 /// The numbers of the atoms of each slot, in order.

@@ -11,7 +11,6 @@ ghost use Rattle.mono_graph.specs.Walks.{is_labelling as is_labelling_of, bound_
 ghost use Rattle.mono_paths.specs.Found.{HasBound};
 ghost use Rattle.mono_paths.specs.Listed.{nodes_listed, label_in, is_calm, is_calm_around};
 
-use crate::spread::cost_of;
 use crate::table::LabelTable;
 use mono_graph::{Graph, Label, Limit, Part};
 
@@ -29,7 +28,7 @@ fn is_calm(graph: &Graph, part: &Part, limit: Limit, table: &LabelTable, place: 
     let edge = graph.edge(place);
     let start = table.label(edge.from);
     let end = table.label(edge.to);
-    end <= start || end - start <= cost_of(limit, edge)
+    end <= start || end - start <= limit.cost_of(edge)
 }
 
 /// Whether so it is at all of these edges.

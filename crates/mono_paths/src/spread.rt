@@ -8,19 +8,8 @@ ghost use Rattle.mono_paths.specs.Spread.{IsSpread, AreLabels, Lowers, label_of,
 
 use crate::labels::Labels;
 use crate::visit::Visit;
-use mono_graph::{Edge, Graph, Limit, Part};
+use mono_graph::{Graph, Limit, Part};
 use std::alloc::AllocError;
-
-/// What an edge counts towards the limit.
-pub fn cost_of(limit: Limit, edge: Edge) -> u64
-    ensures { result ≡ cost_by limit edge }
-{
-    match limit {
-        Limit::Free => 0,
-        Limit::Steps(_) => 1,
-        Limit::Weight(_) => edge.weight,
-    }
-}
 
 /// Lowers the label of the node to which the edge at the place leads, where that edge asks for it. Whether it did.
 fn relax(
@@ -47,7 +36,7 @@ fn relax(
     let edge = graph.edge(place);
     let cost = visits[at].cost;
     let label = labels.get(edge.to);
-    let step = cost_of(limit, edge);
+    let step = limit.cost_of(edge);
     if label <= cost || label - cost <= step {
         return Ok(false);
     }

@@ -56,6 +56,7 @@ IsOver-nodes g h same (kind.Steps u v most) o = (omega (arith, o.0), omega (arit
 IsOver-nodes g h same (kind.Distance u v most) o = (omega (arith, o.0), omega (arith, o.1), o.2)
 IsOver-nodes g h same (kind.Flow s t least) o = (omega (arith, o.0), omega (arith, o.1), o.2, o.3)
 IsOver-nodes g h same (kind.Tree most) o = o
+IsOver-nodes g h same kind.Acyclic o = o
 
 -- ---- one more edge
 

@@ -8,17 +8,17 @@ use Rattle.mono_base.proofs.Truth.{pos_true, neg_true}
 use Rattle.mono_graph.specs.Digraph.{Digraph, IsGraph, enabled}
 use Rattle.mono_problem.specs.declared.atom.Atom.{Atom}
 use Rattle.mono_problem.specs.Holds.{Holds}
-use Rattle.mono_problem.specs.Quiet.{under, over, Forces, HasForcedTrue, IsQuietAtom, IsNearlyQuiet, TheoryQuiet}
-use Rattle.mono_problem.proofs.Monotone.{Holds-larger}
+use Rattle.mono_problem.specs.Quiet.{part_to_fail, Forces, HasForcedTrue, IsQuietAtom, IsNearlyQuiet, TheoryQuiet}
+use Rattle.mono_problem.proofs.Monotone.{holds_between, between_holds, part_met}
 use Rattle.mono_problem.proofs.Bounds.{true_by_list, false_by_list, under-enabled, enabled-over, under-decided, over-decided}
 
 pub forced_true : (g : Digraph) (x : Atom) (t : List ℤ) (l : ℤ) (a : ℕ → Bool) → IsGraph g → 0 < x.var → Extends a t → (IsTrue (a x.var) ↔ Holds g (enabled a g) x.predicate)
     → Forces g x t l → IsTrue (lit_true a l)
 forced_true g x t l a ok p e agrees (inl (is, holds)) =
-    subst (λ (m : ℤ). IsTrue (lit_true a m)) (sym is) (pos_true a x.var p ∙ agrees.1 (Holds-larger g (under g t) (enabled a g) (under-enabled g t a ok e) x.predicate holds))
+    subst (λ (m : ℤ). IsTrue (lit_true a m)) (sym is) (pos_true a x.var p ∙ agrees.1 (holds_between g t (enabled a g) x.predicate (record { above = under-enabled g t a ok e; below = enabled-over g t a ok e }) holds))
 forced_true g x t l a ok p e agrees (inr (is, fails)) =
     subst (λ (m : ℤ). IsTrue (lit_true a m)) (sym is) (neg_true a x.var p ∙ not_from_false (a x.var)
-    (false_from_ne_true (a x.var) (λ on. fails (Holds-larger g (enabled a g) (over g t) (enabled-over g t a ok e) x.predicate (agrees.0 on)))))
+    (false_from_ne_true (a x.var) (λ on. fails (between_holds g t (enabled a g) x.predicate (record { above = under-enabled g t a ok e; below = enabled-over g t a ok e }) (agrees.0 on)))))
 
 -- ---- forced literals that are true, and quiet atoms
 
@@ -39,18 +39,18 @@ forced_where_nearly_quiet g t x q l (inr (is, fails)) = subst (λ (m : ℤ). IsT
 pub forced_is_nearly_quiet : (g : Digraph) (atoms : List Atom) (t : List ℤ) → All (HasForcedTrue g t) atoms ↔ All (IsNearlyQuiet g t) atoms
 forced_is_nearly_quiet g atoms t = (λ h k d lt. nearly_quiet g t (get_or atoms k d) (h k d lt), λ h k d lt. forced_where_nearly_quiet g t (get_or atoms k d) (h k d lt))
 
-pub quiet_by_forced : (g : Digraph) (atoms : List Atom) (t : List ℤ) → All (λ x. ¬ ¬ Holds g (over g t) x.predicate → Holds g (over g t) x.predicate) atoms → All (HasForcedTrue g t) atoms → TheoryQuiet g atoms t
+pub quiet_by_forced : (g : Digraph) (atoms : List Atom) (t : List ℤ) → All (λ x. ¬ ¬ Holds g (part_to_fail x.predicate g t) x.predicate → Holds g (part_to_fail x.predicate g t) x.predicate) atoms → All (HasForcedTrue g t) atoms → TheoryQuiet g atoms t
 quiet_by_forced g atoms t stable forced = λ k d lt. by (get_or atoms k d) (stable k d lt) (nearly_quiet g t (get_or atoms k d) (forced k d lt))
   where
-    by : (x : Atom) → (¬ ¬ Holds g (over g t) x.predicate → Holds g (over g t) x.predicate) → IsNearlyQuiet g t x → IsQuietAtom g t x
+    by : (x : Atom) → (¬ ¬ Holds g (part_to_fail x.predicate g t) x.predicate → Holds g (part_to_fail x.predicate g t) x.predicate) → IsNearlyQuiet g t x → IsQuietAtom g t x
     by x holds q = (q.0, λ off. holds (q.1 off))
 
 pub quiet_atom_agrees : (g : Digraph) (t : List ℤ) (a : ℕ → Bool) (x : Atom) → IsGraph g → Extends a t → All (λ e. is_open_in t (pos e.var) ≡ false) g.edges
     → 0 < x.var → is_open_in t (pos x.var) ≡ false → IsQuietAtom g t x → (IsTrue (a x.var) ↔ Holds g (enabled a g) x.predicate)
 quiet_atom_agrees g t a x ok e none p o q = (
-  λ on. subst (λ (P : List Bool). Holds g P x.predicate) (over-decided g t a ok e none)
+  λ on. subst (λ (P : List Bool). Holds g P x.predicate) (part_met g t (enabled a g) x.predicate (under-decided g t a ok e none) (over-decided g t a ok e none)).1
       (q.1 (false_from_ne_true (is_false_in t (pos x.var)) (λ off. both_ways (a x.var) (false_by_list a t x.var e p off) on))),
-  λ holds. true_by_list a t x.var e p (q.0 (subst (λ (P : List Bool). Holds g P x.predicate) (sym (under-decided g t a ok e none)) holds)),
+  λ holds. true_by_list a t x.var e p (q.0 (subst (λ (P : List Bool). Holds g P x.predicate) (sym (part_met g t (enabled a g) x.predicate (under-decided g t a ok e none) (over-decided g t a ok e none)).0) holds)),
 )
 
 pub quiet_atoms_all_agree : (g : Digraph) (atoms : List Atom) (t : List ℤ) (a : ℕ → Bool) → IsGraph g → Extends a t → All (λ e. is_open_in t (pos e.var) ≡ false) g.edges

@@ -22,6 +22,7 @@ IsOver g (kind.Steps u v most) = (u < g.nodes) × (v < g.nodes) × IsMost most
 IsOver g (kind.Distance u v most) = (u < g.nodes) × (v < g.nodes) × IsMost most
 IsOver g (kind.Flow s t least) = (s < g.nodes) × (t < g.nodes) × (s ≢ t) × IsLeast least
 IsOver g (kind.Tree most) = IsMost most
+IsOver g kind.Acyclic = Unit {0}
 
 -- a graph of a problem with so many variables and edges
 pub record IsDeclared (vars edges : ℕ) (g : ℕ × Digraph) : Type 0 where

@@ -15,6 +15,8 @@ pub enum Predicate {
     Flow { source: u32, sink: u32, least: i64 },
     /// A spanning tree weighs at most so much, edges taken without direction.
     Tree { most: i64 },
+    /// No walk of one edge or more leads from a node to itself.
+    Acyclic,
 }
 
 /// A predicate with its variable: the variable is to be true exactly where the predicate holds.

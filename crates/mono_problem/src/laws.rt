@@ -1,8 +1,9 @@
 //! What holds of problems by their definitions.
 //!
-//! A predicate never fails because more edges are present (Bayless et al. 2015). So a list of literals that gives some
-//! variables their values decides a predicate from both sides: it holds whatever the other variables are where it holds
-//! with the edges that are surely present, and fails where it fails with those that are possibly present.
+//! A predicate that rises never fails because more edges are present (Bayless et al. 2015), and one that falls never because
+//! fewer are. So a list of literals that gives some variables their values decides a predicate from both sides: one that
+//! rises holds whatever the other variables are where it holds with the edges that are surely present, and fails where it
+//! fails with those that are possibly present. For one that falls the sides change places.
 
 ghost use Rattle.std.specs.Prelude.{◌≡◌, ℕ, ◌<◌, Bool, false, ◌↔◌, ℤ, pos, List, IsTrue, All};
 ghost use Rattle.mono_base.specs.Literal.{lit_true};
@@ -10,12 +11,13 @@ ghost use Rattle.mono_base.specs.Partial.{Extends, is_open_in};
 ghost use Rattle.mono_graph.specs.Digraph.{Digraph, IsGraph, IsSubpart, enabled};
 ghost use Rattle.mono_problem.specs.declared.atom.Atom.{Atom};
 ghost use Rattle.mono_problem.specs.declared.atom.Predicate.{Predicate};
-ghost use Rattle.mono_problem.specs.Holds.{Holds};
-ghost use Rattle.mono_problem.specs.Quiet.{under, over, Forces, HasForcedTrue, IsNearlyQuiet, TheoryQuiet};
+ghost use Rattle.mono_problem.specs.Holds.{Holds, falls};
+ghost use Rattle.mono_problem.specs.Quiet.{under, over, part_to_fail, Forces, HasForcedTrue, IsNearlyQuiet, TheoryQuiet};
 
-/// Predicates are monotonic: one that holds in a part holds in each larger part.
+/// Predicates are monotonic: one that rises holds in each larger part where it holds in a part, and one that falls in each smaller part.
 pub fn predicates_are_monotonic()
-    ensures { (g : Digraph) (P Q : List Bool) → IsSubpart P Q → (q : Predicate) → Holds g P q → Holds g Q q }
+    ensures rising { (g : Digraph) (P Q : List Bool) → IsSubpart P Q → (q : Predicate) → falls q ≡ false → Holds g P q → Holds g Q q }
+    ensures falling { (g : Digraph) (P Q : List Bool) → IsSubpart P Q → (q : Predicate) → IsTrue (falls q) → Holds g Q q → Holds g P q }
 {}
 
 /// Where an assignment extends a list of literals, each surely present edge is enabled, and each enabled edge is possibly
@@ -42,7 +44,7 @@ pub fn forced_literals_are_true()
 pub fn quiet_atoms_force_nothing_more()
     ensures forced { (g : Digraph) (atoms : List Atom) (t : List ℤ) → TheoryQuiet g atoms t → All (HasForcedTrue g t) atoms }
     ensures nearly { (g : Digraph) (atoms : List Atom) (t : List ℤ) → All (HasForcedTrue g t) atoms ↔ All (IsNearlyQuiet g t) atoms }
-    ensures quiet { (g : Digraph) (atoms : List Atom) (t : List ℤ) → All (λ x. ¬ ¬ Holds g (over g t) x.predicate → Holds g (over g t) x.predicate) atoms → All (HasForcedTrue g t) atoms → TheoryQuiet g atoms t }
+    ensures quiet { (g : Digraph) (atoms : List Atom) (t : List ℤ) → All (λ x. ¬ ¬ Holds g (part_to_fail x.predicate g t) x.predicate → Holds g (part_to_fail x.predicate g t) x.predicate) atoms → All (HasForcedTrue g t) atoms → TheoryQuiet g atoms t }
 {}
 
 /// Where the variables of all edges and of the atoms have values in a list, and no atom forces anything beyond it, the

@@ -119,6 +119,7 @@ reach_holds g P (kind.Steps u v most) r w = absurd cc
 reach_holds g P (kind.Distance u v most) r w = absurd cc
 reach_holds g P (kind.Flow u v least) r w = absurd cc
 reach_holds g P (kind.Tree most) r w = absurd cc
+reach_holds g P kind.Acyclic r w = absurd cc
 
 pub holds_reach : (g : Digraph) (P : List Bool) (q : Predicate) → IsTrue (is_reach q) → Holds g P q → (ks : List ℕ) × IsTrue (is_walk g P (first_node q) (last_node q) ks)
 holds_reach g P (kind.Reach u v) r w = (w.0, (and_parts (is_walk g P u v w.0) true w.1).0)
@@ -126,6 +127,7 @@ holds_reach g P (kind.Steps u v most) r w = absurd cc
 holds_reach g P (kind.Distance u v most) r w = absurd cc
 holds_reach g P (kind.Flow u v least) r w = absurd cc
 holds_reach g P (kind.Tree most) r w = absurd cc
+holds_reach g P kind.Acyclic r w = absurd cc
 
 decides_by : (g : Digraph) (P : List Bool) (q : Predicate) (b : Bool) → (IsTrue b → Holds g P q) → (b ≡ false → ¬ Holds g P q) → Decides g P q b
 decides_by g P q true yes_holds no_holds = yes_holds refl
@@ -221,6 +223,7 @@ walk_shows_it g P (kind.Steps u v most) ks graph r w = absurd cc
 walk_shows_it g P (kind.Distance u v most) ks graph r w = absurd cc
 walk_shows_it g P (kind.Flow u v least) ks graph r w = absurd cc
 walk_shows_it g P (kind.Tree most) ks graph r w = absurd cc
+walk_shows_it g P kind.Acyclic ks graph r w = absurd cc
 
 -- a node has a number of literals exactly where it is reached
 pub mark_is : {f : Facts} {s : SureMarks} (n a v : ℕ) (o : Option ℕ) → a < length f.atoms → AreMarks f n s → ((m : ℕ) → is_reached (within m (row_at s.rows (row_of_atom s a)).arrivals) v ≡ is_by o m) → is_some o ≡ under_mark s a v

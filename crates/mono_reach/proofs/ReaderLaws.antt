@@ -30,12 +30,13 @@ use Rattle.mono_theory.specs.Stages.{NoneWaits, shows, stage_at}
 use Rattle.mono_theory.specs.Supports.{GraphTheoryView, IsKeptBy, IsSide, SideView, StageIs, atom_at, facts_in, part_of}
 use Rattle.mono_theory.specs.Theories.{Facts}
 use Rattle.mono_theory.proofs.PartLaws.{part_len}
-use Rattle.mono_theory.proofs.SoundLaws.{sound_decides}
+use Rattle.mono_theory.proofs.SoundLaws.{rising_decides, rising_sign}
 use Rattle.mono_reach.specs.Marks.{SureMarks, AreMarksOf, first_node, last_node, under_mark}
 use Rattle.mono_reach.specs.Readings.{found_mark, in_cut, in_kept_cut, marks_at, over_mark, sure_mark}
 use Rattle.mono_reach.specs.declared.marks.Marks.{Marks}
 use Rattle.mono_reach.specs.Reaches.{is_reach}
 use Rattle.mono_reach.proofs.MarkLaws.{holds_reach, marked_walk, marks_decide, marks_in}
+use Rattle.mono_reach.proofs.ReachLaws.{reach_rises}
 
 -- ---- with the surely present edges
 
@@ -55,11 +56,11 @@ row_walk {f = f} {s = s} a v b lt h is on = marked_walk s.looked a v h.looked lt
 -- a walk that was found leads to the last node
 pub found_walk : (g : Digraph) (P : List Bool) (q : Predicate) (w : Witness) (v : ℕ) → IsTrue (is_reach q) → IsWitnessIn g P q true w → v ≡ last_node q → (walk : List ℕ) × IsTrue (is_walk g P (first_node q) v walk)
 found_walk g P q w v r h last =
-    let found = holds_reach g P q r (positive_holds g P q w h.sign h.passes) in
+    let found = holds_reach g P q r (positive_holds g P q w (rising_sign g P q w true (reach_rises q r) h.rests h.passes) h.passes) in
     (found.0, subst (λ (u : ℕ). IsTrue (is_walk g P (first_node q) u found.0)) (sym last) found.1)
 
-pub found_decides : (g : Digraph) (P : List Bool) (q : Predicate) (w : Witness) (v : ℕ) → IsWitnessIn g P q true w → v ≡ last_node q → Decides g P q (eqb v (last_node q))
-found_decides g P q w v h last = subst (Decides g P q) (sym (eq-eqb v (last_node q) last)) (positive_holds g P q w h.sign h.passes)
+pub found_decides : (g : Digraph) (P : List Bool) (q : Predicate) (w : Witness) (v : ℕ) → IsTrue (is_reach q) → IsWitnessIn g P q true w → v ≡ last_node q → Decides g P q (eqb v (last_node q))
+found_decides g P q w v r h last = subst (Decides g P q) (sym (eq-eqb v (last_node q) last)) (positive_holds g P q w (rising_sign g P q w true (reach_rises q r) h.rests h.passes) h.passes)
 
 -- ---- with the possibly present edges
 
@@ -77,27 +78,33 @@ cut_fails g P (kind.Reach u t) (by.FlowCut us) v r h out walk = absurd cc
 cut_fails g P (kind.Reach u t) (by.Tree es) v r h out walk = absurd cc
 cut_fails g P (kind.Reach u t) (by.Split us) v r h out walk = absurd cc
 cut_fails g P (kind.Reach u t) (by.Least es) v r h out walk = absurd cc
+cut_fails g P (kind.Reach u t) (by.Cycle es) v r h out walk = absurd cc
+cut_fails g P (kind.Reach u t) (by.Order us) v r h out walk = absurd cc
 cut_fails g P (kind.Steps u t most) w v r h out walk = absurd cc
 cut_fails g P (kind.Distance u t most) w v r h out walk = absurd cc
 cut_fails g P (kind.Flow u t least) w v r h out walk = absurd cc
 cut_fails g P (kind.Tree most) w v r h out walk = absurd cc
+cut_fails g P kind.Acyclic w v r h out walk = absurd cc
 
 -- the last node isn't in it
 cut_lacks_last : (g : Digraph) (P : List Bool) (q : Predicate) (w : Witness) → IsTrue (is_reach q) → IsWitnessIn g P q false w → in_cut w (last_node q) ≡ false
 cut_lacks_last g P (kind.Reach u t) (by.Cut us) r h =
     let both = and_parts (has us u && not (has us t)) (list_all (λ k. not (present P k && leads_out us (edge_at g k))) (places g)) h.passes in
     not-true (has us t) (and_parts (has us u) (not (has us t)) both.0).1
-cut_lacks_last g P (kind.Reach u t) (by.Path es) r h = absurd (let s = h.sign in cc)
+cut_lacks_last g P (kind.Reach u t) (by.Path es) r h = absurd (let s = h.rests in cc)
 cut_lacks_last g P (kind.Reach u t) (by.Label ls) r h = absurd (let s = h.passes in cc)
 cut_lacks_last g P (kind.Reach u t) (by.Flow ms) r h = absurd (let s = h.passes in cc)
 cut_lacks_last g P (kind.Reach u t) (by.FlowCut us) r h = absurd (let s = h.passes in cc)
 cut_lacks_last g P (kind.Reach u t) (by.Tree es) r h = absurd (let s = h.passes in cc)
 cut_lacks_last g P (kind.Reach u t) (by.Split us) r h = absurd (let s = h.passes in cc)
 cut_lacks_last g P (kind.Reach u t) (by.Least es) r h = absurd (let s = h.passes in cc)
+cut_lacks_last g P (kind.Reach u t) (by.Cycle es) r h = absurd (let s = h.passes in cc)
+cut_lacks_last g P (kind.Reach u t) (by.Order us) r h = absurd (let s = h.passes in cc)
 cut_lacks_last g P (kind.Steps u t most) w r h = absurd cc
 cut_lacks_last g P (kind.Distance u t most) w r h = absurd cc
 cut_lacks_last g P (kind.Flow u t least) w r h = absurd cc
 cut_lacks_last g P (kind.Tree most) w r h = absurd cc
+cut_lacks_last g P kind.Acyclic w r h = absurd cc
 
 pub shown_decides : (g : Digraph) (P : List Bool) (q : Predicate) (w : Witness) (v : ℕ) → IsTrue (is_reach q) → IsWitnessIn g P q false w → v ≡ last_node q → Decides g P q (in_cut w v)
 shown_decides g P q w v r h last =
@@ -110,11 +117,11 @@ stands_by stage.Stands waits shown = refl
 stands_by (stage.Shows m) waits shown = absurd cc
 
 -- where nothing is shown of it and it doesn't wait, its support decides the predicate
-pub unshown_decides : {f : Facts} {s : SideView} (possible : Bool) (a : ℕ) → a < length f.atoms → IsGraph f.graph → IsOver f.graph (atom_at f.atoms a).predicate → IsSide f possible s → NoneWaits s.stages → shows (stage_at s.stages a) ≡ false
+pub unshown_decides : {f : Facts} {s : SideView} (possible : Bool) (a : ℕ) → a < length f.atoms → IsGraph f.graph → IsTrue (is_reach (atom_at f.atoms a).predicate) → IsOver f.graph (atom_at f.atoms a).predicate → IsSide f possible s → NoneWaits s.stages → shows (stage_at s.stages a) ≡ false
     → Decides f.graph (part_of f.graph f.seen possible) (atom_at f.atoms a).predicate possible
-unshown_decides {f = f} {s = s} possible a lt graph known h none shown =
+unshown_decides {f = f} {s = s} possible a lt graph r known h none shown =
     let stood = stands_by (stage_at s.stages a) (none a stage.Waits (subst (λ (n : ℕ). a < n) (sym h.stages_len) lt)) shown in
-    sound_decides f.graph (part_of f.graph f.seen possible) (atom_at f.atoms a).predicate possible (evidence_at s.supports a) graph known (part_len f.graph f.seen possible) (h.supports.each a lt)
+    rising_decides f.graph (part_of f.graph f.seen possible) (atom_at f.atoms a).predicate possible (evidence_at s.supports a) (reach_rises (atom_at f.atoms a).predicate r) graph known (part_len f.graph f.seen possible) (h.supports.each a lt)
     (subst (StageIs f possible s a) stood (h.right a lt))
 
 -- ---- what is known of a node

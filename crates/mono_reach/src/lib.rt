@@ -5,6 +5,8 @@
 pub mod laws;
 /// What is known of a node.
 mod marks;
+/// The cut nearest to a walk's last node.
+mod nearest;
 /// Predicates of reachability.
 mod reach;
 /// What is reached along the surely present edges.

@@ -1,12 +1,16 @@
 //! Predicates of reachability: a walk shows that one holds, a set of nodes that it fails.
 //!
 //! Both come from one search, breadth first from the predicate's first node. A walk rests on its edges. A set rests on the
-//! absent edges that leave it.
+//! absent edges that leave it. Of two sets, the one nearest to the first node and the one nearest to the last, it is the
+//! one that rests on fewer.
 
-ghost use Rattle.std.specs.Prelude.{◌≡◌, ◌<◌, All, IfOk};
+ghost use Rattle.std.specs.Prelude.{◌≡◌, ◌<◌, All, IfOk, IsTrue};
 ghost use Rattle.mono_graph.specs.Digraph.{IsPartOf};
+ghost use Rattle.mono_graph.specs.Walks.{is_cut};
+ghost use Rattle.mono_theory.specs.Evidences.{IsEvidence};
 ghost use Rattle.mono_reach.specs.Reaches.{cut_evidence as cut_evidence_of};
 
+use crate::nearest::widened_for;
 use crate::reached_rows::ReachedRows;
 use mono_base::Row;
 use mono_graph::{Graph, Part};
@@ -57,6 +61,47 @@ fn cut_evidence(
     })
 }
 
+/// The evidence that a set is which has `from` and lacks `to`, and which no present edge leaves: this one, or the one
+/// nearest to `to`, whichever rests on fewer edges.
+fn least_cut(
+    alloc: Global,
+    finder: &mut WalkFinder,
+    marks: &mut NodeMarks,
+    graph: &Graph,
+    part: &Part,
+    from: u32,
+    to: u32,
+    nodes: Vec<u32>,
+) -> Result<Evidence, AllocError>
+    requires finder { finder.old ≡ graph.now.nodes }
+    requires marks { marks.old ≡ graph.now.nodes }
+    requires part { IsPartOf part.now graph.now }
+    requires from { from < graph.now.nodes }
+    requires to { to < graph.now.nodes }
+    requires nodes { All (λ u. u < graph.now.nodes) nodes.items }
+    requires cut { IsTrue (is_cut graph.now part.now from to nodes.items) }
+    ensures finder { finder.new ≡ finder.old }
+    ensures marks { marks.new ≡ marks.old }
+    ensures evidence { IfOk result (IsEvidence graph.now part.now (Predicate.Reach from to)) }
+{
+    let near = cut_evidence(alloc, marks, graph, part, nodes)?;
+    if near.edges.as_slice().len() < 2 {
+        return Ok(near);
+    }
+    let wide = widened_for(alloc, graph, part, to)?;
+    match finder.find_path(graph, &wide, from, to)? {
+        PathOrCut::Path(_) => Ok(near),
+        PathOrCut::Cut(others) => {
+            let far = cut_evidence(alloc, marks, graph, &wide, others)?;
+            if far.edges.as_slice().len() < near.edges.as_slice().len() {
+                Ok(far)
+            } else {
+                Ok(near)
+            }
+        }
+    }
+}
+
 impl Kind for Reach {
     ghost use Rattle.std.specs.Prelude.{true};
     ghost use Rattle.mono_reach.specs.Reaches.{is_reach};
@@ -68,6 +113,8 @@ impl Kind for Reach {
     const IS_THOROUGH: bool = true;
 
     ghost IS_THOROUGH = { true };
+
+    const FOLLOWS_WITNESS: bool = true;
 
     fn with_nodes(alloc: Global, count: u32) -> Result<Self, AllocError> {
         let finder = WalkFinder::new(alloc, count)?;
@@ -88,7 +135,16 @@ impl Kind for Reach {
         };
         match self.finder.find_path(graph, part, from, to)? {
             PathOrCut::Path(places) => walk_evidence(alloc, graph, places),
-            PathOrCut::Cut(nodes) => cut_evidence(alloc, &mut self.marks, graph, part, nodes),
+            PathOrCut::Cut(nodes) => least_cut(
+                alloc,
+                &mut self.finder,
+                &mut self.marks,
+                graph,
+                part,
+                from,
+                to,
+                nodes,
+            ),
         }
     }
 }

@@ -154,7 +154,7 @@ impl Rows<Reach> for ReachedRows {
         self.rows.undo_to(kept as u32);
     }
 
-    fn holds(&self, frame: &Frame, looked: usize, place: usize) -> bool {
+    fn shows(&self, frame: &Frame, looked: usize, place: usize) -> bool {
         let atom = frame.atom_at(place);
         let (_, to) = ends_of(atom.predicate);
         self.is_marked(frame, looked, place, to)

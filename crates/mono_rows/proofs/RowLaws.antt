@@ -1,17 +1,21 @@
 -- Rows and what is known of the atoms stay right while literals come, are looked at and go.
-use Rattle.std.proofs.Common.{◌≡◌, ℕ, ◌+◌, ◌<◌, ◌≤◌, Bool, true, false, cond, List, [], ◌∷◌, ◌++◌, length, take, get_or, refl, sym, subst, inl, inr, arith, ℤ, pos, int_lt, take-take}
-use Rattle.std.specs.Prelude.{IsTrue}
+use Rattle.std.proofs.Common.{◌≡◌, ℕ, ◌+◌, ◌<◌, ◌≤◌, Bool, true, false, not, cond, List, [], ◌∷◌, ◌++◌, length, take, get_or, refl, sym, subst, inl, inr, arith, ℤ, pos, int_lt, take-take}
+use Rattle.std.specs.Prelude.{IsTrue, Some}
 use Rattle.std.proofs.lemmas.Bool.{cases_lt}
 use Rattle.std.proofs.lemmas.List.{length-append, length-take-le, take_all, take-append-le}
 use Rattle.mono_base.specs.Literal.{is_lit}
-use Rattle.mono_base.specs.Partial.{is_partial}
+use Rattle.mono_base.specs.Partial.{is_partial, is_true_in, is_false_in}
 use Rattle.mono_problem.specs.declared.atom.Predicate.{Predicate}
-use Rattle.mono_problem.specs.Holds.{Holds}
-use Rattle.mono_problem.specs.Quiet.{under}
+use Rattle.mono_problem.specs.Holds.{Holds, falls}
+use Rattle.mono_problem.specs.Quiet.{under, over}
+use Rattle.mono_problem.specs.declared.atom.Atom.{Atom}
+use Rattle.mono_graph.specs.Digraph.{Digraph}
 use Rattle.mono_theory.specs.Bound.{Bound, edge_vars, assigned, unassigned, IsBoundOf}
-use Rattle.mono_theory.specs.Evidences.{Decides}
+use Rattle.mono_steps.specs.Switching.{literal_of}
+use Rattle.mono_theory.specs.Evidences.{Decides, shown_by}
 use Rattle.mono_theory.specs.Supports.{AllQuiet, atom_at}
-use Rattle.mono_theory.specs.Theories.{Facts, seeing, cut_to}
+use Rattle.mono_theory.specs.Theories.{Facts, seeing, cut_to, atom_of, IsForced}
+use Rattle.mono_theory.proofs.TheoryLaws.{overdue_is_forced, barred_is_forced}
 use Rattle.mono_theory.proofs.FrameLaws.{one_on, one_back}
 use Rattle.mono_rows.specs.RowSides.{RowsView, AreRowsFor, OwesNothing}
 use Rattle.mono_rows.proofs.SureLaws.{settled_later, sure_still}
@@ -61,7 +65,7 @@ rows_back {R = R} {covers = covers} {are_right = are_right} {f = f} {s = s} kept
 owes_still : (f : Facts) (n : ℕ) (l : ℤ) (a : ℕ) → n < length f.seen → get_or f.seen n l ≡ l → IsTrue (is_lit l) → int_lt (pos 0) l ≡ false → OwesNothing f.graph (take n f.seen) (atom_at f.atoms a) → OwesNothing f.graph (take (n + 1) f.seen) (atom_at f.atoms a)
 owes_still f n l a lt at lit down h = elim h [
   | inl settled ↦ inl (settled_later f.seen n (n + 1) (atom_at f.atoms a) (omega arith) settled)
-  | inr fails ↦ inr (subst (λ (P : List Bool). ¬ Holds f.graph P (atom_at f.atoms a).predicate) (sym (sure_still f n l lt at lit down)) fails)
+  | inr fails ↦ inr (subst (λ (P : List Bool). Decides f.graph P (atom_at f.atoms a).predicate (shown_by (atom_at f.atoms a).predicate false)) (sym (sure_still f n l lt at lit down)) fails)
 ]
 
 quiet_few : (up : Bool) (n m : ℕ) → n ≤ m → cond up 0 n ≤ m
@@ -114,8 +118,19 @@ rows_quiet {f = f} {s = s} lt now h = record {
 }
 
 -- what holds with the edges of all literals looked at holds with those of all literals seen
-pub all_hold : (f : Facts) (n : ℕ) (q : Predicate) (b : Bool) → n ≡ length f.seen → b ≡ true → Decides f.graph (under f.graph (take n f.seen)) q b → Holds f.graph (under f.graph f.seen) q
-all_hold f n q b e is h = subst (λ (t : List ℤ). Holds f.graph (under f.graph t) q) (take_all n f.seen (omega (arith, e))) (subst (Decides f.graph (under f.graph (take n f.seen)) q) is h)
+pub all_hold : (f : Facts) (n : ℕ) (q : Predicate) (b : Bool) → n ≡ length f.seen → b ≡ true → Decides f.graph (under f.graph (take n f.seen)) q (shown_by q b) → Decides f.graph (under f.graph f.seen) q (shown_by q true)
+all_hold f n q b e is h = subst (λ (t : List ℤ). Decides f.graph (under f.graph t) q (shown_by q true)) (take_all n f.seen (omega (arith, e))) (subst (λ (c : Bool). Decides f.graph (under f.graph (take n f.seen)) q (shown_by q c)) is h)
+
+-- what the surely present edges show of an atom forces its literal
+pub due_forces : (g : Digraph) (atoms : List Atom) (t : List ℤ) (x : Atom) → atom_of atoms x.number ≡ Some x → Decides g (under g t) x.predicate (shown_by x.predicate true) → is_true_in t (literal_of (shown_by x.predicate true) x.var) ≡ false
+    → IsForced g atoms t x.number (literal_of (shown_by x.predicate true) x.var)
+due_forces g atoms t x found d missing = by (falls x.predicate) (λ holds off. overdue_is_forced g atoms t x found (holds, off)) (λ fails off. barred_is_forced g atoms t x found (fails, off)) d missing
+  where
+    by : (f : Bool) → (Holds g (cond f (over g t) (under g t)) x.predicate → is_true_in t (pos x.var) ≡ false → IsForced g atoms t x.number (literal_of true x.var))
+        → ((¬ Holds g (cond f (under g t) (over g t)) x.predicate) → is_false_in t (pos x.var) ≡ false → IsForced g atoms t x.number (literal_of false x.var))
+        → Decides g (under g t) x.predicate (cond f (not true) true) → is_true_in t (literal_of (cond f (not true) true) x.var) ≡ false → IsForced g atoms t x.number (literal_of (cond f (not true) true) x.var)
+    by false up down d missing = up d missing
+    by true up down d missing = down d missing
 
 -- no atom owes anything
 pub rows_all_quiet : {R : Type 0} {covers : Predicate → Bool} {are_right : R → Facts → Type 0} {f : Facts} {s : RowsView R} → AreRowsFor covers are_right f s → s.looked ≡ length f.seen → length f.atoms ≤ s.quiet → AllQuiet f false

@@ -16,6 +16,8 @@ use Rattle.mono_problem.specs.declared.atom.Atom.{Atom}
 use Rattle.mono_problem.specs.Quiet.{under}
 use Rattle.mono_theory.specs.Bound.{Bound, edge_vars, assigned, IsBoundOf}
 use Rattle.mono_theory.specs.Index.{ArePlacesOf, switched}
+use Rattle.mono_steps.specs.Switching.{literal_of}
+use Rattle.mono_theory.specs.Evidences.{shown_by}
 use Rattle.mono_theory.specs.Supports.{IsSettled}
 use Rattle.mono_theory.specs.Theories.{Facts, seeing, cut_to}
 use Rattle.mono_theory.proofs.FrameLaws.{one_on, under_is}
@@ -119,7 +121,9 @@ cut_length f n le = length-take-le n f.seen le
 
 -- an atom that first literals settle is settled by more
 pub settled_later : (t : List ℤ) (m n : ℕ) (x : Atom) → m ≤ n → IsSettled (take m t) false x → IsSettled (take n t) false x
-settled_later t m n x le h = has_lit-take m (take n t) (pos x.var) (subst (λ (u : List ℤ). IsTrue (has_lit u (pos x.var))) (sym (take-take m n t le)) h)
+settled_later t m n x le h =
+    let l : ℤ = literal_of (shown_by x.predicate true) x.var in
+    has_lit-take m (take n t) l (subst (λ (u : List ℤ). IsTrue (has_lit u l)) (sym (take-take m n t le)) h)
 
 -- ---- walks
 

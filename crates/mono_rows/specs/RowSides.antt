@@ -3,9 +3,9 @@ use Rattle.std.specs.Prelude.{ℕ, ◌<◌, ◌≤◌, ◌⊎◌, Bool, false, �
 use Rattle.mono_graph.specs.Digraph.{Digraph}
 use Rattle.mono_problem.specs.declared.atom.Atom.{Atom}
 use Rattle.mono_problem.specs.declared.atom.Predicate.{Predicate}
-use Rattle.mono_problem.specs.Holds.{Holds}
 use Rattle.mono_problem.specs.Quiet.{under}
 use Rattle.mono_theory.specs.Bound.{Bound, edge_vars, IsBoundOf}
+use Rattle.mono_theory.specs.Evidences.{Decides, shown_by}
 use Rattle.mono_theory.specs.Supports.{AreCovered, IsSettled, atom_at}
 use Rattle.mono_theory.specs.Theories.{Facts, cut_to}
 
@@ -16,9 +16,9 @@ pub record RowsView (R : Type 0) : Type 0 where
   pub rows : R
   pub quiet : ℕ
 
--- the atom's variable is true, or its predicate fails with the surely present edges
+-- the atom's variable says what surely present edges may show of its predicate, or they don't show it
 abbrev pub OwesNothing : Digraph → List ℤ → Atom → Type 0
-OwesNothing g t x = IsSettled t false x ⊎ (¬ Holds g (under g t) x.predicate)
+OwesNothing g t x = IsSettled t false x ⊎ Decides g (under g t) x.predicate (shown_by x.predicate false)
 
 -- The atoms are of the kind, and the rows are right for the literals that were looked at. So are the bounds, and the first
 -- `quiet` atoms owe nothing under these literals.

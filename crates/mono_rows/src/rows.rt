@@ -14,7 +14,7 @@ use std::alloc::{AllocError, Global};
 pub trait Rows<K: Kind>: Drop {
     ghost use Rattle.mono_problem.specs.Quiet.{under};
     ghost use Rattle.mono_theory.specs.Bound.{edge_vars, IsBoundOf};
-    ghost use Rattle.mono_theory.specs.Evidences.{Decides, IsEvidence};
+    ghost use Rattle.mono_theory.specs.Evidences.{Decides, IsEvidence, shown_by};
     ghost use Rattle.mono_theory.specs.Supports.{AreCovered, atom_at};
     ghost use Rattle.mono_theory.specs.Theories.{Facts, cut_to};
 
@@ -53,17 +53,17 @@ pub trait Rows<K: Kind>: Drop {
         requires kept { kept ≤ looked }
         ensures { are_right self.new (cut_to kept frame.now) };
 
-    /// Whether the predicate of the atom at a place holds with the surely present edges of the first `looked` literals. It
-    /// asks for no search.
-    fn holds(&self, frame: &Frame, looked: usize, place: usize) -> bool
+    /// Whether the surely present edges of the first `looked` literals show what such edges may show of the predicate of the atom
+    /// at a place: that it holds, or that it fails if it falls as edges come. It asks for no search.
+    fn shows(&self, frame: &Frame, looked: usize, place: usize) -> bool
         requires right { are_right self.now (cut_to looked frame.now) }
         requires looked { looked ≤ length frame.now.seen }
         requires covered { AreCovered K.covers frame.now.atoms }
         requires place { place < length frame.now.atoms }
-        ensures { Decides frame.now.graph (under frame.now.graph (take looked frame.now.seen)) (atom_at frame.now.atoms place).predicate result };
+        ensures { Decides frame.now.graph (under frame.now.graph (take looked frame.now.seen)) (atom_at frame.now.atoms place).predicate (shown_by (atom_at frame.now.atoms place).predicate result) };
 
-    /// What shows that the predicate of the atom at a place holds with the surely present edges of the first `kept` literals,
-    /// if what is kept shows it.
+    /// What shows that the predicate of the atom at a place holds or fails with the surely present edges of the first `kept`
+    /// literals, if what is kept shows it.
     fn evidence(
         &self,
         alloc: Global,

@@ -3,18 +3,19 @@
 //! The rows are of the literals that were looked at. These are looked at only when an atom's literal is asked for, where
 //! memory may be missing; a literal that comes takes no work before. Going back drops what came with the literals that go.
 
-ghost use Rattle.std.specs.Prelude.{◌≡◌, ◌+◌, ◌<◌, ◌≤◌, ◌^◌, ℕ, false, int_lt, length, min, pos, slice_index_or, take, IfOk, IfSome, IsTrue, OnOk, if◌then◌else◌};
+ghost use Rattle.std.specs.Prelude.{◌≡◌, ◌+◌, ◌<◌, ◌≤◌, ◌^◌, ℕ, false, int_lt, length, min, pos, true, slice_index_or, take, IfOk, IfSome, IsTrue, OnOk, if◌then◌else◌};
 ghost use Rattle.mono_base.specs.Partial.{is_true_in};
-ghost use Rattle.mono_problem.specs.Holds.{Holds};
+ghost use Rattle.mono_steps.specs.Switching.{literal_of};
+ghost use Rattle.mono_theory.specs.Evidences.{Decides, shown_by as shown_by_of};
 ghost use Rattle.mono_problem.specs.Quiet.{under};
 ghost use Rattle.mono_theory.specs.Bound.{edge_vars, IsBoundOf};
-ghost use Rattle.mono_theory.specs.Supports.{SideIs, atom_at};
+ghost use Rattle.mono_theory.specs.Supports.{IsSettled, SideIs, atom_at};
 ghost use Rattle.mono_theory.specs.Theories.{Facts, cut_to, seeing};
 ghost use Rattle.mono_rows.specs.RowSides.{AreRowsFor, OwesNothing};
 
 use crate::Rows;
 use mono_base::Lit;
-use mono_theory::{Bounds, Evidence, Force, Frame, Kind, SureSide, literal};
+use mono_theory::{Bounds, Evidence, Force, Frame, Kind, SureSide, literal, shown_by};
 use std::alloc::{AllocError, Global};
 use std::marker::Model;
 
@@ -128,18 +129,18 @@ fn look<K: Kind, R: Rows<K>>(side: &mut RowsSide<R>, frame: &Frame) -> Result<()
     Ok(())
 }
 
-/// Whether the predicate of the atom at a place holds, but its variable isn't true.
+/// Whether surely present edges show something of the atom at a place that its variable doesn't say.
 fn is_due<K: Kind, R: Rows<K>>(side: &RowsSide<R>, frame: &Frame, place: usize) -> bool
     requires right { AreRowsFor K.covers R.are_right frame.now side.now }
     requires looked { side.now.looked ≡ length frame.now.seen }
     requires place { place < length frame.now.atoms }
-    ensures due { IsTrue result → Holds frame.now.graph (under frame.now.graph frame.now.seen) (atom_at frame.now.atoms place).predicate × (is_true_in frame.now.seen (pos (atom_at frame.now.atoms place).var) ≡ false) }
+    ensures due { IsTrue result → Decides frame.now.graph (under frame.now.graph frame.now.seen) (atom_at frame.now.atoms place).predicate (shown_by_of (atom_at frame.now.atoms place).predicate true) × (is_true_in frame.now.seen (literal_of (shown_by_of (atom_at frame.now.atoms place).predicate true) (atom_at frame.now.atoms place).var) ≡ false) }
     ensures quiet { result ≡ false → OwesNothing frame.now.graph (take side.now.looked frame.now.seen) (atom_at frame.now.atoms place) }
 {
-    if frame.is_true(place) {
+    if frame.is_settled(place, false) {
         return false;
     }
-    side.rows.holds(frame, side.looked, place)
+    side.rows.shows(frame, side.looked, place)
 }
 
 /// What the atoms force that aren't known to owe nothing.
@@ -155,7 +156,7 @@ fn first_due<K: Kind, R: Rows<K>>(side: &mut RowsSide<R>, frame: &Frame) -> Forc
             let atom = frame.atom_at(side.quiet);
             return Force::Literal {
                 atom: atom.number,
-                lit: literal(atom.var, true),
+                lit: literal(atom.var, shown_by(atom.predicate, true)),
             };
         }
         side.pass_atom();
@@ -167,6 +168,8 @@ impl<K: Kind, R: Rows<K>> SureSide<K> for RowsSide<R> {
     ghost use Rattle.mono_rows.specs.RowSides.{AreRowsFor};
 
     ghost is_right = { λ s f. AreRowsFor K.covers R.are_right f s };
+
+    ghost keeps = { λ _ _ s r. r ≡ s };
 
     ghost keeps_back = { λ _ kept s r. r.looked ≡ min s.looked kept };
 

@@ -7,7 +7,7 @@ use Rattle.std.proofs.lemmas.List.{append-nil, take_more, take_all, map-id, leng
 use Rattle.std.proofs.lemmas.List.Folds.{list_any_more, list_any_none}
 use Rattle.std.proofs.lemmas.List.Kept.{AllPairs-from_increasing}
 use Rattle.mono_graph.specs.Digraph.{has}
-use Rattle.std.proofs.lemmas.List.Elements.{filter-append}
+use Rattle.std.proofs.lemmas.List.Elements.{filter-append, All-nil, All-cons}
 use Rattle.mono_base.specs.Literal.{var_of, IsLitWithin}
 use Rattle.mono_base.specs.Partial.{is_open_in}
 use Rattle.mono_theory.specs.Theories.{Facts, concerns_of}
@@ -125,6 +125,19 @@ concerned_kept h n (f ∷ fs) v hg ha =
 
 pub table_kept : (h : Facts → Facts) (vars : ℕ) (fs : List Facts) (table : List (List ℕ)) → ((f : Facts) → (h f).graph ≡ f.graph) → ((f : Facts) → (h f).atoms ≡ f.atoms) → IsConcernTable vars fs table → IsConcernTable vars (map h fs) table
 table_kept h vars fs table hg ha t = record { keys = t.keys; at = λ v low high. t.at v low high ∙ sym (concerned_kept h 0 fs v hg ha) }
+
+-- the places in a list of the table are those of theories
+places_below : (n : ℕ) (fs : List Facts) (v : ℕ) → All (λ i. i < n + length fs) (concerned_from n fs v)
+places_below n [] v = All-nil (λ i. i < n + length {A = Facts} [])
+places_below n (f ∷ fs) v = by (concerns_of f.graph f.atoms v) (λ k d lt. let h = places_below (n + 1) fs v k d lt in omega (arith, h))
+  where
+    by : (b : Bool) → All (λ i. i < n + length (f ∷ fs)) (concerned_from (n + 1) fs v) → All (λ i. i < n + length (f ∷ fs)) (cond b (n ∷ concerned_from (n + 1) fs v) (concerned_from (n + 1) fs v))
+    by true rest = All-cons (λ i. i < n + length (f ∷ fs)) n (concerned_from (n + 1) fs v) (omega arith) rest
+    by false rest = rest
+
+pub listed_below : (vars : ℕ) (fs : List Facts) (table : List (List ℕ)) (v n : ℕ) (ps : List ℕ) → IsConcernTable vars fs table → 1 ≤ v → v ≤ vars → length fs ≡ n → ps ≡ get_or table v [] → All (λ i. i < n) ps
+listed_below vars fs table v n ps t low high len is =
+    subst (All (λ i. i < n)) (sym (is ∙ t.at v low high)) (λ k d lt. let h = places_below 0 fs v k d lt in omega (arith, h, len))
 
 -- the list of the table for a literal
 pub listed : (vars : ℕ) (fs : List Facts) (table : List (List ℕ)) (lits : List ℤ) (i v : ℕ) (l : ℤ) (ps : List ℕ) → All (IsLitWithin vars) lits → IsConcernTable vars fs table → i < length lits → l ≡ get_or lits i l → v ≡ var_of l → ps ≡ get_or table v [] → ps ≡ concerned_from 0 fs (var_of l)

@@ -89,12 +89,14 @@ decided_moved b t u s steps o r l v q leaves var e sound = subst (λ (w : TrailV
       more = omega (arith, length-append t.lits (l ∷ []));
     }
 
-pub decided_by_sign : (b : TheoriesView) (t u : TrailView) (s : StoreView) (steps : List Step) (o r : OrderView) (l : ℤ) (v : ℕ) (sign : Bool) → Leaves o r t.lits v → sign ≡ value_in r.phases v → l ≡ literal_of sign v → u ≡ joined t l Decided
+pub decided_by_sign : (b : TheoriesView) (t u : TrailView) (s : StoreView) (steps : List Step) (o r : OrderView) (l : ℤ) (v : ℕ) (sign : Bool) → Leaves o r t.lits v → (IsTrue (value_in r.phases v) → IsTrue sign) → l ≡ literal_of sign v → u ≡ joined t l Decided
     → DecidesBySign (state b t s steps o) (state b u s steps r)
 decided_by_sign b t u s steps o r l v sign leaves is lit e = record {
   var = v;
+  sign = sign;
   is_open = leaves.is_open;
-  decided = e ∙ ap (λ (m : ℤ). joined t m Decided) (lit ∙ ap (λ (x : Bool). literal_of x v) (is ∙ ap (λ (ps : List Bool). value_in ps v) leaves.phases));
+  saved_sign = λ on. is (subst (λ (ps : List Bool). IsTrue (value_in ps v)) (sym leaves.phases) on);
+  decided = e ∙ ap (λ (m : ℤ). joined t m Decided) lit;
   phases = leaves.phases;
 }
 

@@ -6,6 +6,7 @@ pub mod Reasons
 pub mod Growing
 pub mod Updates
 pub mod ConcernTables
+pub mod AskedConcerns
 pub mod Sweeps
 pub mod QuietMarks
 pub mod Owners
@@ -16,3 +17,4 @@ pub mod Decisions
 pub mod LearnedClauses
 pub mod Beginning
 pub mod Resolved
+pub mod Counting

@@ -19,14 +19,16 @@ use Rattle.mono_graph.proofs.Parts.{part_by-larger, length-part_by}
 use Rattle.mono_problem.specs.declared.atom.Atom.{Atom}
 use Rattle.mono_problem.specs.Instance.{Instance, graph_at, numbered, no_graph}
 use Rattle.mono_problem.specs.WellFormed.{IsInstance, IsOver, IsAtomAt}
-use Rattle.mono_problem.specs.Holds.{Holds}
-use Rattle.mono_problem.specs.Quiet.{under, over, Forces, IsQuietAtom}
+use Rattle.mono_problem.specs.declared.atom.Predicate.{Predicate}
+use Rattle.mono_problem.specs.Holds.{Holds, falls}
+use Rattle.mono_problem.specs.Quiet.{under, over, part_to_hold, part_to_fail, Forces, IsQuietAtom}
 use Rattle.mono_problem.proofs.Bounds.{map_same}
-use Rattle.mono_problem.proofs.Monotone.{Holds-larger}
 use Rattle.mono_steps.specs.declared.lemma.Lemma.{Lemma}
 use Rattle.mono_steps.specs.ChainSteps.{names_vars}
-use Rattle.mono_steps.specs.Witnesses.{serves, is_shown, is_positive, is_small, names_known, passes, part_not, part_free, shows_clause, justifies_by, justifies}
-use Rattle.mono_steps.proofs.Witnessed.{positive_holds, negative_excludes}
+use Rattle.mono_steps.specs.Witnesses.{serves, is_shown, is_positive, rests_on_present, is_small, names_known, passes, part_not, part_free, part_for, predicate_literal, shows_clause, justifies_by, justifies}
+use Rattle.mono_steps.proofs.Witnessed.{positive_holds, negative_excludes, passes-larger, passes-smaller}
+use Rattle.mono_theory.specs.Evidences.{shown_by}
+use Rattle.mono_theory.proofs.EvidenceLaws.{sign_of}
 use Rattle.mono_search.specs.declared.theories.Forced.{Forced}
 use Rattle.mono_theory.specs.Theories.{Facts, concerns_of, owns_of, atom_of}
 use Rattle.mono_search.specs.TheoryLists.{concerning, seen_of, IsCurrent, IsQuietTheory, IsShort, ForcesIt, AnyForces}
@@ -64,10 +66,24 @@ false-same f t v c = concerned-same f t (neg_ℤ (pos v)) (subst (λ (w : ℕ). 
 pub over-same : (f : Facts) (t : List ℤ) → over f.graph (concerning f t) ≡ over f.graph t
 over-same f t = map_same (λ e. not (is_false_in (concerning f t) (pos e.var))) (λ e. not (is_false_in t (pos e.var))) f.graph.edges (λ k d lt. ap not (false-same f t (get_or f.graph.edges k d).var (edge_concerns f k d lt)))
 
+hold-same : (f : Facts) (t : List ℤ) (q : Predicate) → part_to_hold q f.graph (concerning f t) ≡ part_to_hold q f.graph t
+hold-same f t q = by (falls q)
+  where
+    by : (b : Bool) → cond b (over f.graph (concerning f t)) (under f.graph (concerning f t)) ≡ cond b (over f.graph t) (under f.graph t)
+    by true = over-same f t
+    by false = under-same f t
+
+fail-same : (f : Facts) (t : List ℤ) (q : Predicate) → part_to_fail q f.graph (concerning f t) ≡ part_to_fail q f.graph t
+fail-same f t q = by (falls q)
+  where
+    by : (b : Bool) → cond b (under f.graph (concerning f t)) (over f.graph (concerning f t)) ≡ cond b (under f.graph t) (over f.graph t)
+    by true = under-same f t
+    by false = over-same f t
+
 quiet-same : (f : Facts) (t : List ℤ) (x : Atom) → IsTrue (concerns_of f.graph f.atoms x.var) → IsQuietAtom f.graph (concerning f t) x → IsQuietAtom f.graph t x
 quiet-same f t x c q = (
-  λ h. sym (concerned-same f t (pos x.var) c) ∙ q.0 (subst (λ (P : List Bool). Holds f.graph P x.predicate) (sym (under-same f t)) h),
-  λ off. subst (λ (P : List Bool). Holds f.graph P x.predicate) (over-same f t) (q.1 (false-same f t x.var c ∙ off)),
+  λ h. sym (concerned-same f t (pos x.var) c) ∙ q.0 (subst (λ (P : List Bool). Holds f.graph P x.predicate) (sym (hold-same f t x.predicate)) h),
+  λ off. subst (λ (P : List Bool). Holds f.graph P x.predicate) (fail-same f t x.predicate) (q.1 (false-same f t x.var c ∙ off)),
 )
 
 -- where all theories are quiet, so is each atom over the whole list
@@ -152,37 +168,72 @@ all_short b t s few = λ k d lt.
     let now = s.current k d lt in
     omega (arith, ap length now, filter-le (λ l. concerns_of (get_or b.facts k d).graph (get_or b.facts k d).atoms (var_of l)) (take b.handed t), length-take b.handed t, few)
 
+-- ---- the part in which a witness of a sign decides its predicate
+
+part_held : (q : Predicate) (g : Digraph) (t : List ℤ) (b : Bool) → true ≡ shown_by q b → cond b (under g t) (over g t) ≡ part_to_hold q g t
+part_held q g t b e = by (falls q) b e
+  where
+    by : (f c : Bool) → true ≡ cond f (not c) c → cond c (under g t) (over g t) ≡ cond f (over g t) (under g t)
+    by true true e = absurd cc
+    by true false e = refl
+    by false true e = refl
+    by false false e = absurd cc
+
+part_failed : (q : Predicate) (g : Digraph) (t : List ℤ) (b : Bool) → false ≡ shown_by q b → cond b (under g t) (over g t) ≡ part_to_fail q g t
+part_failed q g t b e = by (falls q) b e
+  where
+    by : (f c : Bool) → false ≡ cond f (not c) c → cond c (under g t) (over g t) ≡ cond f (under g t) (over g t)
+    by true true e = refl
+    by true false e = absurd cc
+    by false true e = absurd cc
+    by false false e = refl
+
+part_len : (g : Digraph) (t : List ℤ) (b : Bool) → length (cond b (under g t) (over g t)) ≡ length g.edges
+part_len g t true = length-part_by (λ e. is_true_in t (pos e.var)) g
+part_len g t false = length-part_by (λ e. not (is_false_in t (pos e.var))) g
+
 -- ---- a lemma isn't false where the atoms are quiet
 
 module _ (p : Instance) (t : List ℤ) (ok : IsInstance p) (quiet : AtomsQuiet p t) (different : IsTrue (is_partial t)) where
   module _ (x : Atom) (m : Lemma) (var : 0 < x.var) (graph : IsGraph (graph_at p x.graph)) (over_it : IsOver (graph_at p x.graph) x.predicate) (calm : IsQuietAtom (graph_at p x.graph) t x) (false_now : IsTrue (is_false_clause t m.clause)) where
-    positive_lemma : is_positive m.witness ≡ true → IsTrue (has_lit m.clause (pos x.var)) → IsTrue (passes (graph_at p x.graph) (part_not m.clause (graph_at p x.graph)) x.predicate m.witness) → ⊥
-    positive_lemma i h pass =
+    -- a witness that passes over what its false clause leaves passes over the bound
+    passes_bound : (b : Bool) → rests_on_present m.witness ≡ b → IsTrue (passes (graph_at p x.graph) (cond b (part_not m.clause (graph_at p x.graph)) (part_free m.clause (graph_at p x.graph))) x.predicate m.witness)
+        → IsTrue (passes (graph_at p x.graph) (cond b (under (graph_at p x.graph) t) (over (graph_at p x.graph) t)) x.predicate m.witness)
+    passes_bound true r pass =
         let g = graph_at p x.graph in
         let wider : IsSubpart (part_not m.clause g) (under g t) = part_by-larger (λ e. has_lit m.clause (neg_ℤ (pos e.var))) (λ e. is_true_in t (pos e.var)) g
         (λ e k. subst (λ (l : ℤ). IsTrue (has_lit t l)) (neg_ℤ-neg_ℤ (pos e.var)) (false_in_clause t m.clause (neg_ℤ (pos e.var)) false_now k)) in
-        let holds = Holds-larger g (part_not m.clause g) (under g t) wider x.predicate (positive_holds g (part_not m.clause g) x.predicate m.witness i pass) in
-        one_sign t (pos x.var) different (calm.0 holds) (false_in_clause t m.clause (pos x.var) false_now h)
-
-    negative_lemma : is_positive m.witness ≡ false → IsTrue (has_lit m.clause (neg_ℤ (pos x.var))) → IsTrue (passes (graph_at p x.graph) (part_free m.clause (graph_at p x.graph)) x.predicate m.witness) → ⊥
-    negative_lemma i h pass =
+        passes-larger g (part_not m.clause g) (under g t) x.predicate m.witness wider r pass
+    passes_bound false r pass =
         let g = graph_at p x.graph in
-        let on : IsTrue (has_lit t (pos x.var)) = subst (λ (l : ℤ). IsTrue (has_lit t l)) (neg_ℤ-neg_ℤ (pos x.var)) (false_in_clause t m.clause (neg_ℤ (pos x.var)) false_now h) in
-        let off : is_false_in t (pos x.var) ≡ false = false_from_ne_true (is_false_in t (pos x.var)) (λ e. one_sign t (pos x.var) different on e) in
         let wider : IsSubpart (over g t) (part_free m.clause g) = part_by-larger (λ e. not (is_false_in t (pos e.var))) (λ e. not (has_lit m.clause (pos e.var))) g
         (λ e k. not_from_false (has_lit m.clause (pos e.var)) (false_from_ne_true (has_lit m.clause (pos e.var)) (λ in_it. both_ways (is_false_in t (pos e.var)) (not-true (is_false_in t (pos e.var)) k) (false_in_clause t m.clause (pos e.var) false_now in_it)))) in
-        negative_excludes g (part_free m.clause g) x.predicate m.witness graph over_it (length-part_by (λ e. not (has_lit m.clause (pos e.var))) g) i pass (Holds-larger g (over g t) (part_free m.clause g) wider x.predicate (calm.1 off))
+        passes-smaller g (over g t) (part_free m.clause g) x.predicate m.witness wider r pass
 
-    either : (b : Bool) → is_positive m.witness ≡ b → IsTrue (has_lit m.clause (cond b (pos x.var) (neg_ℤ (pos x.var))) && passes (graph_at p x.graph) (cond b (part_not m.clause (graph_at p x.graph)) (part_free m.clause (graph_at p x.graph))) x.predicate m.witness) → ⊥
-    either true i h = let q = and_parts (has_lit m.clause (pos x.var)) (passes (graph_at p x.graph) (part_not m.clause (graph_at p x.graph)) x.predicate m.witness) h in positive_lemma i q.0 q.1
-    either false i h = let q = and_parts (has_lit m.clause (neg_ℤ (pos x.var))) (passes (graph_at p x.graph) (part_free m.clause (graph_at p x.graph)) x.predicate m.witness) h in negative_lemma i q.0 q.1
+    -- so the atom forces its literal, which the clause has, and which isn't true
+    either : (s b : Bool) → is_positive m.witness ≡ s → rests_on_present m.witness ≡ b → IsTrue (has_lit m.clause (cond s (pos x.var) (neg_ℤ (pos x.var))))
+        → IsTrue (passes (graph_at p x.graph) (cond b (under (graph_at p x.graph) t) (over (graph_at p x.graph) t)) x.predicate m.witness) → ⊥
+    either true b i r h pass =
+        let g = graph_at p x.graph in
+        let P : List Bool = cond b (under g t) (over g t) in
+        let sign : true ≡ shown_by x.predicate b = sym i ∙ sign_of g P x.predicate m.witness pass ∙ ap (shown_by x.predicate) r in
+        let holds : Holds g (part_to_hold x.predicate g t) x.predicate = subst (λ (Q : List Bool). Holds g Q x.predicate) (part_held x.predicate g t b sign) (positive_holds g P x.predicate m.witness i pass) in
+        one_sign t (pos x.var) different (calm.0 holds) (false_in_clause t m.clause (pos x.var) false_now h)
+    either false b i r h pass =
+        let g = graph_at p x.graph in
+        let P : List Bool = cond b (under g t) (over g t) in
+        let sign : false ≡ shown_by x.predicate b = sym i ∙ sign_of g P x.predicate m.witness pass ∙ ap (shown_by x.predicate) r in
+        let on : IsTrue (has_lit t (pos x.var)) = subst (λ (l : ℤ). IsTrue (has_lit t l)) (neg_ℤ-neg_ℤ (pos x.var)) (false_in_clause t m.clause (neg_ℤ (pos x.var)) false_now h) in
+        let off : is_false_in t (pos x.var) ≡ false = false_from_ne_true (is_false_in t (pos x.var)) (λ e. one_sign t (pos x.var) different on e) in
+        negative_excludes g P x.predicate m.witness graph over_it (part_len g t b) i pass (subst (λ (Q : List Bool). Holds g Q x.predicate) (sym (part_failed x.predicate g t b sign)) (calm.1 off))
 
     pub shown_not_false : IsTrue (justifies_by p x m) → ⊥
     shown_not_false j =
         let g = graph_at p x.graph in
         let a = and_parts (names_vars p m.clause) (is_shown g x m) j in
         let b = and_parts (serves m.witness x.predicate && names_known g m.witness && is_small m.witness) (shows_clause g x m.clause m.witness) a.1 in
-        either (is_positive m.witness) refl b.1
+        let c = and_parts (has_lit m.clause (predicate_literal x m.witness)) (passes g (part_for m.clause g m.witness) x.predicate m.witness) b.1 in
+        either (is_positive m.witness) (rests_on_present m.witness) refl refl c.0 (passes_bound (rests_on_present m.witness) refl c.1)
 
   pub lemma_not_false : (m : Lemma) → IsTrue (justifies p m) → IsTrue (is_false_clause t m.clause) → ⊥
   lemma_not_false m j false_now = by (numbered p.atoms m.atom) refl j

@@ -1,5 +1,5 @@
 -- How a run of a search ends.
-use Rattle.std.specs.Prelude.{◌≡◌, ℕ, ◌^◌, ◌<◌, Bool, true, false, max, List, length, Result, Ok, Err, IsTrue}
+use Rattle.std.specs.Prelude.{◌≡◌, ℕ, ◌^◌, ◌<◌, Bool, true, false, max, List, length, Option, Some, None, Result, Ok, Err, IsTrue}
 use Rattle.mono_base.specs.Literal.{value_in}
 use Rattle.mono_problem.specs.Instance.{Instance}
 use Rattle.mono_problem.specs.Holds.{Satisfies}
@@ -31,6 +31,11 @@ abbrev pub is_unknown : Outcome → Bool
 is_unknown (outcome.Sat model) = false
 is_unknown outcome.Unsat = false
 is_unknown outcome.Unknown = true
+
+-- the run goes on where it has no outcome yet, and may go on after Unknown
+abbrev pub may_go_on : Option Outcome → Bool
+may_go_on None = true
+may_go_on (Some o) = is_unknown o
 
 -- a search stays live after Unknown alone
 abbrev pub stays_live : {E : Type 0} → Result Outcome E → Bool

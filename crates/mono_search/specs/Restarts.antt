@@ -18,3 +18,12 @@ pub record CountsClause (old new : Counted) (restarts : Bool) : Type 0 where
 -- so it is while both counts are below the end of their range, where they stand still
 abbrev pub Counts : Counted → Counted → Bool → Type 0
 Counts old new restarts = old.learned + 2 < 2 ^ 64 → old.restarts + 2 < 2 ^ 64 → CountsClause old new restarts
+
+-- what is counted once so many clauses were learned, from the beginning
+pub data CountedAfter : ℕ → Counted → Type 0 where
+  at_first : (n : ℕ) (c : Counted) → n ≡ 0 → c ≡ record { learned = 0; restarts = 0 } → CountedAfter n c
+  one_more : (m n : ℕ) (old new : Counted) (restarts : Bool) → CountedAfter m old → n ≡ m + 1 → Counts old new restarts → CountedAfter n new
+
+-- where that was counted of so many clauses, it now is of so many
+abbrev pub KeepsCount : ℕ → ℕ → Counted → Counted → Type 0
+KeepsCount before now old new = CountedAfter before old → CountedAfter now new

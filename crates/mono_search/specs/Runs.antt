@@ -100,11 +100,13 @@ PropagatedAs v w (propagated.Conflict n) = IsInConflictAfter v w n
 
 -- ---- a decision
 
--- the literal of an open variable is decided, by the sign that was saved for the variable
+-- a literal of an open variable is decided: the variable itself, where the sign saved for it is true
 pub record DecidesBySign (v w : StateView) : Type 0 where
   pub var : ℕ
+  pub sign : Bool
   pub is_open : IsTrue (is_open_in v.trail.lits (pos var))
-  pub decided : w.trail ≡ joined v.trail (literal_of (value_in v.order.phases var) var) Decided
+  pub saved_sign : IsTrue (value_in v.order.phases var) → IsTrue sign
+  pub decided : w.trail ≡ joined v.trail (literal_of sign var) Decided
   pub phases : w.order.phases ≡ v.order.phases
 
 -- every variable has a value, and nothing is left to do

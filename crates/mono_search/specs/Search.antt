@@ -2,6 +2,8 @@
 use Rattle.std.specs.Prelude.{Bool, List, IsTrue}
 use Rattle.mono_problem.specs.Instance.{Instance}
 use Rattle.mono_steps.specs.declared.step.Step.{Step}
+use Rattle.mono_steps.specs.Journals.{chain_count}
+use Rattle.mono_search.specs.Restarts.{Counted, CountedAfter}
 use Rattle.mono_search.specs.State.{StateView, IsJournal, IsReady}
 
 -- the problem, the steps of the journal, and whether it may be run
@@ -10,6 +12,8 @@ pub record SearchView : Type 0 where
   pub steps : List Step
   pub live : Bool
 
-pub record IsSearch (v : StateView) (live : Bool) : Type 0 where
+-- the journal is one, and while the search is live it may go on, and as many clauses were counted as were learned
+pub record IsSearch (v : StateView) (c : Counted) (live : Bool) : Type 0 where
   pub journal : IsJournal v.theories.problem v.steps
   pub ready : IsTrue live → IsReady v
+  pub counted : IsTrue live → CountedAfter (chain_count v.steps) c

@@ -1,25 +1,37 @@
 -- Small searches for the worked rows.
-use Rattle.std.specs.Prelude.{ℕ, pos, List, [], ◌∷◌}
+use Rattle.std.specs.Prelude.{ℕ, pos, Bool, List, [], ◌∷◌}
 use Rattle.mono_problem.specs.Instance.{Instance}
 use Rattle.mono_steps.specs.declared.lemma.Witness.TheVariants as by
 use Rattle.mono_steps.specs.declared.step.Step.{Step}
 use Rattle.mono_steps.specs.declared.step.Step.TheVariants as step
 use Rattle.mono_steps.specs.Worked.{clauses_over}
 use Rattle.mono_steps.specs.WorkedLemmas.{minus, chain, of_1}
+use Rattle.mono_trail.specs.Order.{OrderView}
 use Rattle.mono_search.specs.Restarts.{Counted}
 
 -- so many clauses learned since the last restart, and so many restarts
 abbrev pub after : ℕ → ℕ → Counted
 after learned restarts = record { learned = learned; restarts = restarts }
 
+-- which variables wait to be decided, and their signs
+abbrev pub order : List Bool → List Bool → OrderView
+order waits phases = record { waits = waits; phases = phases }
+
 -- {1, 2} and {1, -2}
 abbrev pub two_clauses : Instance
 two_clauses = clauses_over 2 ((pos 1 ∷ pos 2 ∷ []) ∷ (pos 1 ∷ minus 2 ∷ []) ∷ [])
 
 -- from which {1} comes
+abbrev pub learned_clause : Step
+learned_clause = chain (pos 1 ∷ []) (1 ∷ 2 ∷ [])
+
 abbrev pub first_learned : List Step
-first_learned = chain (pos 1 ∷ []) (1 ∷ 2 ∷ []) ∷ []
+first_learned = learned_clause ∷ []
 
 -- and the same behind a lemma
 abbrev pub learned_behind_a_lemma : List Step
 learned_behind_a_lemma = step.Lemma (of_1 (pos 2 ∷ []) (by.Path [])) ∷ first_learned
+
+-- {1} and {-1}
+abbrev pub both_signs : Instance
+both_signs = clauses_over 1 ((pos 1 ∷ []) ∷ (minus 1 ∷ []) ∷ [])

@@ -1,6 +1,6 @@
 //! What one of a list of theories forces, and its lemmas.
 
-ghost use Rattle.std.specs.Prelude.{◌≡◌, All, IfOk, IsTrue, MatchOption};
+ghost use Rattle.std.specs.Prelude.{◌≡◌, ◌<◌, All, IfOk, IsTrue, MatchOption, length};
 ghost use Rattle.mono_theory.specs.Owners.{fact_of, facts_of};
 ghost use Rattle.mono_search.specs.TheoryLists.{IsQuietTheory, AreQuietMarks, IsShort, AnyForces, ForcesIt, CanExplain, IsLemmaBy};
 
@@ -50,6 +50,18 @@ pub(crate) fn force_any<T: Theory>(
         quiet[i] = true;
     }
     Ok(None)
+}
+
+/// Whether one of the theories at these places prefers the variable to be true.
+pub(crate) fn any_prefers<T: Theory>(theories: &[T], places: &[usize], var: u32) -> bool
+    requires { All (λ i. i < length theories.now) places.now }
+{
+    for place in places {
+        if theories[*place].prefers(var) {
+            return true;
+        }
+    }
+    false
 }
 
 /// The lemma that the theory which owns the atom makes.

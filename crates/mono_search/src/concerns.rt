@@ -1,5 +1,6 @@
 //! Which theories each variable concerns: a table that is made once, so that a literal costs only the theories that it
-//! concerns. Each theory lists its variables, so that the table costs what the graphs and the atoms have.
+//! concerns. A theory that lists its variables costs what its graph and its atoms have, and one that doesn't is asked of
+//! each variable.
 
 ghost use Rattle.std.specs.Prelude.{◌≡◌, ◌+◌, ◌≤◌, length, IfOk, OnOk};
 ghost use Rattle.std.specs.List.Sorted.{IsStrictlyIncreasing};
@@ -38,7 +39,29 @@ fn add_theory<T: Theory>(
     requires keys { length table.old ≡ vars + 1 }
     ensures { OnOk result (AddsTheory vars (fact_of T.graph T.atoms T.seen theory.now) place table.old table.new) }
 {
-    add_place(table, vars, theory.variables(), place)?;
+    let Some(listed) = theory.variables() else {
+        return add_where_concerned(table, vars, theory, place);
+    };
+    add_place(table, vars, listed, place)?;
+    Ok(())
+}
+
+/// The place joins the lists of the variables of which the theory, asked of each, says that they concern it.
+fn add_where_concerned<T: Theory>(
+    table: &mut Buckets<usize>,
+    vars: u32,
+    theory: &T,
+    place: usize,
+) -> Result<(), AllocError>
+    requires few { vars ≤ MAX_VARS }
+    requires keys { length table.old ≡ vars + 1 }
+    ensures { OnOk result (AddsTheory vars (fact_of T.graph T.atoms T.seen theory.now) place table.old table.new) }
+{
+    for before in 0..vars {
+        if theory.concerns(before + 1) {
+            table.push(before + 1, place)?;
+        }
+    }
     Ok(())
 }
 

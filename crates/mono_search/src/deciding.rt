@@ -16,7 +16,8 @@ use mono_trail::Trail;
 use std::alloc::{AllocError, Global};
 
 impl<'p, T: Theory> State<'p, T> {
-    /// An open variable is decided, by the sign that it had last. False exactly where no variable is open.
+    /// An open variable is decided: true where it was true when it last had a value, or where a theory prefers that. False
+    /// exactly where no variable is open.
     pub(crate) fn decide(&mut self) -> bool
         requires { IsQuietState self.old }
         ensures problem { self.new.theories.problem ≡ self.old.theories.problem }
@@ -29,10 +30,20 @@ impl<'p, T: Theory> State<'p, T> {
         let Some(var) = self.order.pick(&self.trail) else {
             return false;
         };
-        let lit = literal(var, self.order.phase(var));
+        let lit = literal(var, self.sign_of(var));
         self.trail.decide(lit);
         let _ = self.trail.level();
         true
+    }
+
+    /// The sign by which the variable is decided: true where it was true when it last had a value, or where a theory prefers
+    /// that.
+    fn sign_of(&self, var: u32) -> bool
+        requires ordered { IsVar (length self.now.order.waits) var }
+        requires known { IsVar self.now.theories.problem.vars var }
+        ensures { IsTrue (value_in self.now.order.phases var) → IsTrue result }
+    {
+        self.order.phase(var) || self.theories.prefers(var)
     }
 
     /// The values of the variables, where each has one and nothing is left to do.

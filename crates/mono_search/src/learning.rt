@@ -5,6 +5,8 @@ ghost use Rattle.mono_base.specs.Literal.{IsLitWithin};
 ghost use Rattle.mono_steps.specs.Steps.{are_justified, clauses_after, is_refutation};
 ghost use Rattle.mono_steps.specs.Journals.{chain_count};
 ghost use Rattle.mono_search.specs.State.{IsJournal, IsConsistent, IsReady, IsInConflict};
+ghost use Rattle.mono_search.specs.Outcomes.{may_go_on};
+ghost use Rattle.mono_search.specs.Restarts.{KeepsCount};
 ghost use Rattle.mono_search.specs.Runs.{ResolvedAs, GoesBack, CountsAndGoesBack};
 
 use crate::backjumping::backjump;
@@ -33,6 +35,7 @@ impl<'p, T: Theory> State<'p, T> {
         ensures journal { IsJournal self.new.theories.problem self.new.steps }
         ensures ends { IfOk result (ResolvedAs budget self.old self.new) }
         ensures back { IfOk result (λ end. IfNone end (CountsAndGoesBack restarts.old restarts.new self.old self.new)) }
+        ensures counted { IfOk result (λ end. IsTrue (may_go_on end) → KeepsCount (chain_count self.old.steps) (chain_count self.new.steps) restarts.old restarts.new) }
     {
         if self.trail.level() == 0 {
             self.refute(alloc, conflict)?;

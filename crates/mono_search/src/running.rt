@@ -1,6 +1,9 @@
 //! Steps of the search until it ends: propagate, and then learn from a conflict, or decide.
 
-ghost use Rattle.std.specs.Prelude.{◌≡◌, IfOk};
+ghost use Rattle.std.specs.Prelude.{◌≡◌, IfOk, IsTrue};
+ghost use Rattle.mono_steps.specs.Journals.{chain_count};
+ghost use Rattle.mono_search.specs.Outcomes.{is_unknown, may_go_on};
+ghost use Rattle.mono_search.specs.Restarts.{KeepsCount};
 ghost use Rattle.mono_search.specs.State.{IsJournal, IsReady};
 ghost use Rattle.mono_search.specs.Runs.{SteppedAs, IsEnd};
 
@@ -23,6 +26,7 @@ impl<'p, T: Theory> State<'p, T> {
         ensures problem { self.new.theories.problem ≡ self.old.theories.problem }
         ensures journal { IsJournal self.new.theories.problem self.new.steps }
         ensures ends { IfOk result (IsEnd budget self.old self.new) }
+        ensures counted { IfOk result (λ o. IsTrue (is_unknown o) → KeepsCount (chain_count self.old.steps) (chain_count self.new.steps) restarts.old restarts.new) }
     {
         loop {
             if let Some(outcome) = self.step(alloc, restarts, budget)? {
@@ -42,6 +46,7 @@ impl<'p, T: Theory> State<'p, T> {
         ensures problem { self.new.theories.problem ≡ self.old.theories.problem }
         ensures journal { IsJournal self.new.theories.problem self.new.steps }
         ensures ends { IfOk result (SteppedAs budget self.old self.new) }
+        ensures counted { IfOk result (λ end. IsTrue (may_go_on end) → KeepsCount (chain_count self.old.steps) (chain_count self.new.steps) restarts.old restarts.new) }
     {
         match self.propagate()? {
             Propagated::Implied => Ok(None),

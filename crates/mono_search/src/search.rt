@@ -45,7 +45,7 @@ impl<'p, T: Theory> Model for Search<'p, T> {
 
     ghost view = { λ s. record { problem = s.state.theories.problem; steps = s.state.steps; live = s.live } };
 
-    ghost invariant = { λ s. IsSearch s.state s.live };
+    ghost invariant = { λ s. IsSearch s.state s.restarts s.live };
 }
 
 impl<'p, T: Theory> Search<'p, T> {

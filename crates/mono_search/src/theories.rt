@@ -8,11 +8,12 @@ ghost use Rattle.std.specs.Prelude.{◌≡◌, ◌≤◌, length, All, IfOk, Mat
 ghost use Rattle.mono_base.specs.Literal.{IsLitWithin};
 ghost use Rattle.mono_base.specs.Partial.{is_partial};
 ghost use Rattle.mono_theory.specs.Owners.{facts_of};
+ghost use Rattle.mono_trail.specs.Moves.{IsVar};
 ghost use Rattle.mono_search.specs.TheoryLists.{seen_of, IsQuietTheory, IsShort, AnyForces};
 ghost use Rattle.mono_theory.specs.Owners.{OwnsEach};
 ghost use Rattle.mono_search.specs.Theories.{HaveSeen, having_seen};
 
-use crate::asking::{explain_by_owner, force_any};
+use crate::asking::{any_prefers, explain_by_owner, force_any};
 use crate::concerns::concern_table;
 use crate::handing::{hand_to, take_back_from_each};
 use crate::marks::{no_marks, unmark_all};
@@ -133,6 +134,13 @@ impl<'p, T: Theory> Theories<'p, T> {
         );
         unmark_all(&mut self.quiet);
         self.handed = kept;
+    }
+
+    /// Whether a theory that the variable concerns prefers it to be true. The answer is free.
+    pub fn prefers(&self, var: u32) -> bool
+        requires { IsVar self.now.problem.vars var }
+    {
+        any_prefers(self.theories.as_slice(), self.concerned.list(var), var)
     }
 
     /// A literal that an atom forces, if there is one.

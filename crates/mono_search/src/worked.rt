@@ -1,18 +1,45 @@
-//! Worked rows: what the definitions make of saved signs, restarts, the numbers of learned clauses and spent budgets.
+//! Worked rows: what the definitions make of saved signs, restarts, the numbers of learned clauses, spent budgets and outcomes.
 
-ghost use Rattle.std.specs.Prelude.{◌≡◌, true, false, [], ◌∷◌, ◌++◌, pos};
-ghost use Rattle.mono_steps.specs.WorkedLemmas.{minus};
-ghost use Rattle.mono_search.specs.Outcomes.{HasModel, IsSpent};
-ghost use Rattle.mono_search.specs.Restarts.{CountsClause};
-ghost use Rattle.mono_search.specs.Runs.{saved};
+ghost use Rattle.std.specs.Prelude.{◌≡◌, ℕ, true, false, [], ◌∷◌, ◌++◌, pos, Some, None, Ok, Err};
+ghost use Rattle.mono_steps.specs.WorkedLemmas.{minus, chain};
+ghost use Rattle.mono_search.specs.Outcomes.{EndsAs, HasModel, IsSpent, may_go_on, stays_live};
+ghost use Rattle.mono_search.specs.Restarts.{CountedAfter, CountsClause};
+ghost use Rattle.mono_search.specs.Runs.{DecidesBySign, GoesBack, Releases, saved};
+ghost use Rattle.mono_search.specs.State.{StateView};
 ghost use Rattle.mono_search.specs.Stored.{held_after};
-ghost use Rattle.mono_search.specs.Worked.{after, two_clauses, first_learned, learned_behind_a_lemma};
+ghost use Rattle.mono_trail.specs.declared.reason.Reason.TheVariants.{Decided};
+ghost use Rattle.mono_trail.specs.Moves.{joined};
+ghost use Rattle.mono_trail.specs.TrailView.{no_literals};
+ghost use Rattle.mono_search.specs.Worked.{after, order, two_clauses, learned_clause, first_learned, learned_behind_a_lemma, both_signs};
+ghost use Rattle.mono_search.specs.declared.search.Outcome.TheVariants as outcome;
+
+use mono_steps::worked_new::wider_and_repeated_clauses;
 
 /// Of two signs of one variable the later one is saved.
 pub fn saved_signs()
     ensures each { saved (true ∷ true ∷ true ∷ []) (pos 1 ∷ minus 2 ∷ []) ≡ true ∷ false ∷ true ∷ [] }
     ensures later { saved (true ∷ true ∷ []) (pos 2 ∷ minus 2 ∷ []) ≡ true ∷ false ∷ [] }
     ensures none { saved (true ∷ false ∷ []) [] ≡ true ∷ false ∷ [] }
+{}
+
+/// A decision on a variable whose sign was saved as true is never false.
+pub fn decisions_by_saved_signs()
+    ensures { (v w : StateView) → v.order.phases ≡ true ∷ true ∷ [] → v.trail ≡ no_literals 2 → w.trail ≡ joined (no_literals 2) (minus 1) Decided → DecidesBySign v w → ⊥ }
+{}
+
+/// The variable of a dropped literal waits again with its sign, and the others wait as before.
+pub fn released_variables()
+    ensures one { Releases (order (false ∷ true ∷ []) (true ∷ true ∷ [])) (order (true ∷ true ∷ []) (false ∷ true ∷ [])) (minus 1 ∷ []) }
+    ensures not_back { Releases (order (false ∷ true ∷ []) (true ∷ true ∷ [])) (order (false ∷ true ∷ []) (false ∷ true ∷ [])) (minus 1 ∷ []) → ⊥ }
+    ensures lost { Releases (order (false ∷ true ∷ []) (true ∷ true ∷ [])) (order (true ∷ false ∷ []) (false ∷ true ∷ [])) (minus 1 ∷ []) → ⊥ }
+    ensures not_saved { Releases (order (false ∷ true ∷ []) (true ∷ true ∷ [])) (order (true ∷ true ∷ []) (true ∷ true ∷ [])) (minus 1 ∷ []) → ⊥ }
+    ensures shorter { Releases (order (false ∷ []) (true ∷ true ∷ [])) (order (true ∷ true ∷ []) (false ∷ true ∷ [])) (minus 1 ∷ []) → ⊥ }
+{}
+
+/// A restart goes back to the beginning, and a learned clause alone to its own level.
+pub fn levels_gone_back_to()
+    ensures restart { (v w : StateView) → w.trail.level ≡ 1 → GoesBack v w true → ⊥ }
+    ensures no_restart { (v w : StateView) → (h : GoesBack v w false) → w.trail.level ≡ h.learnt.back_to }
 {}
 
 /// The first restart comes with the 100th clause, and the third with the 200th after the second.
@@ -23,6 +50,14 @@ pub fn counted_clauses()
     ensures too_late { CountsClause (after 99 0) (after 100 0) false → ⊥ }
     ensures third { CountsClause (after 199 2) (after 0 3) true }
     ensures third_too_early { CountsClause (after 99 2) (after 0 3) true → ⊥ }
+{}
+
+/// What is counted follows from how many clauses were learned since the beginning.
+pub fn counted_from_the_beginning()
+    ensures none { CountedAfter 0 (after 0 0) }
+    ensures one { CountedAfter 1 (after 1 0) }
+    ensures not_counted { CountedAfter 1 (after 0 0) → ⊥ }
+    ensures none_learned { CountedAfter 0 (after 1 0) → ⊥ }
 {}
 
 /// A learned clause is held by the number of its step. A lemma has a number too, and isn't held.
@@ -39,6 +74,33 @@ pub fn spent_budgets()
     ensures not_yet { IsSpent 2 0 two_clauses first_learned → ⊥ }
     ensures more_before { IsSpent 1 2 two_clauses first_learned → ⊥ }
     ensures beyond { IsSpent 9 0 two_clauses first_learned → ⊥ }
+{}
+
+/// A clause that was learned before is none that the budget is spent on.
+pub fn budgets_of_new_clauses()
+    ensures { IsSpent 2 0 two_clauses (learned_clause ∷ learned_clause ∷ []) → ⊥ }
+{
+    wider_and_repeated_clauses();
+}
+
+/// A run ends with a model, a refutation, or a spent budget, as its outcome says.
+pub fn outcomes()
+    ensures model { EndsAs 1 0 two_clauses [] (outcome.Sat (true ∷ false ∷ [])) }
+    ensures no_model { EndsAs 1 0 two_clauses [] (outcome.Sat (false ∷ true ∷ [])) → ⊥ }
+    ensures refutation { EndsAs 1 0 both_signs (chain [] (1 ∷ 2 ∷ []) ∷ []) outcome.Unsat }
+    ensures no_refutation { EndsAs 1 0 two_clauses first_learned outcome.Unsat → ⊥ }
+    ensures not_spent { EndsAs 2 0 two_clauses first_learned outcome.Unknown → ⊥ }
+{}
+
+/// A search goes on after Unknown alone.
+pub fn searches_that_go_on()
+    ensures unknown { stays_live {E = ℕ} (Ok outcome.Unknown) ≡ true }
+    ensures sat { stays_live {E = ℕ} (Ok (outcome.Sat [])) ≡ false }
+    ensures unsat { stays_live {E = ℕ} (Ok outcome.Unsat) ≡ false }
+    ensures no_memory { stays_live {E = ℕ} (Err 0) ≡ false }
+    ensures no_outcome { may_go_on None ≡ true }
+    ensures after_unknown { may_go_on (Some outcome.Unknown) ≡ true }
+    ensures after_unsat { may_go_on (Some outcome.Unsat) ≡ false }
 {}
 
 /// A model has a value for each variable, variable 1 first.

@@ -13,7 +13,7 @@ use Rattle.mono_steps.specs.declared.fault.StepFault.TheVariants as fault
 use Rattle.mono_steps.specs.declared.lemma.Witness.{Witness}
 use Rattle.mono_steps.specs.Faults.{first_failed}
 use Rattle.mono_steps.specs.Switching.{literal_of}
-use Rattle.mono_steps.specs.Witnesses.{easiest_part, is_positive, part_for, part_free, part_not, passes, predicate_literal, shows_clause}
+use Rattle.mono_steps.specs.Witnesses.{easiest_part, rests_on_present, part_for, part_free, part_not, passes, predicate_literal, shows_clause}
 use Rattle.mono_steps.proofs.LemmaFaults.{length-part_for}
 use Rattle.mono_steps.proofs.Witnessed.{passes-same, passes_over_easiest}
 
@@ -28,11 +28,11 @@ module _ (g : Digraph) where
   present_by test k low = same_truth (present (part_by test g) k) (test (edge_at g k)) (in_part_by test g k) (part_by-has test g k low)
 
   -- the part that has each edge, or none, by the word
-  pub easiest_passes : (P : List Bool) (q : Predicate) (w : Witness) → IsPartOf P g → ((k : ℕ) → k < length g.edges → present P k ≡ is_positive w) → passes g P q w ≡ passes g (easiest_part g w) q w
-  easiest_passes P q w fits each = same_passes P (easiest_part g w) q w fits (length-part_by (λ e. is_positive w) g) (λ k low. each k low ∙ sym (present_by (λ e. is_positive w) k low))
+  pub easiest_passes : (P : List Bool) (q : Predicate) (w : Witness) → IsPartOf P g → ((k : ℕ) → k < length g.edges → present P k ≡ rests_on_present w) → passes g P q w ≡ passes g (easiest_part g w) q w
+  easiest_passes P q w fits each = same_passes P (easiest_part g w) q w fits (length-part_by (λ e. rests_on_present w) g) (λ k low. each k low ∙ sym (present_by (λ e. rests_on_present w) k low))
 
   -- the part that the clause leaves
-  pub clause_passes : (P : List Bool) (c : List ℤ) (q : Predicate) (w : Witness) (b : Bool) → b ≡ is_positive w → IsPartOf P g
+  pub clause_passes : (P : List Bool) (c : List ℤ) (q : Predicate) (w : Witness) (b : Bool) → b ≡ rests_on_present w → IsPartOf P g
       → ((k : ℕ) → k < length g.edges → present P k ≡ cond (has_lit c (literal_of (not b) (edge_at g k).var)) b (not b)) → passes g P q w ≡ passes g (part_for c g w) q w
   clause_passes P c q w b is fits each = by_word b each ∙ ap (λ (d : Bool). passes g (if d then part_not c g else part_free c g) q w) is
     where

@@ -15,11 +15,11 @@ use Rattle.mono_steps.specs.declared.fault.StepFault.TheVariants as fault
 use Rattle.mono_steps.specs.ChainSteps.{names_vars}
 use Rattle.mono_steps.specs.Current.{IsSetOf}
 use Rattle.mono_steps.specs.Faults.{first_failed}
-use Rattle.mono_steps.specs.Witnesses.{serves, is_shown, is_positive, is_small, names_known, passes, part_not, part_free, part_for, easiest_part, predicate_literal, shows_clause, justifies_by, justifies, lemma_fault_by, lemma_fault}
+use Rattle.mono_steps.specs.Witnesses.{serves, is_shown, rests_on_present, is_small, names_known, passes, part_not, part_free, part_for, easiest_part, predicate_literal, shows_clause, justifies_by, justifies, lemma_fault_by, lemma_fault}
 use Rattle.mono_steps.proofs.Witnessed.{passes_over_easiest}
 
 pub length-part_for : (c : List ℤ) (g : Digraph) (w : Witness) → length (part_for c g w) ≡ length g.edges
-length-part_for c g w = by_word (is_positive w)
+length-part_for c g w = by_word (rests_on_present w)
   where
     by_word : (b : Bool) → length (if b then part_not c g else part_free c g) ≡ length g.edges
     by_word true = length-part_by (λ e. has_lit c (neg_ℤ (pos e.var))) g
@@ -63,7 +63,7 @@ shown_justified p x l e names shown =
 
 -- two lists with the same literals show the same
 same_shown : (g : Digraph) (x : Atom) (s c : List ℤ) (w : Witness) → IsSetOf s c → shows_clause g x s w ≡ shows_clause g x c w
-same_shown g x s c w same = ap (λ (h : ℤ → Bool). h (predicate_literal x w) && passes g (if is_positive w then part_by (λ e. h (neg_ℤ (pos e.var))) g else part_by (λ e. not (h (pos e.var))) g) x.predicate w) (fun_ext same)
+same_shown g x s c w same = ap (λ (h : ℤ → Bool). h (predicate_literal x w) && passes g (if rests_on_present w then part_by (λ e. h (neg_ℤ (pos e.var))) g else part_by (λ e. not (h (pos e.var))) g) x.predicate w) (fun_ext same)
 
 pub last_checks : (p : Instance) (l : Lemma) (x : Atom) (s : List ℤ) → numbered p.atoms l.atom ≡ Some x → IsTrue (serves l.witness x.predicate) → IsTrue (names_vars p l.clause) → IsTrue (names_known (graph_at p x.graph) l.witness) → IsSetOf s l.clause
     → first_failed ((not (passes (graph_at p x.graph) (easiest_part (graph_at p x.graph) l.witness) x.predicate l.witness), fault.WitnessFails) ∷ (not (shows_clause (graph_at p x.graph) x s l.witness), fault.MissingLiteral) ∷ []) ≡ lemma_fault p l

@@ -10,11 +10,10 @@ use Rattle.mono_problem.specs.declared.atom.Atom.{Atom}
 use Rattle.mono_problem.specs.Instance.{Instance, graph_at, no_graph, numbered}
 use Rattle.mono_problem.specs.WellFormed.{IsInstance, IsOver}
 use Rattle.mono_problem.specs.Holds.{HoldsAtom, Agrees}
-use Rattle.mono_problem.proofs.Monotone.{Holds-larger}
 use Rattle.mono_steps.specs.declared.lemma.Lemma.{Lemma}
 use Rattle.mono_steps.specs.ChainSteps.{names_vars}
-use Rattle.mono_steps.specs.Witnesses.{serves, is_shown, is_positive, is_small, names_known, passes, part_not, part_free, part_for, predicate_literal, shows_clause, justifies_by, justifies}
-use Rattle.mono_steps.proofs.Witnessed.{positive_holds, negative_excludes}
+use Rattle.mono_steps.specs.Witnesses.{serves, is_shown, is_positive, rests_on_present, is_small, names_known, passes, part_not, part_free, part_for, predicate_literal, shows_clause, justifies_by, justifies}
+use Rattle.mono_steps.proofs.Witnessed.{positive_holds, negative_excludes, passes-larger, passes-smaller}
 
 -- ---- items of a number
 
@@ -96,17 +95,19 @@ lemma_true_by p a x l ok over agrees h = true_from_ne_false (clause_true a l.cla
     c : List ℤ
     c = l.clause
 
+    low : IsTrue (names_vars p c) → clause_true a c ≡ false → (r : Bool) → rests_on_present l.witness ≡ r → IsTrue (passes g (if r then part_not c g else part_free c g) x.predicate l.witness) → IsTrue (passes g (enabled a g) x.predicate l.witness)
+    low names f true e t = passes-larger g (part_not c g) (enabled a g) x.predicate l.witness (part_not-enabled p a c g names f) e t
+    low names f false e t = passes-smaller g (enabled a g) (part_free c g) x.predicate l.witness (enabled-part_free p a c g names f) e t
+
     never : Parts p x l → clause_true a c ≡ false → (b : Bool) → is_positive l.witness ≡ b → ⊥
-    never k f true e =
-        let has : IsTrue (has_lit c (pos x.var)) = subst (λ (b : Bool). IsTrue (has_lit c (if b then pos x.var else neg_ℤ (pos x.var)))) e k.has in
-        let passed : IsTrue (passes g (part_not c g) x.predicate l.witness) = subst (λ (b : Bool). IsTrue (passes g (if b then part_not c g else part_free c g) x.predicate l.witness)) e k.passed in
-        let holds = Holds-larger g (part_not c g) (enabled a g) (part_not-enabled p a c g k.names f) x.predicate (positive_holds g (part_not c g) x.predicate l.witness e passed) in
-        both_ways (a x.var) (off_by p a c x.var k.names f has) (agrees.1 holds)
-    never k f false e =
-        let has : IsTrue (has_lit c (neg_ℤ (pos x.var))) = subst (λ (b : Bool). IsTrue (has_lit c (if b then pos x.var else neg_ℤ (pos x.var)))) e k.has in
-        let passed : IsTrue (passes g (part_free c g) x.predicate l.witness) = subst (λ (b : Bool). IsTrue (passes g (if b then part_not c g else part_free c g) x.predicate l.witness)) e k.passed in
-        let holds = Holds-larger g (enabled a g) (part_free c g) (enabled-part_free p a c g k.names f) x.predicate (agrees.0 (on_by p a c x.var k.names f has)) in
-        negative_excludes g (part_free c g) x.predicate l.witness ok over (length-part_by (λ d. not (has_lit c (pos d.var))) g) e passed holds
+    never k f b e = by_sign b e (subst (λ (b : Bool). IsTrue (has_lit c (if b then pos x.var else neg_ℤ (pos x.var)))) e k.has)
+      where
+        passed : IsTrue (passes g (enabled a g) x.predicate l.witness)
+        passed = low k.names f (rests_on_present l.witness) refl k.passed
+
+        by_sign : (b : Bool) → is_positive l.witness ≡ b → IsTrue (has_lit c (if b then pos x.var else neg_ℤ (pos x.var))) → ⊥
+        by_sign true e has = both_ways (a x.var) (off_by p a c x.var k.names f has) (agrees.1 (positive_holds g (enabled a g) x.predicate l.witness e passed))
+        by_sign false e has = negative_excludes g (enabled a g) x.predicate l.witness ok over (length-part_by (λ d. a d.var) g) e passed (agrees.0 (on_by p a c x.var k.names f has))
 
 pub lemma_true : (p : Instance) (a : ℕ → Bool) (l : Lemma) → IsInstance p → Agrees p a → IsTrue (justifies p l) → IsTrue (clause_true a l.clause)
 lemma_true p a l ok agrees h = by_atom (numbered p.atoms l.atom) refl h

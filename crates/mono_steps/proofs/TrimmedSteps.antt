@@ -213,6 +213,7 @@ trimmed_is p needed old new r h e =
     record {
       needed = needed;
       as_many = h.as_many;
+      closed = λ j k s on at named. h.closed j k s (omega arith) on at named;
       is = e;
       refutes = subst (λ (ss : List Step). IsTrue (is_refutation p ss)) (sym e) (and_from (are_justified p (trimmed_steps c needed old)) (ends_empty (trimmed_steps c needed old)) justified ends);
       named = λ k lt. subst (λ (ss : List Step). IsNamedLater c ss k) (sym e) (named_trimmed c needed old h k (subst (λ (ss : List Step). k + 1 < length ss) e lt));

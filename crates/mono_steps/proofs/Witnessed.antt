@@ -14,13 +14,14 @@ use Rattle.mono_graph.proofs.WalkLaws.{cut_excludes, labelling_excludes}
 use Rattle.mono_graph.proofs.FlowLaws.{flow_cut_excludes}
 use Rattle.mono_graph.proofs.TreeLaws.{split_excludes}
 use Rattle.mono_graph.proofs.LeastLaw.{least_excludes}
+use Rattle.mono_graph.proofs.CycleLaws.{cycle_cyclic, order_acyclic, is_cycle-larger, is_order-smaller}
 use Rattle.mono_problem.specs.declared.atom.Predicate.{Predicate}
 use Rattle.mono_problem.specs.declared.atom.Predicate.TheVariants as kind
 use Rattle.mono_problem.specs.WellFormed.{IsOver}
 use Rattle.mono_problem.specs.Holds.{Holds}
 use Rattle.mono_steps.specs.declared.lemma.Witness.{Witness}
 use Rattle.mono_steps.specs.declared.lemma.Witness.TheVariants as by
-use Rattle.mono_steps.specs.Witnesses.{serves, passes, easiest_part, is_positive, placed, placed_amounts}
+use Rattle.mono_steps.specs.Witnesses.{serves, passes, easiest_part, is_positive, rests_on_present, placed, placed_amounts}
 
 pub positive_holds : (g : Digraph) (P : List Bool) (q : Predicate) (w : Witness) → IsTrue (is_positive w) → IsTrue (passes g P q w) → Holds g P q
 positive_holds g P (kind.Reach u v) (by.Path es) i h = (placed g es, h)
@@ -32,6 +33,7 @@ positive_holds g P (kind.Flow s t least) (by.Flow ms) i h =
     let b = and_parts _ (is_flow g P s t f) a.0 in
     (f, and_from (is_flow g P s t f) (int_le least (value_of g s f)) b.1 a.1)
 positive_holds g P (kind.Tree most) (by.Tree es) i h = (placed g es, h)
+positive_holds g P kind.Acyclic (by.Order us) i h = order_acyclic g P us h
 positive_holds g P q w i h = absurd cc
 
 pub negative_excludes : (g : Digraph) (P : List Bool) (q : Predicate) (w : Witness) → IsGraph g → IsOver g q → length P ≡ length g.edges
@@ -45,6 +47,7 @@ negative_excludes g P (kind.Distance u v most) (by.Label ls) ok over fits i h (w
 negative_excludes g P (kind.Flow s t least) (by.FlowCut us) ok over fits i h (f, is-flow) = flow_cut_excludes g P s t least f us ok.ends over.0 h is-flow
 negative_excludes g P (kind.Tree most) (by.Split us) ok over fits i h (ks, is-tree) = split_excludes g P most us ks h is-tree
 negative_excludes g P (kind.Tree most) (by.Least es) ok over fits i h (ks, is-tree) = least_excludes g P most (placed g es) ks h is-tree
+negative_excludes g P kind.Acyclic (by.Cycle es) ok over fits i h acyclic = cycle_cyclic g P (placed g es) h acyclic
 negative_excludes g P q w ok over fits i h holds = absurd cc
 
 pub passing_serves : (g : Digraph) (P : List Bool) (q : Predicate) (w : Witness) → IsTrue (passes g P q w) → IsTrue (serves w q)
@@ -59,38 +62,42 @@ passing_serves g P (kind.Flow s t least) (by.FlowCut us) h = refl
 passing_serves g P (kind.Tree most) (by.Tree es) h = refl
 passing_serves g P (kind.Tree most) (by.Split us) h = refl
 passing_serves g P (kind.Tree most) (by.Least es) h = refl
+passing_serves g P kind.Acyclic (by.Cycle es) h = refl
+passing_serves g P kind.Acyclic (by.Order us) h = refl
 passing_serves g P q w h = absurd cc
 
 -- ---- from part to part
 
-pub passes-larger : (g : Digraph) (P Q : List Bool) (q : Predicate) (w : Witness) → IsSubpart P Q → IsTrue (is_positive w) → IsTrue (passes g P q w) → IsTrue (passes g Q q w)
+pub passes-larger : (g : Digraph) (P Q : List Bool) (q : Predicate) (w : Witness) → IsSubpart P Q → IsTrue (rests_on_present w) → IsTrue (passes g P q w) → IsTrue (passes g Q q w)
 passes-larger g P Q (kind.Reach u v) (by.Path es) sub i h = is_path-larger g P Q sub u v limit.Free (placed g es) h
 passes-larger g P Q (kind.Steps u v most) (by.Path es) sub i h = is_path-larger g P Q sub u v (limit.Steps most) (placed g es) h
 passes-larger g P Q (kind.Distance u v most) (by.Path es) sub i h = is_path-larger g P Q sub u v (limit.Weight most) (placed g es) h
 passes-larger g P Q (kind.Flow s t least) (by.Flow ms) sub i h = is_flow_of-larger g P Q sub s t least (placed_amounts g ms) h
 passes-larger g P Q (kind.Tree most) (by.Tree es) sub i h = is_tree-larger g P Q sub most (placed g es) h
+passes-larger g P Q kind.Acyclic (by.Cycle es) sub i h = is_cycle-larger g P Q sub (placed g es) h
 passes-larger g P Q q w sub i h = absurd cc
 
-pub passes-smaller : (g : Digraph) (P Q : List Bool) (q : Predicate) (w : Witness) → IsSubpart P Q → is_positive w ≡ false → IsTrue (passes g Q q w) → IsTrue (passes g P q w)
+pub passes-smaller : (g : Digraph) (P Q : List Bool) (q : Predicate) (w : Witness) → IsSubpart P Q → rests_on_present w ≡ false → IsTrue (passes g Q q w) → IsTrue (passes g P q w)
 passes-smaller g P Q (kind.Reach u v) (by.Cut us) sub i h = is_cut-smaller g P Q sub u v us h
 passes-smaller g P Q (kind.Steps u v most) (by.Label ls) sub i h = is_labelling-smaller g P Q sub u v (limit.Steps most) ls h
 passes-smaller g P Q (kind.Distance u v most) (by.Label ls) sub i h = is_labelling-smaller g P Q sub u v (limit.Weight most) ls h
 passes-smaller g P Q (kind.Flow s t least) (by.FlowCut us) sub i h = is_flow_cut-smaller g P Q sub s t least us h
 passes-smaller g P Q (kind.Tree most) (by.Split us) sub i h = is_split-smaller g P Q sub us h
 passes-smaller g P Q (kind.Tree most) (by.Least es) sub i h = is_least-smaller g P Q sub most (placed g es) h
+passes-smaller g P Q kind.Acyclic (by.Order us) sub i h = is_order-smaller g P Q sub us h
 passes-smaller g P Q q w sub i h = absurd cc
 
 pub passes-same : (g : Digraph) (P Q : List Bool) (q : Predicate) (w : Witness) → IsSubpart P Q → IsSubpart Q P → passes g P q w ≡ passes g Q q w
-passes-same g P Q q w there back = elim (cases_Bool (is_positive w)) [
+passes-same g P Q q w there back = elim (cases_Bool (rests_on_present w)) [
   | inl i ↦ same_truth (passes g P q w) (passes g Q q w) (passes-larger g P Q q w there i) (passes-larger g Q P q w back i)
   | inr i ↦ same_truth (passes g P q w) (passes g Q q w) (passes-smaller g Q P q w back i) (passes-smaller g P Q q w there i)
 ]
 
 -- what passes over some part passes over the easiest one
 pub passes_over_easiest : (g : Digraph) (P : List Bool) (q : Predicate) (w : Witness) → length P ≡ length g.edges → IsTrue (passes g P q w) → IsTrue (passes g (easiest_part g w) q w)
-passes_over_easiest g P q w fits h = elim (cases_Bool (is_positive w)) [
-  | inl i ↦ passes-larger g P (easiest_part g w) q w (record { keeps = λ k here. let lt = present_below P k here in part_by-has (λ e. is_positive w) g k (omega (arith, fits, lt)) i }) i h
-  | inr i ↦ passes-smaller g (easiest_part g w) P q w (record { keeps = λ k here. absurd (both_ways (is_positive w) i (in_part_by (λ e. is_positive w) g k here)) }) i h
+passes_over_easiest g P q w fits h = elim (cases_Bool (rests_on_present w)) [
+  | inl i ↦ passes-larger g P (easiest_part g w) q w (record { keeps = λ k here. let lt = present_below P k here in part_by-has (λ e. rests_on_present w) g k (omega (arith, fits, lt)) i }) i h
+  | inr i ↦ passes-smaller g (easiest_part g w) P q w (record { keeps = λ k here. absurd (both_ways (rests_on_present w) i (in_part_by (λ e. rests_on_present w) g k here)) }) i h
 ]
 
 pub fails_everywhere : (g : Digraph) (P : List Bool) (q : Predicate) (w : Witness) → length P ≡ length g.edges → passes g (easiest_part g w) q w ≡ false → passes g P q w ≡ false

@@ -17,6 +17,7 @@ abbrev pub edges_listed : Witness → List ℕ
 edges_listed (by.Path es) = es
 edges_listed (by.Tree es) = es
 edges_listed (by.Least es) = es
+edges_listed (by.Cycle es) = es
 edges_listed w = []
 
 abbrev pub amounts_listed : Witness → List Amount

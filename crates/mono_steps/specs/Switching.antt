@@ -1,5 +1,5 @@
 -- Edges that come into a part, or leave it, with the literals of a clause.
-use Rattle.std.specs.Prelude.{ℕ, ◌==◌, Bool, ℤ, pos, neg_ℤ, if◌then◌else◌, List, Option, Some, None}
+use Rattle.std.specs.Prelude.{ℕ, ◌==◌, Bool, ℤ, pos, neg_ℤ, if◌then◌else◌, Option, Some, None}
 use Rattle.mono_problem.specs.declared.uses.Use.{Use}
 use Rattle.mono_problem.specs.declared.uses.Use.TheVariants as use_of
 

@@ -9,6 +9,7 @@ use Rattle.mono_graph.specs.declared.limit.Limit.TheVariants as limit
 use Rattle.mono_graph.specs.Walks.{is_path, is_cut, is_labelling}
 use Rattle.mono_graph.specs.Flows.{is_flow_of, is_flow_cut}
 use Rattle.mono_graph.specs.Trees.{is_tree, is_split, is_least}
+use Rattle.mono_graph.specs.Cycles.{is_cycle, is_order}
 use Rattle.mono_problem.specs.declared.atom.Atom.{Atom}
 use Rattle.mono_problem.specs.declared.atom.Predicate.{Predicate}
 use Rattle.mono_problem.specs.declared.atom.Predicate.TheVariants as kind
@@ -34,6 +35,8 @@ serves (by.FlowCut us) (kind.Flow s t least) = true
 serves (by.Tree es) (kind.Tree most) = true
 serves (by.Split us) (kind.Tree most) = true
 serves (by.Least es) (kind.Tree most) = true
+serves (by.Cycle es) kind.Acyclic = true
+serves (by.Order us) kind.Acyclic = true
 serves w q = false
 
 -- the words that show that a predicate holds. The others show that one fails
@@ -41,7 +44,16 @@ abbrev pub is_positive : Witness → Bool
 is_positive (by.Path es) = true
 is_positive (by.Flow ms) = true
 is_positive (by.Tree es) = true
+is_positive (by.Order us) = true
 is_positive w = false
+
+-- the words that rest on edges that are present. The others rest on edges that are absent
+abbrev pub rests_on_present : Witness → Bool
+rests_on_present (by.Path es) = true
+rests_on_present (by.Flow ms) = true
+rests_on_present (by.Tree es) = true
+rests_on_present (by.Cycle es) = true
+rests_on_present w = false
 
 -- ---- what a witness names
 
@@ -61,6 +73,8 @@ names_known g (by.FlowCut us) = names_nodes g us
 names_known g (by.Tree es) = names_edges g es
 names_known g (by.Split us) = names_nodes g us
 names_known g (by.Least es) = names_edges g es
+names_known g (by.Cycle es) = names_edges g es
+names_known g (by.Order us) = names_nodes g us
 
 -- labels and amounts are at most 2^60
 abbrev pub is_small : Witness → Bool
@@ -93,6 +107,8 @@ passes g P (kind.Flow s t least) (by.FlowCut us) = is_flow_cut g P s t least us
 passes g P (kind.Tree most) (by.Tree es) = is_tree g P most (placed g es)
 passes g P (kind.Tree most) (by.Split us) = is_split g P us
 passes g P (kind.Tree most) (by.Least es) = is_least g P most (placed g es)
+passes g P kind.Acyclic (by.Cycle es) = is_cycle g P (placed g es)
+passes g P kind.Acyclic (by.Order us) = is_order g P us
 passes g P q w = false
 
 -- ---- justified lemmas
@@ -109,7 +125,7 @@ abbrev pub predicate_literal : Atom → Witness → ℤ
 predicate_literal x w = if is_positive w then pos x.var else neg_ℤ (pos x.var)
 
 abbrev pub part_for : List ℤ → Digraph → Witness → List Bool
-part_for c g w = if is_positive w then part_not c g else part_free c g
+part_for c g w = if rests_on_present w then part_not c g else part_free c g
 
 -- the clause has the literal of the predicate's variable, and the witness passes over its part
 abbrev pub shows_clause : Digraph → Atom → List ℤ → Witness → Bool
@@ -129,9 +145,9 @@ justifies p l = elim (numbered p.atoms l.atom) [ None ↦ false | Some x ↦ jus
 
 -- ---- the first fault of a lemma
 
--- the part over which the witness passes if it passes over any: all edges where its word shows that the predicate holds, and else none
+-- the part over which the witness passes if it passes over any: all edges where its word rests on present edges, and else none
 abbrev pub easiest_part : Digraph → Witness → List Bool
-easiest_part g w = part_by (λ e. is_positive w) g
+easiest_part g w = part_by (λ e. rests_on_present w) g
 
 -- the first fault of a lemma of the predicate x, in the order of the checks
 abbrev pub lemma_fault_by : Instance → Atom → Lemma → Option StepFault

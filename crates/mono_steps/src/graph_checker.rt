@@ -9,12 +9,12 @@ ghost use Rattle.mono_graph.specs.Digraph.{IsPartOf, present};
 ghost use Rattle.mono_problem.specs.Instance.{graph_at};
 ghost use Rattle.mono_steps.specs.declared.fault.StepFault.TheVariants as fault;
 ghost use Rattle.mono_steps.specs.Faults.{first_failed};
-ghost use Rattle.mono_steps.specs.Witnesses.{easiest_part, is_positive as is_positive_word, part_for, passes, predicate_literal, shows_clause};
+ghost use Rattle.mono_steps.specs.Witnesses.{easiest_part, rests_on_present as rests_on_present_word, part_for, passes, predicate_literal, shows_clause};
 ghost use Rattle.mono_steps.specs.Checkers.{size_of};
 ghost use Rattle.mono_steps.specs.Placing.{IsTestable};
 
 use crate::placing::PlacedEdges;
-use crate::serving::is_positive;
+use crate::serving::rests_on_present;
 use crate::switching::switch_edges;
 use crate::witness_checker::WitnessChecker;
 use crate::{StepFault, Witness};
@@ -45,7 +45,7 @@ impl Model for GraphChecker {
 }
 
 /// Whether the witness passes over the part that the clause leaves it. The part is that without any edge where the word
-/// shows that a predicate holds, and else that with each edge; it is changed for the test, and changed back.
+/// rests on present edges, and else that with each edge; it is changed for the test, and changed back.
 fn passes_over_clause(
     tests: &mut WitnessChecker,
     part: &mut Part,
@@ -54,23 +54,23 @@ fn passes_over_clause(
     lits: &[Lit],
     witness: &Witness,
     placed: &PlacedEdges,
-    positive: bool,
+    on_present: bool,
 ) -> Result<bool, AllocError>
-    requires positive { positive ≡ is_positive_word witness.now }
+    requires rests { on_present ≡ rests_on_present_word witness.now }
     requires graph { atom.graph < length problem.now.graphs }
     requires tests { tests.old ≡ size_of (graph_at problem.now atom.graph) }
     requires part { IsPartOf part.old (graph_at problem.now atom.graph) }
-    requires reset { (k : ℕ) → k < length (graph_at problem.now atom.graph).edges → present part.old k ≡ not positive }
+    requires reset { (k : ℕ) → k < length (graph_at problem.now atom.graph).edges → present part.old k ≡ not on_present }
     requires testable { IsTestable (graph_at problem.now atom.graph) atom.predicate witness.now placed.now }
     ensures passes { IfOk result (λ b. b ≡ passes (graph_at problem.now atom.graph) (part_for lits.now (graph_at problem.now atom.graph) witness.now) atom.predicate witness.now) }
     ensures tests { tests.new ≡ tests.old }
     ensures part { IsPartOf part.new (graph_at problem.now atom.graph) }
-    ensures reset { (k : ℕ) → k < length (graph_at problem.now atom.graph).edges → present part.new k ≡ not positive }
+    ensures reset { (k : ℕ) → k < length (graph_at problem.now atom.graph).edges → present part.new k ≡ not on_present }
 {
-    switch_edges(part, problem, atom.graph, lits, !positive, positive);
+    switch_edges(part, problem, atom.graph, lits, !on_present, on_present);
     let graph = problem.graph(atom.graph);
     let passes = tests.passes(graph, part, atom.predicate, witness, placed);
-    switch_edges(part, problem, atom.graph, lits, !positive, !positive);
+    switch_edges(part, problem, atom.graph, lits, !on_present, !on_present);
     passes
 }
 
@@ -101,7 +101,7 @@ impl GraphChecker {
         ensures kept { self.new ≡ self.old }
     {
         let tests = &mut self.tests;
-        if is_positive(witness) {
+        if rests_on_present(witness) {
             passes_over_clause(
                 tests,
                 &mut self.none,
@@ -126,8 +126,7 @@ impl GraphChecker {
         }
     }
 
-    /// Whether the witness passes over any part: with each edge where the word shows that a predicate holds, else with
-    /// none.
+    /// Whether the witness passes over any part: with each edge where the word rests on present edges, else with none.
     fn can_pass(
         &mut self,
         graph: &Graph,
@@ -140,7 +139,7 @@ impl GraphChecker {
         ensures passes { IfOk result (λ b. b ≡ passes graph.now (easiest_part graph.now witness.now) predicate witness.now) }
         ensures kept { self.new ≡ self.old }
     {
-        if is_positive(witness) {
+        if rests_on_present(witness) {
             self.tests
                 .passes(graph, &self.all, predicate, witness, placed)
         } else {

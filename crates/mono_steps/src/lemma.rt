@@ -9,8 +9,8 @@ use std::alloc::{AllocError, Global};
 
 /// What shows that a predicate holds or fails. Edges are named by their numbers, from 1, nodes from 0.
 ///
-/// `Path`, `Flow` and `Tree` show that it holds where some edges are present, the others that it fails where some
-/// edges are absent.
+/// `Path`, `Flow` and `Tree` show that it holds where some edges are present, and `Cycle` that it fails there. `Order` shows
+/// that it holds where some edges are absent, and the others that it fails there.
 #[derive(Drop)]
 pub enum Witness {
     /// The edges of a walk, in order, for a predicate on walks.
@@ -29,6 +29,10 @@ pub enum Witness {
     Split(Row<u32>),
     /// The edges of a spanning tree above the bound, present or not, that none is lighter than.
     Least(Row<u32>),
+    /// The edges of a walk from a node to itself, in order, against the predicate that there is none.
+    Cycle(Row<u32>),
+    /// Each node once, so that each edge begins before it ends in the list, for the predicate that there is no cycle.
+    Order(Row<u32>),
 }
 
 /// A clause that follows from what one predicate says of its graph.
@@ -62,6 +66,8 @@ impl Witness {
             Witness::Tree(edges) => Ok(Witness::Tree(copy_row(alloc, edges)?)),
             Witness::Split(nodes) => Ok(Witness::Split(copy_row(alloc, nodes)?)),
             Witness::Least(edges) => Ok(Witness::Least(copy_row(alloc, edges)?)),
+            Witness::Cycle(edges) => Ok(Witness::Cycle(copy_row(alloc, edges)?)),
+            Witness::Order(nodes) => Ok(Witness::Order(copy_row(alloc, nodes)?)),
         }
     }
 }

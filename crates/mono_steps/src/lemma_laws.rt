@@ -11,20 +11,20 @@ ghost use Rattle.mono_problem.specs.Holds.{Holds, Agrees};
 ghost use Rattle.mono_steps.specs.declared.lemma.Lemma.{Lemma};
 ghost use Rattle.mono_steps.specs.declared.lemma.Witness.{Witness};
 ghost use Rattle.mono_steps.specs.ChainSteps.{names_vars};
-ghost use Rattle.mono_steps.specs.Witnesses.{is_positive, serves, passes, easiest_part, is_shown, justifies};
+ghost use Rattle.mono_steps.specs.Witnesses.{is_positive, rests_on_present, serves, passes, easiest_part, is_shown, justifies};
 
-/// A `Path`, `Flow` or `Tree` that passes over a part shows that the predicate holds there. A witness of another word
+/// A `Path`, `Flow`, `Tree` or `Order` that passes over a part shows that the predicate holds there. A witness of another word
 /// that passes shows that it fails there.
 pub fn passing_witnesses_decide()
     ensures holds { (g : Digraph) (P : List Bool) (q : Predicate) (w : Witness) → IsTrue (is_positive w) → IsTrue (passes g P q w) → Holds g P q }
     ensures fails { (g : Digraph) (P : List Bool) (q : Predicate) (w : Witness) → IsGraph g → IsOver g q → length P ≡ length g.edges → is_positive w ≡ false → IsTrue (passes g P q w) → ¬ Holds g P q }
 {}
 
-/// What a `Path`, `Flow` or `Tree` passes over, it passes over each larger part of. A witness of another word passes over
+/// What a `Path`, `Flow`, `Tree` or `Cycle` passes over, it passes over each larger part of. A witness of another word passes over
 /// each smaller part. So over two parts with the same edges a witness passes or fails alike.
 pub fn witnesses_are_monotonic()
-    ensures larger { (g : Digraph) (P Q : List Bool) (q : Predicate) (w : Witness) → IsSubpart P Q → IsTrue (is_positive w) → IsTrue (passes g P q w) → IsTrue (passes g Q q w) }
-    ensures smaller { (g : Digraph) (P Q : List Bool) (q : Predicate) (w : Witness) → IsSubpart P Q → is_positive w ≡ false → IsTrue (passes g Q q w) → IsTrue (passes g P q w) }
+    ensures larger { (g : Digraph) (P Q : List Bool) (q : Predicate) (w : Witness) → IsSubpart P Q → IsTrue (rests_on_present w) → IsTrue (passes g P q w) → IsTrue (passes g Q q w) }
+    ensures smaller { (g : Digraph) (P Q : List Bool) (q : Predicate) (w : Witness) → IsSubpart P Q → rests_on_present w ≡ false → IsTrue (passes g Q q w) → IsTrue (passes g P q w) }
     ensures same { (g : Digraph) (P Q : List Bool) (q : Predicate) (w : Witness) → IsSubpart P Q → IsSubpart Q P → passes g P q w ≡ passes g Q q w }
 {}
 

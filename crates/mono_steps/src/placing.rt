@@ -93,6 +93,8 @@ impl PlacedEdges {
             Witness::Tree(edges) => place_edges(graph, edges.as_slice(), &mut self.places),
             Witness::Split(nodes) => Ok(are_nodes(graph, nodes.as_slice())),
             Witness::Least(edges) => place_edges(graph, edges.as_slice(), &mut self.places),
+            Witness::Cycle(edges) => place_edges(graph, edges.as_slice(), &mut self.places),
+            Witness::Order(nodes) => Ok(are_nodes(graph, nodes.as_slice())),
         }
     }
 }

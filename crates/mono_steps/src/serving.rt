@@ -1,7 +1,7 @@
 //! Which witnesses serve which predicates.
 
 ghost use Rattle.std.specs.Prelude.{◌≡◌};
-ghost use Rattle.mono_steps.specs.Witnesses.{is_positive, serves};
+ghost use Rattle.mono_steps.specs.Witnesses.{is_positive, rests_on_present, serves};
 
 use crate::Witness;
 use mono_problem::Predicate;
@@ -24,6 +24,7 @@ pub(crate) fn serves(witness: &Witness, predicate: Predicate) -> bool
         Witness::Tree(_) | Witness::Split(_) | Witness::Least(_) => {
             matches!(predicate, Predicate::Tree { .. })
         }
+        Witness::Cycle(_) | Witness::Order(_) => matches!(predicate, Predicate::Acyclic),
     }
 }
 
@@ -33,6 +34,16 @@ pub(crate) fn is_positive(witness: &Witness) -> bool
 {
     matches!(
         witness,
-        Witness::Path(_) | Witness::Flow(_) | Witness::Tree(_)
+        Witness::Path(_) | Witness::Flow(_) | Witness::Tree(_) | Witness::Order(_)
+    )
+}
+
+/// Whether the word rests on edges that are present. The others rest on edges that are absent.
+pub(crate) fn rests_on_present(witness: &Witness) -> bool
+    ensures { result ≡ rests_on_present witness.now }
+{
+    matches!(
+        witness,
+        Witness::Path(_) | Witness::Flow(_) | Witness::Tree(_) | Witness::Cycle(_)
     )
 }

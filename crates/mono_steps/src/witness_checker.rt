@@ -9,6 +9,7 @@ ghost use Rattle.mono_steps.specs.Witnesses.{passes};
 
 use crate::Witness;
 use crate::placing::PlacedEdges;
+use mono_cycles::{OrderChecker, is_cycle};
 use mono_flows::FlowChecker;
 use mono_graph::{Graph, Limit, Part};
 use mono_paths::{WalkChecker, is_path};
@@ -23,6 +24,7 @@ pub(crate) struct WitnessChecker {
     walks: WalkChecker,
     flows: FlowChecker,
     trees: TreeChecker,
+    orders: OrderChecker,
 }
 
 impl Model for WitnessChecker {
@@ -33,7 +35,7 @@ impl Model for WitnessChecker {
 
     ghost view = { λ c. record { nodes = c.flows.nodes; edges = c.flows.edges } };
 
-    ghost invariant = { λ c. (c.walks ≡ c.flows.nodes) × (c.trees ≡ c.flows.nodes) };
+    ghost invariant = { λ c. (c.walks ≡ c.flows.nodes) × (c.trees ≡ c.flows.nodes) × (c.orders ≡ c.flows.nodes) };
 }
 
 impl WitnessChecker {
@@ -45,10 +47,12 @@ impl WitnessChecker {
         let walks = WalkChecker::new(alloc, nodes)?;
         let flows = FlowChecker::new(alloc, nodes, graph.edge_count())?;
         let trees = TreeChecker::new(alloc, nodes)?;
+        let orders = OrderChecker::new(alloc, nodes)?;
         Ok(WitnessChecker {
             walks,
             flows,
             trees,
+            orders,
         })
     }
 
@@ -140,6 +144,27 @@ impl WitnessChecker {
         }
     }
 
+    /// Whether the witness passes for the predicate that there is no cycle.
+    fn cycle_passes(
+        &mut self,
+        graph: &Graph,
+        part: &Part,
+        witness: &Witness,
+        placed: &PlacedEdges,
+    ) -> bool
+        requires size { self.old ≡ size_of graph.now }
+        requires part { IsPartOf part.now graph.now }
+        requires testable { IsTestable graph.now kind.Acyclic witness.now placed.now }
+        ensures passes { result ≡ passes graph.now part.now kind.Acyclic witness.now }
+        ensures kept { self.new ≡ self.old }
+    {
+        match witness {
+            Witness::Cycle(_) => is_cycle(graph, part, placed.places.as_slice()),
+            Witness::Order(nodes) => self.orders.is_order(graph, part, nodes.as_slice()),
+            _ => false,
+        }
+    }
+
     /// Whether the witness passes over the part. `placed` has its edges, by place.
     pub(crate) fn passes(
         &mut self,
@@ -173,6 +198,7 @@ impl WitnessChecker {
                 least,
             } => Ok(self.flow_passes(graph, part, source, sink, least, witness, placed)),
             Predicate::Tree { most } => self.tree_passes(graph, part, most, witness, placed),
+            Predicate::Acyclic => Ok(self.cycle_passes(graph, part, witness, placed)),
         }
     }
 }

@@ -99,7 +99,7 @@ pub fn edge_under_its_predicates_variable()
     ensures cut_needs_both { lemma_fault (asks (round_trip 2 3) (kind.Reach 0 1) 1) (of_1 (minus 1 ∷ []) (by.Cut (0 ∷ []))) ≡ Some fault.MissingLiteral }
 {}
 
-/// Every number that a witness names is looked up, for each of the eight words. Labels and amounts are not.
+/// Every number that a witness names is looked up, for each of the ten words. Labels and amounts are not.
 pub fn unknown_numbers()
     ensures path { lemma_fault (asks (triangle 1 1 1) (kind.Reach 0 1) 5) (of_1 [] (by.Path (3 ∷ 4 ∷ []))) ≡ Some fault.UnknownNumber }
     ensures cut { lemma_fault (asks (triangle 1 1 1) (kind.Reach 0 1) 5) (of_1 [] (by.Cut (0 ∷ 3 ∷ []))) ≡ Some fault.UnknownNumber }
@@ -109,6 +109,8 @@ pub fn unknown_numbers()
     ensures tree { lemma_fault (asks (triangle 1 1 1) (kind.Tree (pos 2)) 5) (of_1 [] (by.Tree (3 ∷ 10 ∷ []))) ≡ Some fault.UnknownNumber }
     ensures split { lemma_fault (asks (triangle 1 1 1) (kind.Tree (pos 2)) 5) (of_1 [] (by.Split (2 ∷ 3 ∷ []))) ≡ Some fault.UnknownNumber }
     ensures least { lemma_fault (asks (triangle 1 1 1) (kind.Tree (pos 1)) 5) (of_1 [] (by.Least (3 ∷ 5 ∷ []))) ≡ Some fault.UnknownNumber }
+    ensures cycle { lemma_fault (asks (triangle 1 1 1) kind.Acyclic 5) (of_1 [] (by.Cycle (3 ∷ 5 ∷ []))) ≡ Some fault.UnknownNumber }
+    ensures order { lemma_fault (asks (triangle 1 1 1) kind.Acyclic 5) (of_1 [] (by.Order (0 ∷ 1 ∷ 2 ∷ 3 ∷ []))) ≡ Some fault.UnknownNumber }
     ensures great_label { lemma_fault (asks (round_trip 2 3) (kind.Distance 0 1 (pos 1)) 3) (of_1 (pos 1 ∷ minus 3 ∷ []) (by.Label (record { node = 0; value = 0 } ∷ record { node = 1; value = 2 ^ 60 + 1 } ∷ []))) ≡ None }
     ensures not_justified { justifies (asks (round_trip 2 3) (kind.Distance 0 1 (pos 1)) 3) (of_1 (pos 1 ∷ minus 3 ∷ []) (by.Label (record { node = 0; value = 0 } ∷ record { node = 1; value = 2 ^ 60 + 1 } ∷ []))) ≡ false }
     ensures greatest_label { justifies (asks (round_trip 2 3) (kind.Distance 0 1 (pos 1)) 3) (of_1 (pos 1 ∷ minus 3 ∷ []) (by.Label (record { node = 0; value = 0 } ∷ record { node = 1; value = 2 ^ 60 } ∷ []))) ≡ true }

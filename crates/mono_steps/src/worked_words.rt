@@ -1,9 +1,9 @@
-//! Worked rows: which word serves which predicate, and what it shows.
+//! Worked rows: which word serves which predicate, what it shows, and on which edges it rests.
 
 ghost use Rattle.std.specs.Prelude.{◌≡◌, [], true, false, pos};
 ghost use Rattle.mono_problem.specs.declared.atom.Predicate.TheVariants as kind;
 ghost use Rattle.mono_steps.specs.declared.lemma.Witness.TheVariants as by;
-ghost use Rattle.mono_steps.specs.Witnesses.{is_positive, serves};
+ghost use Rattle.mono_steps.specs.Witnesses.{is_positive, rests_on_present, serves};
 
 /// A path serves the predicates on walks.
 pub fn path_serves()
@@ -12,6 +12,7 @@ pub fn path_serves()
     ensures distance { serves (by.Path []) (kind.Distance 0 1 (pos 1)) ≡ true }
     ensures flow { serves (by.Path []) (kind.Flow 0 1 (pos 1)) ≡ false }
     ensures tree { serves (by.Path []) (kind.Tree (pos 1)) ≡ false }
+    ensures acyclic { serves (by.Path []) kind.Acyclic ≡ false }
 {}
 
 /// A cut serves reachability alone: it bounds no cost.
@@ -21,6 +22,7 @@ pub fn cut_serves()
     ensures distance { serves (by.Cut []) (kind.Distance 0 1 (pos 1)) ≡ false }
     ensures flow { serves (by.Cut []) (kind.Flow 0 1 (pos 1)) ≡ false }
     ensures tree { serves (by.Cut []) (kind.Tree (pos 1)) ≡ false }
+    ensures acyclic { serves (by.Cut []) kind.Acyclic ≡ false }
 {}
 
 /// Labels serve the predicates on walks with a bound.
@@ -30,6 +32,7 @@ pub fn label_serves()
     ensures distance { serves (by.Label []) (kind.Distance 0 1 (pos 1)) ≡ true }
     ensures flow { serves (by.Label []) (kind.Flow 0 1 (pos 1)) ≡ false }
     ensures tree { serves (by.Label []) (kind.Tree (pos 1)) ≡ false }
+    ensures acyclic { serves (by.Label []) kind.Acyclic ≡ false }
 {}
 
 /// A flow serves predicates on flows.
@@ -39,6 +42,7 @@ pub fn flow_serves()
     ensures distance { serves (by.Flow []) (kind.Distance 0 1 (pos 1)) ≡ false }
     ensures flow { serves (by.Flow []) (kind.Flow 0 1 (pos 1)) ≡ true }
     ensures tree { serves (by.Flow []) (kind.Tree (pos 1)) ≡ false }
+    ensures acyclic { serves (by.Flow []) kind.Acyclic ≡ false }
 {}
 
 /// So does a flow cut.
@@ -48,6 +52,7 @@ pub fn flow_cut_serves()
     ensures distance { serves (by.FlowCut []) (kind.Distance 0 1 (pos 1)) ≡ false }
     ensures flow { serves (by.FlowCut []) (kind.Flow 0 1 (pos 1)) ≡ true }
     ensures tree { serves (by.FlowCut []) (kind.Tree (pos 1)) ≡ false }
+    ensures acyclic { serves (by.FlowCut []) kind.Acyclic ≡ false }
 {}
 
 /// A tree serves predicates on spanning trees.
@@ -57,6 +62,7 @@ pub fn tree_serves()
     ensures distance { serves (by.Tree []) (kind.Distance 0 1 (pos 1)) ≡ false }
     ensures flow { serves (by.Tree []) (kind.Flow 0 1 (pos 1)) ≡ false }
     ensures tree { serves (by.Tree []) (kind.Tree (pos 1)) ≡ true }
+    ensures acyclic { serves (by.Tree []) kind.Acyclic ≡ false }
 {}
 
 /// So does a split.
@@ -66,6 +72,7 @@ pub fn split_serves()
     ensures distance { serves (by.Split []) (kind.Distance 0 1 (pos 1)) ≡ false }
     ensures flow { serves (by.Split []) (kind.Flow 0 1 (pos 1)) ≡ false }
     ensures tree { serves (by.Split []) (kind.Tree (pos 1)) ≡ true }
+    ensures acyclic { serves (by.Split []) kind.Acyclic ≡ false }
 {}
 
 /// So does a least tree.
@@ -75,9 +82,30 @@ pub fn least_serves()
     ensures distance { serves (by.Least []) (kind.Distance 0 1 (pos 1)) ≡ false }
     ensures flow { serves (by.Least []) (kind.Flow 0 1 (pos 1)) ≡ false }
     ensures tree { serves (by.Least []) (kind.Tree (pos 1)) ≡ true }
+    ensures acyclic { serves (by.Least []) kind.Acyclic ≡ false }
 {}
 
-/// A path, a flow and a tree show that a predicate holds. The others show that one fails.
+/// A cycle serves the predicate that there is none.
+pub fn cycle_serves()
+    ensures reach { serves (by.Cycle []) (kind.Reach 0 1) ≡ false }
+    ensures steps { serves (by.Cycle []) (kind.Steps 0 1 (pos 1)) ≡ false }
+    ensures distance { serves (by.Cycle []) (kind.Distance 0 1 (pos 1)) ≡ false }
+    ensures flow { serves (by.Cycle []) (kind.Flow 0 1 (pos 1)) ≡ false }
+    ensures tree { serves (by.Cycle []) (kind.Tree (pos 1)) ≡ false }
+    ensures acyclic { serves (by.Cycle []) kind.Acyclic ≡ true }
+{}
+
+/// So does an order.
+pub fn order_serves()
+    ensures reach { serves (by.Order []) (kind.Reach 0 1) ≡ false }
+    ensures steps { serves (by.Order []) (kind.Steps 0 1 (pos 1)) ≡ false }
+    ensures distance { serves (by.Order []) (kind.Distance 0 1 (pos 1)) ≡ false }
+    ensures flow { serves (by.Order []) (kind.Flow 0 1 (pos 1)) ≡ false }
+    ensures tree { serves (by.Order []) (kind.Tree (pos 1)) ≡ false }
+    ensures acyclic { serves (by.Order []) kind.Acyclic ≡ true }
+{}
+
+/// A path, a flow, a tree and an order show that a predicate holds. The others show that one fails.
 pub fn what_words_show()
     ensures path { is_positive (by.Path []) ≡ true }
     ensures cut { is_positive (by.Cut []) ≡ false }
@@ -87,4 +115,20 @@ pub fn what_words_show()
     ensures tree { is_positive (by.Tree []) ≡ true }
     ensures split { is_positive (by.Split []) ≡ false }
     ensures least { is_positive (by.Least []) ≡ false }
+    ensures cycle { is_positive (by.Cycle []) ≡ false }
+    ensures order { is_positive (by.Order []) ≡ true }
+{}
+
+/// A path, a flow, a tree and a cycle rest on edges that are present. The others rest on edges that are absent.
+pub fn what_words_rest_on()
+    ensures path { rests_on_present (by.Path []) ≡ true }
+    ensures cut { rests_on_present (by.Cut []) ≡ false }
+    ensures label { rests_on_present (by.Label []) ≡ false }
+    ensures flow { rests_on_present (by.Flow []) ≡ true }
+    ensures flow_cut { rests_on_present (by.FlowCut []) ≡ false }
+    ensures tree { rests_on_present (by.Tree []) ≡ true }
+    ensures split { rests_on_present (by.Split []) ≡ false }
+    ensures least { rests_on_present (by.Least []) ≡ false }
+    ensures cycle { rests_on_present (by.Cycle []) ≡ true }
+    ensures order { rests_on_present (by.Order []) ≡ false }
 {}

@@ -15,7 +15,8 @@ use Rattle.mono_problem.specs.declared.atom.Atom.{Atom}
 use Rattle.mono_problem.specs.Quiet.{under, over}
 use Rattle.mono_problem.specs.Read.{no_atom}
 use Rattle.std.specs.Prelude.{int_lt}
-use Rattle.mono_theory.specs.Evidences.{side}
+use Rattle.mono_theory.specs.Evidences.{side, shown_by}
+use Rattle.mono_problem.specs.declared.atom.Predicate.{Predicate}
 use Rattle.mono_problem.specs.WellFormed.{IsOver}
 use Rattle.mono_theory.specs.Index.{IsPlaceOf}
 use Rattle.mono_theory.specs.Theories.{concerns_of, owns_of, atom_of}
@@ -235,5 +236,5 @@ one_on b vs t k l lt at p h =
     subst (IsBoundOf (assigned b l) vs) (sym more) (assigned_is_bound b vs (take k t) l (last_is_lit (take k t) l front) h)
 
 -- the side of a literal, by the bounds
-pub side_is : (b : Bound) (g : Digraph) (t : List ℤ) (l : ℤ) → IsBoundOf b (edge_vars g) t → cond (int_lt (pos 0) l) b.under b.over ≡ side g t l
-side_is b g t l h = ap (λ P. cond (int_lt (pos 0) l) P b.over) (under_is b g t h) ∙ ap (λ P. cond (int_lt (pos 0) l) (under g t) P) (over_is b g t h)
+pub side_is : (b : Bound) (g : Digraph) (q : Predicate) (t : List ℤ) (l : ℤ) → IsBoundOf b (edge_vars g) t → cond (shown_by q (int_lt (pos 0) l)) b.under b.over ≡ side g q t l
+side_is b g q t l h = ap (λ P. cond (shown_by q (int_lt (pos 0) l)) P b.over) (under_is b g t h) ∙ ap (λ P. cond (shown_by q (int_lt (pos 0) l)) (under g t) P) (over_is b g t h)

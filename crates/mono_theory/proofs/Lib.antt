@@ -22,3 +22,4 @@ pub mod SideLaws
 pub mod SeenLaws
 pub mod QuietLaws
 pub mod KeptLaws
+pub mod WorkedRows

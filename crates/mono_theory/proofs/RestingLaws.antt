@@ -1,16 +1,17 @@
--- Witnesses against a predicate that ask something of some present edges alone: they rest on those of them that are absent.
+-- Witnesses that ask something of some present edges alone: they rest on those of them that are absent.
 use Rattle.std.proofs.Common.{◌≡◌, ℕ, ◌<◌, Bool, true, false, not, ◌&&◌, cond, List, [], ◌∷◌, ◌++◌, get_or, length, refl, sym, ap, subst, ◌∙◌, ◌⊎◌, inl, inr, arith}
 use Rattle.std.specs.Prelude.{IsTrue, flat_map}
 use Rattle.std.proofs.lemmas.Bool.{or_cases, and_parts, and_from, both_ways, not-true, not_from_false, cases_Bool, false_from_ne_true}
 use Rattle.std.specs.List.{list_all}
 use Rattle.mono_graph.specs.declared.edge.Edge.{Edge}
-use Rattle.mono_graph.specs.Digraph.{Digraph, edge_at, present, places, leaving, entering, leads_out, crosses, has}
+use Rattle.mono_graph.specs.Digraph.{Digraph, IsSubpart, edge_at, present, places, leaving, entering, leads_out, crosses, has}
 use Rattle.mono_graph.proofs.Membership.{has_here, has_there, has_cons, has_append_cases, has_append_left, has_append_right, has_filter, filter_has, places_at, at_places}
 use Rattle.mono_graph.proofs.Places.{list_all_agree}
 use Rattle.mono_problem.specs.declared.atom.Predicate.{Predicate}
 use Rattle.mono_steps.specs.declared.lemma.Witness.{Witness}
 use Rattle.mono_steps.specs.declared.lemma.Witness.TheVariants as by
-use Rattle.mono_steps.specs.Witnesses.{is_positive, is_small, names_known, passes}
+use Rattle.mono_steps.specs.Witnesses.{rests_on_present, is_small, names_known, passes}
+use Rattle.mono_theory.specs.declared.evidence.Evidence.{Evidence}
 use Rattle.mono_theory.specs.Evidences.{only, all_but, uses, IsEvidence}
 use Rattle.mono_theory.specs.Resting.{AreAbsent, AreAlike, absent_from, absent_into, absent_out, absent_across}
 use Rattle.mono_theory.proofs.EvidenceLaws.{not_in_all_but, in_all_but}
@@ -44,25 +45,27 @@ alike_none {test = test} {g = g} {P = P} {Q = Q} h =
 
 -- ---- evidence
 
--- a witness against a predicate uses each edge
-against_uses : (g : Digraph) (w : Witness) (k : ℕ) → is_positive w ≡ false → IsTrue (uses g w k)
-against_uses g (by.Path es) k h = refl
-against_uses g (by.Cut us) k h = refl
-against_uses g (by.Label ls) k h = refl
-against_uses g (by.Flow ms) k h = absurd cc
-against_uses g (by.FlowCut us) k h = refl
-against_uses g (by.Tree es) k h = refl
-against_uses g (by.Split us) k h = refl
-against_uses g (by.Least es) k h = refl
+-- a witness that rests on absent edges uses each of them
+absent_used : (g : Digraph) (w : Witness) (k : ℕ) → rests_on_present w ≡ false → IsTrue (uses g w k)
+absent_used g (by.Path es) k h = refl
+absent_used g (by.Cut us) k h = refl
+absent_used g (by.Label ls) k h = refl
+absent_used g (by.Flow ms) k h = absurd cc
+absent_used g (by.FlowCut us) k h = refl
+absent_used g (by.Tree es) k h = refl
+absent_used g (by.Split us) k h = refl
+absent_used g (by.Least es) k h = refl
+absent_used g (by.Cycle es) k h = refl
+absent_used g (by.Order us) k h = refl
 
--- a witness against a predicate whose test looks only at the edges that pass a test rests on the absent ones
-pub resting_evidence : (test : Edge → Bool) (g : Digraph) (P : List Bool) (q : Predicate) (w : Witness) (ks : List ℕ) → is_positive w ≡ false → IsTrue (names_known g w) → IsTrue (is_small w)
+-- a witness that rests on absent edges, and whose test looks only at the edges that pass a test, rests on the absent ones of these
+pub resting_evidence : (test : Edge → Bool) (g : Digraph) (P : List Bool) (q : Predicate) (w : Witness) (ks : List ℕ) → rests_on_present w ≡ false → IsTrue (names_known g w) → IsTrue (is_small w)
     → ((Q : List Bool) → AreAlike test g P Q → passes g P q w ≡ passes g Q q w) → AreAbsent test g P ks → IsTrue (passes g P q w) → IsEvidence g P q (record { witness = w; edges = ks })
 resting_evidence test g P q w ks sign known small looks h p = record {
   known = known;
   small = small;
-  sided = all_by (λ k. (k < length g.edges) × (present P k ≡ is_positive w)) ks (λ k t. let a = all_has (λ j. (j < length g.edges) × (present P j ≡ false)) ks k h.absent t in (a.0, a.1 ∙ sym sign));
-  used = λ i d lt. against_uses g w (get_or ks i d) sign;
+  sided = all_by (λ k. (k < length g.edges) × (present P k ≡ rests_on_present w)) ks (λ k t. let a = all_has (λ j. (j < length g.edges) × (present P j ≡ false)) ks k h.absent t in (a.0, a.1 ∙ sym sign));
+  used = λ i d lt. absent_used g w (get_or ks i d) sign;
   passes = ap (λ (b : Bool). passes g (cond b (only g ks) (all_but g ks)) q w) sign ∙ sym (looks (all_but g ks) (alike_without h)) ∙ p;
 }
 
@@ -138,4 +141,16 @@ crossing_are_absent g P s = record {
         (has_append_right (absent_from g P s u) (absent_into g P s u) k (has_filter (λ j. not (present P j) && not (has s (edge_at g j).from)) (entering g u) k (at_places (λ e. e.to) g u k lt refl)
         (and_from (not (present P k)) (not (has s (edge_at g k).from)) (not_from_false (present P k) off) back.1))))
   ];
+}
+
+-- ---- parts and greater parts
+
+-- what shows by absent edges in a greater part shows it in the part
+pub evidence_within : (g : Digraph) (P Q : List Bool) (q : Predicate) (e : Evidence) → rests_on_present e.witness ≡ false → IsSubpart P Q → IsEvidence g Q q e → IsEvidence g P q e
+evidence_within g P Q q e rests sub h = record {
+  known = h.known;
+  small = h.small;
+  sided = λ i d lt. let s = h.sided i d lt in (s.0, false_from_ne_true (present P (get_or e.edges i d)) (λ t. both_ways (present Q (get_or e.edges i d)) (s.1 ∙ rests) (sub.keeps (get_or e.edges i d) t)) ∙ sym rests);
+  used = h.used;
+  passes = h.passes;
 }

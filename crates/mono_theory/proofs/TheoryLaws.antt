@@ -12,7 +12,7 @@ use Rattle.mono_base.proofs.Partials.{false_not_true}
 use Rattle.mono_base.proofs.Truth.{same_lit, at_each}
 use Rattle.mono_graph.specs.Digraph.{Digraph}
 use Rattle.mono_problem.specs.declared.atom.Atom.{Atom}
-use Rattle.mono_problem.specs.Quiet.{Forces, IsQuietAtom, TheoryQuiet, under, over}
+use Rattle.mono_problem.specs.Quiet.{Forces, IsQuietAtom, TheoryQuiet, part_to_hold, part_to_fail}
 use Rattle.mono_problem.specs.Holds.{Holds}
 use Rattle.mono_steps.proofs.Sets.{has-without}
 use Rattle.mono_steps.specs.declared.lemma.Lemma.{Lemma}
@@ -42,12 +42,11 @@ own_var atoms n x e = let (k, lt, at) = (found_at atoms n x e).0 in list_any_at 
 forced_from : (g : Digraph) (atoms : List Atom) (t : List ℤ) (x : Atom) (l : ℤ) → atom_of atoms x.number ≡ Some x → Forces g x t l → is_true_in t l ≡ false → IsForced g atoms t x.number l
 forced_from g atoms t x l e h missing = record { forces = subst (λ (o : Option Atom). MatchOption o ⊥ (λ y. Forces g y t l)) (sym e) h; not_yet = missing }
 
--- an atom whose predicate holds with the surely present edges forces its variable, and one whose predicate fails with the
--- possibly present ones the negation
-pub overdue_is_forced : (g : Digraph) (atoms : List Atom) (t : List ℤ) (x : Atom) → atom_of atoms x.number ≡ Some x → Holds g (under g t) x.predicate × (is_true_in t (pos x.var) ≡ false) → IsForced g atoms t x.number (literal_of true x.var)
+-- an atom whose predicate holds whatever comes forces its variable, and one whose predicate fails whatever comes the negation
+pub overdue_is_forced : (g : Digraph) (atoms : List Atom) (t : List ℤ) (x : Atom) → atom_of atoms x.number ≡ Some x → Holds g (part_to_hold x.predicate g t) x.predicate × (is_true_in t (pos x.var) ≡ false) → IsForced g atoms t x.number (literal_of true x.var)
 overdue_is_forced g atoms t x e h = forced_from g atoms t x (pos x.var) e (inl (refl, h.0)) h.1
 
-pub barred_is_forced : (g : Digraph) (atoms : List Atom) (t : List ℤ) (x : Atom) → atom_of atoms x.number ≡ Some x → (¬ Holds g (over g t) x.predicate) × (is_false_in t (pos x.var) ≡ false) → IsForced g atoms t x.number (literal_of false x.var)
+pub barred_is_forced : (g : Digraph) (atoms : List Atom) (t : List ℤ) (x : Atom) → atom_of atoms x.number ≡ Some x → (¬ Holds g (part_to_fail x.predicate g t) x.predicate) × (is_false_in t (pos x.var) ≡ false) → IsForced g atoms t x.number (literal_of false x.var)
 barred_is_forced g atoms t x e h = forced_from g atoms t x (neg_ℤ (pos x.var)) e (inr (refl, h.0)) h.1
 
 loud : (g : Digraph) (t : List ℤ) (x : Atom) (l : ℤ) → Forces g x t l → is_true_in t l ≡ false → IsQuietAtom g t x → ⊥

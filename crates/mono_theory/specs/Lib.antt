@@ -13,3 +13,4 @@ pub mod Stages
 pub mod Sound
 pub mod Watching
 pub mod Supports
+pub mod Worked

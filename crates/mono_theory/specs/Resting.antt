@@ -1,5 +1,5 @@
--- Edges on which a witness against a predicate rests. Each such witness asks something of some present edges alone, as a
--- cut does of those that leave it, so it rests on those of them that are absent.
+-- Absent edges on which a witness rests. Each such witness asks something of some present edges alone, as a cut does of those
+-- that leave it, so it rests on those of them that are absent.
 use Rattle.std.specs.Prelude.{◌≡◌, ℕ, ◌<◌, Bool, false, not, ◌&&◌, List, ◌++◌, length, filter, flat_map, slice_index_or, IsTrue, All}
 use Rattle.mono_graph.specs.declared.edge.Edge.{Edge}
 use Rattle.mono_graph.specs.Digraph.{Digraph, edge_at, present, leaving, entering, has}

@@ -5,7 +5,7 @@ use Rattle.mono_problem.specs.declared.atom.Atom.{Atom}
 use Rattle.mono_problem.specs.declared.atom.Predicate.{Predicate}
 use Rattle.mono_problem.specs.Read.{no_atom}
 use Rattle.mono_steps.specs.declared.lemma.Witness.{Witness}
-use Rattle.mono_steps.specs.Witnesses.{is_positive, names_known, is_small, passes}
+use Rattle.mono_steps.specs.Witnesses.{rests_on_present, names_known, is_small, passes}
 use Rattle.mono_theory.specs.declared.evidence.Evidence.{Evidence}
 use Rattle.mono_theory.specs.Evidences.{only, all_but, uses}
 
@@ -16,19 +16,19 @@ AllHave P value ks = All (λ k. present P k ≡ value) ks
 abbrev pub atom_at : List Atom → ℕ → Atom
 atom_at atoms a = slice_index_or atoms a no_atom
 
--- Evidence for the predicate, or against it, as the value says: the witness names what is there, and passes over the part
--- that its edges leave to it.
+-- Evidence that rests on edges of this value: the witness names what is there, and passes over the part that its edges leave
+-- to it.
 pub record IsSound (g : Digraph) (q : Predicate) (value : Bool) (e : Evidence) : Type 0 where
-  pub sign : is_positive e.witness ≡ value
+  pub rests : rests_on_present e.witness ≡ value
   pub known : IsTrue (names_known g e.witness)
   pub small : IsTrue (is_small e.witness)
   pub held : All (λ k. k < length g.edges) e.edges
   pub used : All (λ k. IsTrue (uses g e.witness k)) e.edges
   pub passes : IsTrue (passes g (if value then only g e.edges else all_but g e.edges) q e.witness)
 
--- a witness for the predicate, or against it, that passes over the part
+-- a witness that rests on edges of this value and passes over the part
 pub record IsWitnessIn (g : Digraph) (P : List Bool) (q : Predicate) (value : Bool) (w : Witness) : Type 0 where
-  pub sign : is_positive w ≡ value
+  pub rests : rests_on_present w ≡ value
   pub known : IsTrue (names_known g w)
   pub small : IsTrue (is_small w)
   pub passes : IsTrue (passes g P q w)

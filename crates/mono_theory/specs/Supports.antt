@@ -1,6 +1,7 @@
 -- What is kept of the atoms on one side. On the side of the possibly present edges, the support of a predicate is evidence
--- that it holds, and on the side of the surely present ones that it fails. While it is right, the atom owes nothing there.
--- What is shown of an atom is evidence of the other sign: while that is right, the atom forces its literal.
+-- that rests on present edges, and on the side of the surely present ones evidence that rests on absent edges. While it is
+-- right, the atom owes nothing there. What is shown of an atom rests on edges of the other value: while that is right, the
+-- atom forces its literal.
 use Rattle.std.specs.Prelude.{◌≡◌, ℕ, ◌+◌, ◌<◌, ◌≤◌, ◌⊎◌, Bool, true, not, ℤ, pos, int_lt, List, Option, map, take, length, IsTrue, All, if◌then◌else◌}
 use Rattle.mono_base.specs.Literal.{var_of}
 use Rattle.mono_base.specs.Partial.{is_true_in}
@@ -14,7 +15,7 @@ use Rattle.mono_theory.specs.declared.stage.Stage.{Stage}
 use Rattle.mono_theory.specs.declared.stage.Stage.TheVariants as stage
 use Rattle.mono_theory.specs.declared.theory.Force.{Force}
 use Rattle.mono_theory.specs.declared.theory.Force.TheVariants as force
-use Rattle.mono_theory.specs.Evidences.{Decides}
+use Rattle.mono_theory.specs.Evidences.{Decides, shown_by}
 pub use Rattle.mono_theory.specs.Sound.{AllHave, atom_at}
 use Rattle.mono_theory.specs.Sound.{AreSound, IsRightIn, RestsOn, evidence_at}
 use Rattle.mono_theory.specs.Stages.{stage_at, undone, waiting_count}
@@ -27,7 +28,7 @@ part_of g t possible = if possible then over g t else under g t
 
 -- the atom's variable has the value that the side would force
 abbrev pub IsSettled : List ℤ → Bool → Atom → Type 0
-IsSettled t possible x = IsTrue (is_true_in t (literal_of (not possible) x.var))
+IsSettled t possible x = IsTrue (is_true_in t (literal_of (shown_by x.predicate (not possible)) x.var))
 
 -- What is kept on a side, by atom: its support, what is shown of it, the atoms that watch each edge, the stages, and whether
 -- the predicates of settled atoms are decided too.
@@ -84,9 +85,9 @@ pub record IsKeptBy (g : Digraph) (possible : Bool) (l : ℤ) (s r : SideView) :
 abbrev pub gone_back : ℕ → SideView → SideView
 gone_back kept s = record { supports = s.supports; shown = s.shown; watchers = s.watchers; stages = map (undone kept) s.stages; thorough = s.thorough }
 
--- each atom is settled, or its predicate is decided as the side would have it: it owes nothing on this side
+-- each atom is settled, or its predicate is decided as supports show it: it owes nothing on this side
 pub record AllQuiet (f : Facts) (possible : Bool) : Type 0 where
-  pub each : (a : ℕ) → a < length f.atoms → IsSettled f.seen possible (atom_at f.atoms a) ⊎ Decides f.graph (part_of f.graph f.seen possible) (atom_at f.atoms a).predicate possible
+  pub each : (a : ℕ) → a < length f.atoms → IsSettled f.seen possible (atom_at f.atoms a) ⊎ Decides f.graph (part_of f.graph f.seen possible) (atom_at f.atoms a).predicate (shown_by (atom_at f.atoms a).predicate possible)
 
 -- the answer of a side: no atom owes anything, or one forces a literal that isn't true
 abbrev pub SideIs : Facts → Bool → Force → Type 0

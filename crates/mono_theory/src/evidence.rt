@@ -1,20 +1,23 @@
 //! What shows that a predicate holds or fails, and the lemma that it makes of an atom.
+//!
+//! A witness has a sign, what it shows of the predicate, and rests on edges of one value, present or absent. For most
+//! predicates what rests on present edges shows that they hold; for those that fall as edges come it shows that they fail.
 
 ghost use Rattle.std.specs.Prelude.{◌≡◌, ◌<◌, ◌∷◌, map, length, IfOk, All};
 ghost use Rattle.mono_graph.specs.Digraph.{edge_at};
 ghost use Rattle.mono_steps.specs.Switching.{literal_of};
-ghost use Rattle.mono_steps.specs.Witnesses.{is_positive as is_positive_witness};
-ghost use Rattle.mono_theory.specs.Evidences.{lemma_by};
+ghost use Rattle.mono_steps.specs.Witnesses.{is_positive as is_positive_witness, rests_on_present as rests_on_present_witness};
+ghost use Rattle.mono_theory.specs.Evidences.{lemma_by, shown_by as shown_by_of};
 ghost use Rattle.mono_theory.specs.Frames.{IsVar};
 
 use mono_base::{Lit, Row};
 use mono_graph::Graph;
-use mono_problem::Atom;
+use mono_problem::{Atom, Predicate};
 use mono_steps::{Clause, Lemma, Witness};
 use std::alloc::{AllocError, Global};
 
-/// A witness for or against a predicate, and the places of the edges on which it rests: those that have to be present
-/// for the one, or absent for the other.
+/// A witness for or against a predicate, and the places of the edges on which it rests: they all have to be present, or they
+/// all have to be absent, as its word says.
 #[derive(Drop)]
 pub struct Evidence {
     pub witness: Witness,
@@ -27,8 +30,29 @@ pub(crate) fn is_positive(witness: &Witness) -> bool
 {
     matches!(
         witness,
-        Witness::Path(_) | Witness::Flow(_) | Witness::Tree(_)
+        Witness::Path(_) | Witness::Flow(_) | Witness::Tree(_) | Witness::Order(_)
     )
+}
+
+/// Whether the witness rests on edges that are present.
+pub(crate) fn rests_on_present(witness: &Witness) -> bool
+    ensures { result ≡ rests_on_present_witness witness.now }
+{
+    matches!(
+        witness,
+        Witness::Path(_) | Witness::Flow(_) | Witness::Tree(_) | Witness::Cycle(_)
+    )
+}
+
+/// Whether evidence that rests on present edges, where the value is true, or else on absent ones shows that the predicate
+/// holds. Also the other way round: whether evidence that the predicate holds, or else that it fails, rests on present edges.
+pub fn shown_by(predicate: Predicate, value: bool) -> bool
+    ensures { result ≡ shown_by_of predicate value }
+{
+    match predicate {
+        Predicate::Acyclic => !value,
+        _ => value,
+    }
 }
 
 impl Evidence {
@@ -98,8 +122,8 @@ pub(crate) fn lemma_of(
     ensures { IfOk result (λ m. m ≡ lemma_by graph.now atom evidence) }
 {
     let Evidence { witness, edges } = evidence;
-    let value = is_positive(&witness);
-    let head = literal(atom.var, value);
+    let head = literal(atom.var, is_positive(&witness));
+    let value = rests_on_present(&witness);
     let lits = clause_of(alloc, graph, head, edges.as_slice(), !value)?;
     let clause = Clause::from_lits(alloc, lits.as_slice())?;
     Ok(Lemma {

@@ -15,8 +15,10 @@ ghost use Rattle.mono_steps.specs.Switching.{literal_of};
 ghost use Rattle.mono_theory.specs.Frames.{AreAtomsOf, IsFrame, atom_vars, atom_numbers};
 ghost use Rattle.mono_theory.specs.Variables.{AreVarsOf};
 ghost use Rattle.mono_theory.specs.Supports.{IsSettled, part_of};
+ghost use Rattle.mono_theory.specs.Evidences.{shown_by as shown_by_of};
 
 use crate::bounds::vars_of as edge_vars_of;
+use crate::evidence::shown_by;
 use crate::index::Index;
 use crate::past::evidence_by;
 use crate::{Bounds, Evidence, Kind};
@@ -334,21 +336,22 @@ impl Frame {
         if possible { self.over() } else { self.under() }
     }
 
-    /// Whether the variable of the atom at a place has the value that the side would force.
-    pub(crate) fn is_settled(&self, place: usize, possible: bool) -> bool
+    /// Whether the variable of the atom at a place has the value that the side would force: what present edges show on the side
+    /// of the surely present ones, and what absent edges show on that of the possibly present ones.
+    pub fn is_settled(&self, place: usize, possible: bool) -> bool
         requires { place < length self.now.atoms }
         ensures settled { IsTrue result → IsSettled self.now.seen possible (slice_index_or self.now.atoms place no_atom) }
-        ensures open { result ≡ false → is_true_in self.now.seen (literal_of (not possible) (slice_index_or self.now.atoms place no_atom).var) ≡ false }
+        ensures open { result ≡ false → is_true_in self.now.seen (literal_of (shown_by_of (slice_index_or self.now.atoms place no_atom).predicate (not possible)) (slice_index_or self.now.atoms place no_atom).var) ≡ false }
     {
-        if possible {
-            self.is_false(place)
-        } else {
+        if shown_by(self.atom_at(place).predicate, !possible) {
             self.is_true(place)
+        } else {
+            self.is_false(place)
         }
     }
 
     /// Whether the variable of the atom at a place is true.
-    pub fn is_true(&self, place: usize) -> bool
+    pub(crate) fn is_true(&self, place: usize) -> bool
         requires { place < length self.now.atoms }
         ensures { result ≡ is_true_in self.now.seen (pos (slice_index_or self.now.atoms place no_atom).var) }
     {
@@ -363,8 +366,8 @@ impl Frame {
         !self.own.over().has(place as u32)
     }
 
-    /// What shows that the predicate holds or fails on the side of the literal, under the first literals: the evidence that is
-    /// known, where it is right there.
+    /// What shows that the predicate holds or fails with the edges by which the literal is forced, under the first literals: the
+    /// evidence that is known, where it is right there.
     pub(crate) fn evidence_at<K: Kind>(
         &mut self,
         alloc: Global,
@@ -378,10 +381,10 @@ impl Frame {
         requires within { kept ≤ length self.old.seen }
         requires kind { IsTrue (K.covers predicate) }
         requires over { IsOver self.old.graph predicate }
-        requires known { IfSome known (λ e. IsSound self.old.graph predicate (int_lt (pos 0) lit) e.now) }
+        requires known { IfSome known (λ e. IsSound self.old.graph predicate (shown_by_of predicate (int_lt (pos 0) lit)) e.now) }
         ensures size { K.nodes kind.new ≡ K.nodes kind.old }
         ensures same { self.new ≡ self.old }
-        ensures evidence { IfOk result (IsEvidence self.old.graph (side self.old.graph (take kept self.old.seen) lit) predicate) }
+        ensures evidence { IfOk result (IsEvidence self.old.graph (side self.old.graph predicate (take kept self.old.seen) lit) predicate) }
     {
         let lits = self.lits.as_slice();
         evidence_by::<K>(

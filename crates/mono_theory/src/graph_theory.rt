@@ -13,12 +13,12 @@ ghost use Rattle.mono_theory.specs.Frames.{IsVar, AreNumbersOf};
 ghost use Rattle.mono_theory.specs.Theories.{atom_of, concerns_of, FindingIs, ForceIs, ForcesBy, IsLemmaOf};
 ghost use Rattle.mono_base.specs.Literal.{var_of};
 ghost use Rattle.mono_base.specs.Partial.{is_open_in};
-ghost use Rattle.mono_theory.specs.Evidences.{IsEvidence, side};
+ghost use Rattle.mono_theory.specs.Evidences.{IsEvidence, side, shown_by as shown_by_of};
 ghost use Rattle.mono_theory.specs.Sound.{IsSound};
 ghost use Rattle.mono_theory.specs.Stages.{NoneWaits};
 ghost use Rattle.mono_theory.specs.Supports.{AreCovered, IsKeptBy, IsSide, IsSideFor, atom_at, facts_in, gone_back};
 
-use crate::evidence::lemma_of;
+use crate::evidence::{lemma_of, shown_by};
 use crate::frame::Frame;
 use crate::kept_side::KeptSide;
 use crate::looking::force_by;
@@ -41,9 +41,10 @@ fn kept_evidence<K: Kind, S: SureSide<K>>(
     requires right { S.is_right surely.now frame.now }
     requires within { kept ≤ length frame.now.seen }
     requires place { place < length frame.now.atoms }
-    ensures { IfOk result (λ found. IfSome found (IsEvidence frame.now.graph (side frame.now.graph (take kept frame.now.seen) lit) (atom_at frame.now.atoms place).predicate)) }
+    ensures { IfOk result (λ found. IfSome found (IsEvidence frame.now.graph (side frame.now.graph (atom_at frame.now.atoms place).predicate (take kept frame.now.seen) lit) (atom_at frame.now.atoms place).predicate)) }
 {
-    if lit.is_positive() {
+    let predicate = frame.atom_at(place as usize).predicate;
+    if shown_by(predicate, lit.is_positive()) {
         let found = surely.evidence(alloc, frame, place, kept)?;
         Ok(found)
     } else {
@@ -62,9 +63,10 @@ fn shown_evidence<'a, K: Kind, S: SureSide<K>>(
     requires surely { S.is_right surely.now frame.now }
     requires possibly { IsSide frame.now true possibly.now }
     requires place { place < length frame.now.atoms }
-    ensures { IfSome result (λ e. IsSound frame.now.graph (atom_at frame.now.atoms place).predicate (int_lt (pos 0) lit) e.now) }
+    ensures { IfSome result (λ e. IsSound frame.now.graph (atom_at frame.now.atoms place).predicate (shown_by_of (atom_at frame.now.atoms place).predicate (int_lt (pos 0) lit)) e.now) }
 {
-    if lit.is_positive() {
+    let predicate = frame.atom_at(place as usize).predicate;
+    if shown_by(predicate, lit.is_positive()) {
         surely.shown(frame, place)
     } else {
         possibly.shown_at(frame, true, place).as_ref()
@@ -90,7 +92,7 @@ fn evidence_for<K: Kind, S: SureSide<K>>(
     requires kind { IsTrue (K.covers (atom_at frame.old.atoms place).predicate) }
     ensures size { K.nodes kind.new ≡ K.nodes kind.old }
     ensures same { frame.new ≡ frame.old }
-    ensures evidence { IfOk result (IsEvidence frame.old.graph (side frame.old.graph (take kept frame.old.seen) lit) (atom_at frame.old.atoms place).predicate) }
+    ensures evidence { IfOk result (IsEvidence frame.old.graph (side frame.old.graph (atom_at frame.old.atoms place).predicate (take kept frame.old.seen) lit) (atom_at frame.old.atoms place).predicate) }
 {
     match kept_evidence::<K, S>(alloc, surely, frame, place, lit, kept)? {
         Some(evidence) => Ok(evidence),
@@ -273,8 +275,12 @@ impl<K: Kind, S: SureSide<K>> Theory for GraphTheory<K, S> {
         self.frame.concerns(var)
     }
 
-    fn variables(&self) -> &[u32] {
-        self.frame.variables()
+    fn variables(&self) -> Option<&[u32]> {
+        Some(self.frame.variables())
+    }
+
+    fn prefers(&self, var: u32) -> bool {
+        K::FOLLOWS_WITNESS && self.possibly.is_wanted(&self.frame, true, var)
     }
 
     fn seen(&self) -> usize {

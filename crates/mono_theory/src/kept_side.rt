@@ -16,6 +16,7 @@ use crate::invalidation::invalidate;
 use crate::kept_evidence::KeptEvidence;
 use crate::looking::force_by;
 use crate::stages::Stages;
+use crate::wanting::any_wants;
 use crate::watchers::Watchers;
 use crate::{Evidence, Force, Kind, Stage, SureSide};
 use mono_base::Lit;
@@ -88,6 +89,16 @@ impl KeptSide {
         ensures side { (f : Facts) → (possible : Bool) → kept ≤ length f.seen → IsSide f possible self.old → IsSide (cut_to kept f) possible self.new }
     {
         self.stages.undo_to(kept);
+    }
+
+    /// Whether the support of an atom whose variable is true has an edge of the variable.
+    pub(crate) fn is_wanted(&self, frame: &Frame, possible: bool, var: u32) -> bool
+        requires side { IsSide frame.now possible self.now }
+    {
+        let _ = frame.graph();
+        let _ = possible;
+        let edges = frame.edge_vars().places_of(var);
+        any_wants(frame, &self.supports, &self.watchers, edges)
     }
 
     /// An atom that waits: `None` exactly where none does.
@@ -270,8 +281,8 @@ impl KeptSide {
         self.stages.stage(atom)
     }
 
-    /// The witness that shows that the predicate of an atom holds with the possibly present edges, or fails with the surely
-    /// present ones: `None` exactly where the atom doesn't stand.
+    /// The witness by which an atom owes nothing. It rests on edges that are possibly present, or on edges that aren't surely
+    /// present: `None` exactly where the atom doesn't stand.
     pub fn support_witness(&self, frame: &Frame, possible: bool, atom: u32) -> Option<&Witness>
         requires side { IsSide frame.now possible self.now }
         requires atom { atom < length frame.now.atoms }
@@ -286,8 +297,8 @@ impl KeptSide {
         }
     }
 
-    /// The witness that shows that the predicate of an atom fails with the possibly present edges, or holds with the surely
-    /// present ones. Where the predicates of settled atoms are decided, it is `None` exactly where the atom doesn't show.
+    /// The witness by which an atom forces its literal. It rests on edges that aren't possibly present, or on edges that are
+    /// surely present. Where the predicates of settled atoms are decided, it is `None` exactly where the atom doesn't show.
     pub fn shown_witness(&self, frame: &Frame, possible: bool, atom: u32) -> Option<&Witness>
         requires side { IsSide frame.now possible self.now }
         requires atom { atom < length frame.now.atoms }

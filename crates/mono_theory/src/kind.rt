@@ -27,6 +27,10 @@ pub trait Kind: Drop {
 
     ghost IS_THOROUGH: { Bool };
 
+    /// Whether a decision takes an edge to be present where what shows that a predicate may hold, whose variable is true,
+    /// rests on it. Nothing hangs on it but how long a search takes.
+    const FOLLOWS_WITNESS: bool;
+
     /// Room for graphs with this many nodes.
     fn with_nodes(alloc: Global, count: u32) -> Result<Self, AllocError>
         ensures { IfOk result (λ kind. nodes kind ≡ count) };

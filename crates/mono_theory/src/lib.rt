@@ -37,13 +37,17 @@ mod stages;
 mod sure_side;
 /// What theories answer.
 mod theory;
+/// The edges that atoms would have present.
+mod wanting;
 /// The atoms that watch each edge.
 mod watchers;
 /// Evidence from walks.
 pub mod walks;
+/// Rows of lemmas that were worked by hand.
+pub mod worked;
 
 pub use bounds::Bounds;
-pub use evidence::{Evidence, literal};
+pub use evidence::{Evidence, literal, shown_by};
 pub use frame::Frame;
 pub use graph_theory::GraphTheory;
 pub use kept_side::KeptSide;

@@ -9,7 +9,7 @@ ghost use Rattle.mono_theory.specs.Sound.{IsRightIn, evidence_at};
 ghost use Rattle.mono_theory.specs.Stages.{NoneWaits};
 ghost use Rattle.mono_theory.specs.Supports.{AreCovered, ExamineIs, IsNext, IsSide, SideIs, part_of};
 
-use crate::evidence::{is_positive, literal};
+use crate::evidence::{literal, rests_on_present, shown_by};
 use crate::frame::Frame;
 use crate::kept_side::KeptSide;
 use crate::{Force, Kind};
@@ -31,7 +31,7 @@ fn answer_shown(frame: &Frame, side: &mut KeptSide, possible: bool, place: u32) 
     let atom = frame.atom_at(place as usize);
     Force::Literal {
         atom: atom.number,
-        lit: literal(atom.var, !possible),
+        lit: literal(atom.var, shown_by(atom.predicate, !possible)),
     }
 }
 
@@ -56,7 +56,7 @@ fn search<K: Kind>(
     let atom = frame.atom_at(place as usize);
     let graph = frame.graph();
     let evidence = kind.evidence(alloc, graph, frame.part(possible), atom.predicate)?;
-    if is_positive(&evidence.witness) == possible {
+    if rests_on_present(&evidence.witness) == possible {
         side.take_up(alloc, frame, possible, place, evidence)?;
         return Ok(Force::Quiet);
     }

@@ -6,9 +6,10 @@ ghost use Rattle.mono_graph.specs.Digraph.{IsPartOf};
 ghost use Rattle.mono_base.specs.Partial.{is_partial};
 ghost use Rattle.mono_problem.specs.WellFormed.{IsOver};
 ghost use Rattle.mono_theory.specs.Bound.{edge_vars, IsBoundOf};
-ghost use Rattle.mono_theory.specs.Evidences.{IsEvidence, side};
+ghost use Rattle.mono_theory.specs.Evidences.{IsEvidence, side, shown_by as shown_by_of};
 ghost use Rattle.mono_theory.specs.Sound.{IsSound};
 
+use crate::evidence::shown_by;
 use crate::kept_evidence::have;
 use crate::{Bounds, Evidence, Kind};
 use mono_base::Lit;
@@ -71,7 +72,7 @@ fn evidence_in<K: Kind>(
     }
 }
 
-/// What shows that the predicate holds or fails with the edges on the side of the literal.
+/// What shows that the predicate holds or fails with the edges by which the literal is forced.
 fn evidence_beside<K: Kind>(
     alloc: Global,
     kind: &mut K,
@@ -85,27 +86,16 @@ fn evidence_beside<K: Kind>(
     requires vars { bounds.now.vars ≡ edge_vars graph.now }
     requires kind { IsTrue (K.covers predicate) }
     requires over { IsOver graph.now predicate }
-    requires known { IfSome known (λ e. IsSound graph.now predicate (int_lt (pos 0) lit) e.now) }
+    requires known { IfSome known (λ e. IsSound graph.now predicate (shown_by_of predicate (int_lt (pos 0) lit)) e.now) }
     ensures size { K.nodes kind.new ≡ K.nodes kind.old }
-    ensures evidence { IfOk result (IsEvidence graph.now (if int_lt (pos 0) lit then bounds.now.under else bounds.now.over) predicate) }
+    ensures evidence { IfOk result (IsEvidence graph.now (if shown_by_of predicate (int_lt (pos 0) lit) then bounds.now.under else bounds.now.over) predicate) }
 {
-    let part = if lit.is_positive() {
-        bounds.under()
-    } else {
-        bounds.over()
-    };
-    evidence_in::<K>(
-        alloc,
-        kind,
-        graph,
-        part,
-        known,
-        lit.is_positive(),
-        predicate,
-    )
+    let value = shown_by(predicate, lit.is_positive());
+    let part = if value { bounds.under() } else { bounds.over() };
+    evidence_in::<K>(alloc, kind, graph, part, known, value, predicate)
 }
 
-/// What shows that the predicate holds or fails on the side of the literal, under the first literals.
+/// What shows that the predicate holds or fails with the edges by which the literal is forced, under the first literals.
 pub(crate) fn evidence_by<K: Kind>(
     alloc: Global,
     kind: &mut K,
@@ -123,10 +113,10 @@ pub(crate) fn evidence_by<K: Kind>(
     requires bounds { IsBoundOf bounds.old (edge_vars graph.now) lits.now }
     requires kind { IsTrue (K.covers predicate) }
     requires over { IsOver graph.now predicate }
-    requires known { IfSome known (λ e. IsSound graph.now predicate (int_lt (pos 0) lit) e.now) }
+    requires known { IfSome known (λ e. IsSound graph.now predicate (shown_by_of predicate (int_lt (pos 0) lit)) e.now) }
     ensures size { K.nodes kind.new ≡ K.nodes kind.old }
     ensures same { bounds.new ≡ bounds.old }
-    ensures evidence { IfOk result (IsEvidence graph.now (side graph.now (take kept lits.now) lit) predicate) }
+    ensures evidence { IfOk result (IsEvidence graph.now (side graph.now predicate (take kept lits.now) lit) predicate) }
 {
     retreat(lits, bounds, kept);
     let found = evidence_beside::<K>(alloc, kind, graph, bounds, known, predicate, lit);

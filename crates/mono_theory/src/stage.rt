@@ -1,7 +1,8 @@
 //! What is known of an atom on one side.
 
-/// What is known of an atom on one side. The side would have its predicate fail with the surely present edges, or hold with
-/// the possibly present ones; otherwise the atom forces its literal.
+/// What is known of an atom on one side. The side would have its predicate decided by the other edges: as absent ones show it,
+/// on the side of the surely present edges, or as present ones show it, on that of the possibly present ones. Else the atom
+/// forces its literal.
 #[derive(Clone, Copy)]
 pub enum Stage {
     /// The atom has to be looked at.

@@ -24,13 +24,13 @@ pub trait SureSide<K: Kind>: Drop {
     ghost is_right: { Self → Facts → Type 0 };
 
     /// What stays of it, from before to after, when one more literal is seen.
-    ghost keeps: { Facts → ℤ → Self → Self → Type 0 } = { λ _ _ s r. r ≡ s };
+    ghost keeps: { Facts → ℤ → Self → Self → Type 0 };
 
     /// What stays of it, from before to after, when the list is cut to so many first literals.
-    ghost keeps_back: { Facts → ℕ → Self → Self → Type 0 } = { λ _ _ _ _. Unit {0} };
+    ghost keeps_back: { Facts → ℕ → Self → Self → Type 0 };
 
-    /// What is kept shows of each atom whether its predicate holds with the surely present edges.
-    ghost decides: { Self → Facts → Type 0 } = { λ _ _. Unit {0} };
+    /// What is kept decides of each atom what the surely present edges show of its predicate.
+    ghost decides: { Self → Facts → Type 0 };
 
     /// Nothing is kept yet, and nothing was seen.
     fn of_frame(alloc: Global, frame: &Frame) -> Result<Self, AllocError>
@@ -53,7 +53,7 @@ pub trait SureSide<K: Kind>: Drop {
         ensures keeps { keeps_back frame.now kept self.old self.new }
         ensures right { is_right self.new (cut_to kept frame.now) };
 
-    /// An atom whose predicate holds with the surely present edges and whose variable isn't true, if there is one.
+    /// An atom's literal that the surely present edges force and that isn't true, if there is one.
     fn force(&mut self, alloc: Global, kind: &mut K, frame: &Frame) -> Result<Force, AllocError>
         requires size { K.nodes kind.old ≡ frame.now.graph.nodes }
         requires covered { AreCovered K.covers frame.now.atoms }
@@ -63,7 +63,7 @@ pub trait SureSide<K: Kind>: Drop {
         ensures answer { IfOk result (SideIs frame.now false) }
         ensures decided { IfOk result (λ answer. answer ≡ Force.Quiet → decides self.new frame.now) };
 
-    /// What shows that the predicate of the atom at a place holds with the surely present edges of the first `kept`
+    /// What shows that the predicate of the atom at a place holds or fails with the surely present edges of the first `kept`
     /// literals, where it is kept.
     fn evidence(
         &self,
@@ -77,7 +77,7 @@ pub trait SureSide<K: Kind>: Drop {
         requires within { kept ≤ length frame.now.seen }
         ensures evidence { IfOk result (λ found. IfSome found (IsEvidence frame.now.graph (under frame.now.graph (take kept frame.now.seen)) (atom_at frame.now.atoms place).predicate)) };
 
-    /// Evidence that is kept of the atom at a place, if there is some. It shows that the predicate holds wherever its edges
+    /// Evidence that is kept of the atom at a place, if there is some. It rests on present edges, and is right wherever they
     /// are present.
     fn shown(&self, frame: &Frame, place: u32) -> Option<&Evidence>
         requires right { is_right self.now frame.now }

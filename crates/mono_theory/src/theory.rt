@@ -1,10 +1,10 @@
 //! What a theory is to a search: atoms over one graph that see a list of literals (Bayless et al. 2015).
 //!
 //! The literals stand in the order in which they came. Edges whose variable is true in the list are surely present, those
-//! whose variable isn't false are possibly present, and an atom forces its variable where its predicate holds with the
-//! one, or its negation where it fails with the other.
+//! whose variable isn't false are possibly present. An atom forces its variable where its predicate holds with the former, or
+//! its negation where it fails with the latter. For a predicate that falls as edges come these two change places.
 
-ghost use Rattle.std.specs.Prelude.{◌≡◌, ◌≤◌, [], ◌∷◌, ◌++◌, length, take, IfOk, IsTrue};
+ghost use Rattle.std.specs.Prelude.{◌≡◌, ◌≤◌, [], ◌∷◌, ◌++◌, length, take, IfOk, IfSome, IsTrue};
 
 use mono_base::Lit;
 use mono_steps::Lemma;
@@ -51,9 +51,19 @@ pub trait Theory: Drop {
     fn concerns(&self, var: u32) -> bool
         ensures { result ≡ concerns_of (graph self.now) (atoms self.now) var };
 
-    /// The variables of the graph's edges and of the atoms, rising, each once.
-    fn variables(&self) -> &[u32]
-        ensures { AreVarsOf (graph self.now) (atoms self.now) result.now };
+    /// The variables of the graph's edges and of the atoms, rising, each once, where they are at hand. Else whoever wants them
+    /// asks `concerns` of each variable.
+    fn variables(&self) -> Option<&[u32]>
+        ensures { IfSome result (λ vars. AreVarsOf (graph self.now) (atoms self.now) vars.now) }
+    {
+        None
+    }
+
+    /// Whether the variable would better be decided true. The answer is free: nothing rests on it but how long a search takes.
+    fn prefers(&self, var: u32) -> bool {
+        let _ = var;
+        false
+    }
 
     /// How many literals were seen.
     fn seen(&self) -> usize

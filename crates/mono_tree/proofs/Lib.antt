@@ -1,2 +1,1 @@
 pub mod TreeEvidence
-pub mod Heaviest

@@ -1,14 +1,14 @@
 //! Predicates on spanning trees: a light tree shows that one holds, a split or a lightest tree that it fails.
 //!
 //! All come from one search. A tree within the bound rests on its edges. A split rests on the absent edges that join its
-//! set with the rest. A lightest tree above the bound rests on the absent edges that are lighter than its heaviest: any
-//! other edge has its ends joined by edges of the tree that are no heavier than it.
+//! set with the rest. A lightest tree above the bound rests on the absent edges whose ends its edges no heavier than them
+//! don't join: no other edge would make it lighter.
 
-ghost use Rattle.std.specs.Prelude.{◌≡◌, ◌<◌, ◌&&◌, not, nat_lt, All, IfOk, length};
-ghost use Rattle.mono_graph.specs.Digraph.{IsPartOf, edge_at, present};
+ghost use Rattle.std.specs.Prelude.{◌≡◌, ◌<◌, All, IfOk, length};
+ghost use Rattle.mono_graph.specs.Digraph.{IsPartOf};
 ghost use Rattle.mono_problem.specs.WellFormed.{IsOver};
 ghost use Rattle.mono_theory.specs.Evidences.{IsEvidence};
-ghost use Rattle.mono_tree.specs.Spanning.{lighter_absent as lighter_absent_of, tree_evidence as tree_evidence_of, split_evidence as split_evidence_of, IsHeaviest, IsLeastEvidence};
+ghost use Rattle.mono_tree.specs.Spanning.{tree_evidence as tree_evidence_of, split_evidence as split_evidence_of, IsLeastEvidence};
 
 use mono_base::Row;
 use mono_graph::{Graph, Part};
@@ -70,60 +70,22 @@ fn split_evidence(
     })
 }
 
-/// The weight of the heaviest of the edges, or 0 where there are none.
-fn heaviest(graph: &Graph, places: &[u32]) -> u64
-    requires { All (λ k. k < length graph.now.edges) places.now }
-    ensures { IsHeaviest graph.now places.now result }
-{
-    let mut heaviest: u64 = 0;
-    for place in places {
-        heaviest = graph.edge(*place).weight.max(heaviest);
-    }
-    heaviest
-}
-
-/// Whether the edge is absent and lighter than so much.
-fn is_lighter_absent(graph: &Graph, part: &Part, place: u32, weight: u64) -> bool
-    requires part { IsPartOf part.now graph.now }
-    requires place { place < length graph.now.edges }
-    ensures { result ≡ (not (present part.now place) && nat_lt (edge_at graph.now place).weight weight) }
-{
-    !part.has(place) && graph.edge(place).weight < weight
-}
-
-/// The absent edges that are lighter than so much.
-fn lighter_absent(
-    alloc: Global,
-    graph: &Graph,
-    part: &Part,
-    weight: u64,
-) -> Result<Vec<u32>, AllocError>
-    requires { IsPartOf part.now graph.now }
-    ensures { IfOk result (λ edges. edges.items ≡ lighter_absent_of graph.now part.now weight) }
-{
-    let mut edges = Vec::new(alloc);
-    for place in 0..graph.edge_count() {
-        if is_lighter_absent(graph, part, place, weight) {
-            edges.push(place)?;
-        }
-    }
-    Ok(edges)
-}
-
 /// The evidence that a lightest tree of these edges is, where it is above the bound.
 fn least_evidence(
     alloc: Global,
+    finder: &mut TreeFinder,
     graph: &Graph,
     part: &Part,
     places: &[u32],
 ) -> Result<Evidence, AllocError>
+    requires size { finder.old ≡ graph.now.nodes }
     requires part { IsPartOf part.now graph.now }
     requires places { All (λ k. k < length graph.now.edges) places.now }
-    ensures { IfOk result (IsLeastEvidence graph.now part.now places.now) }
+    ensures size { finder.new ≡ finder.old }
+    ensures evidence { IfOk result (IsLeastEvidence graph.now part.now places.now) }
 {
     let numbers = edge_numbers(alloc, graph, places)?;
-    let weight = heaviest(graph, places);
-    let edges = lighter_absent(alloc, graph, part, weight)?;
+    let edges = finder.unbridged_absent(graph, part, places)?;
     Ok(Evidence {
         witness: Witness::Least(Row::from_vec(numbers)),
         edges: Row::from_vec(edges),
@@ -151,7 +113,7 @@ fn show(
     match finder.find_tree(graph, part, most)? {
         TreeFound::Tree(places) => tree_evidence(alloc, graph, places),
         TreeFound::Split(nodes) => split_evidence(alloc, marks, graph, part, nodes),
-        TreeFound::Least(places) => least_evidence(alloc, graph, part, places.as_slice()),
+        TreeFound::Least(places) => least_evidence(alloc, finder, graph, part, places.as_slice()),
     }
 }
 
@@ -166,6 +128,8 @@ impl Kind for Tree {
     const IS_THOROUGH: bool = false;
 
     ghost IS_THOROUGH = { false };
+
+    const FOLLOWS_WITNESS: bool = false;
 
     fn with_nodes(alloc: Global, count: u32) -> Result<Self, AllocError> {
         let finder = TreeFinder::new(alloc, count)?;

@@ -9,3 +9,4 @@ pub mod Ordering
 pub mod Going
 pub mod Sweeping
 pub mod Decides
+pub mod Collecting

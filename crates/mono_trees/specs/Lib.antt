@@ -6,3 +6,4 @@ pub mod Order
 pub mod Found
 pub mod Swept
 pub mod Checker
+pub mod Unbridged

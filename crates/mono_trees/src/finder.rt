@@ -4,14 +4,16 @@
 //! Otherwise it is a spanning tree, and the ends of each present edge are joined by edges of it no heavier than that
 //! edge: so where it is too heavy, each spanning tree is.
 
-ghost use Rattle.std.specs.Prelude.{◌≡◌, IfOk, length};
+ghost use Rattle.std.specs.Prelude.{◌≡◌, ◌<◌, All, IfOk, length};
 ghost use Rattle.mono_graph.specs.Digraph.{IsPartOf};
 ghost use Rattle.mono_trees.specs.Found.{Passes, IsKnown, HasPresentEdges, IsInOrder};
+ghost use Rattle.mono_trees.specs.Unbridged.{AreUnbridged};
 
 use crate::components::Components;
 use crate::edge_order::EdgeOrder;
 use crate::forest::{first_component, lightest_forest};
 use crate::spanning::is_light;
+use crate::unbridged::unbridged_absent;
 use mono_graph::{Graph, Part};
 use std::alloc::{AllocError, Global};
 use std::marker::Model;
@@ -79,6 +81,31 @@ impl TreeFinder {
             graph,
             part,
             most,
+        )
+    }
+
+    /// The absent edges that would make a tree of these edges lighter: those whose ends it doesn't join by edges no
+    /// heavier.
+    pub fn unbridged_absent(
+        &mut self,
+        graph: &Graph,
+        part: &Part,
+        edges: &[u32],
+    ) -> Result<Vec<u32>, AllocError>
+        requires finder { self.old ≡ graph.now.nodes }
+        requires part { IsPartOf part.now graph.now }
+        requires edges { All (λ k. k < length graph.now.edges) edges.now }
+        ensures unbridged { IfOk result (λ found. AreUnbridged graph.now part.now edges.now found.items) }
+        ensures finder { self.new ≡ self.old }
+    {
+        let alloc = self.components.allocator();
+        unbridged_absent(
+            alloc,
+            &mut self.components,
+            &mut self.order,
+            graph,
+            part,
+            edges,
         )
     }
 }

@@ -16,7 +16,7 @@ use std::alloc::{AllocError, Global};
 
 /// Joins the tree's edges that are no heavier than the weight, where the first ones have been joined, and says how many
 /// have been joined now.
-fn advance(
+pub fn advance(
     components: &mut Components,
     graph: &Graph,
     tree: &[u32],

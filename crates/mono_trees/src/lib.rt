@@ -21,6 +21,8 @@ mod order;
 mod spanning;
 /// The test of splits.
 mod split;
+/// The absent edges that would make a tree lighter.
+mod unbridged;
 /// What the words of contracts make of small graphs.
 pub mod worked;
 

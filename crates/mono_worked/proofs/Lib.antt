@@ -7,3 +7,6 @@ mod LearnRows
 mod WalkRows
 mod ReasonRows
 mod InstanceRows
+mod TrimmedRows
+mod VerdictRows
+mod LubyRows

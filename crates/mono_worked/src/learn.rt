@@ -3,6 +3,7 @@
 ghost use Rattle.std.specs.Prelude.{◌≡◌, ℕ, ℤ, pos, List, [], ◌∷◌};
 ghost use Rattle.mono_problem.specs.Instance.{Instance};
 ghost use Rattle.mono_steps.specs.WorkedLemmas.{minus};
+ghost use Rattle.mono_learn.specs.Laws.{IsUnitIn};
 ghost use Rattle.mono_learn.specs.FirstPoint.{HasOnePresent, IsMinimized, IsTaught, StepsBack, WalksBack};
 ghost use Rattle.mono_learn.specs.Learned.{IsLearnt, IsMinimal};
 ghost use Rattle.mono_learn.specs.Reasons.{HasReasons, IsConflict, IsFalseClause, WasForced, WasUnit};
@@ -71,6 +72,14 @@ pub fn reasons_were_unit()
     ensures not_in_it { WasUnit worked_clauses worked_trail.lits 4 3 → ⊥ }
     ensures all { (p : Instance) (shown : ℕ → List ℤ) → HasReasons p worked_clauses shown worked_trail }
     ensures without_clauses { (p : Instance) (shown : ℕ → List ℤ) → HasReasons p [] shown worked_trail → ⊥ }
+{}
+
+/// A clause is unit by a literal of its own that is open, where the others are false.
+pub fn unit_in_a_list()
+    ensures unit { IsUnitIn (minus 1 ∷ []) (pos 1 ∷ pos 2 ∷ []) (pos 2) }
+    ensures not_in_it { IsUnitIn (minus 1 ∷ minus 2 ∷ []) (pos 1 ∷ pos 2 ∷ []) (pos 3) → ⊥ }
+    ensures has_value { IsUnitIn (minus 1 ∷ pos 2 ∷ []) (pos 1 ∷ pos 2 ∷ []) (pos 2) → ⊥ }
+    ensures two_open { IsUnitIn [] (pos 1 ∷ pos 2 ∷ []) (pos 2) → ⊥ }
 {}
 
 /// What an atom had been shown when it forced a literal stands before that literal.

@@ -5,17 +5,29 @@
 //! proved alone, over crates that are proved already.
 #![tactic(auto)]
 
+/// Lemmas by cycles and by orders, and answers that have them.
+pub mod acyclic;
+/// Printed lines, and numbers that the format can't write.
+pub mod answers;
 /// Clauses that are unit or false, and stores of clauses.
 pub mod clauses;
+/// Cycles, and orders of the nodes.
+pub mod cycles;
+/// The predicate that there is no cycle.
+pub mod falling;
 /// What searches say of what they find.
 pub mod found;
-/// Flows from a later node, and the numbers of edges.
+/// Generated texts.
+pub mod generated;
+/// Edges from a node to itself, parallel edges, what comes again, and the numbers of edges.
 pub mod graph;
+/// Nodes and clauses of inputs, and words that no other row reads.
+pub mod inputs;
 /// What a conflict teaches, and what it doesn't.
 pub mod learn;
 /// Problems of two graphs, and what is added to them.
 pub mod problem;
-/// Resolvents, unit propagation, new clauses, and lemmas.
+/// Resolvents, unit propagation, justified steps, new clauses, and lemmas.
 pub mod steps;
 #[cfg(test)]
 mod tests;

@@ -9,6 +9,7 @@ use mono_graph::Edge;
 
 mod answer;
 mod base;
+mod check;
 mod clauses;
 mod flows;
 mod gnf;

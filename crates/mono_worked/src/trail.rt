@@ -3,6 +3,7 @@
 ghost use Rattle.std.specs.Prelude.{◌≡◌, [], ◌∷◌, pos, true, false, Some, None};
 ghost use Rattle.mono_steps.specs.WorkedLemmas.{minus};
 ghost use Rattle.mono_trail.specs.declared.reason.Reason.TheVariants.{Decided, Clause, Late};
+ghost use Rattle.mono_trail.specs.Luby.{Luby};
 ghost use Rattle.mono_trail.specs.Moves.{IsVar, joined, lowered, gave, settled};
 ghost use Rattle.mono_trail.specs.Order.{AllOpenWait, Leaves, AllLeave, NoneOpen};
 ghost use Rattle.mono_trail.specs.Places.{place_in, level_at, reason_at};
@@ -95,6 +96,17 @@ pub fn variables_leave_the_order()
     ensures open_variable { NoneOpen 3 (pos 1 ∷ minus 3 ∷ []) → ⊥ }
     ensures assigned_and_gone { AllOpenWait (order (false ∷ true ∷ true ∷ [])) (pos 1 ∷ []) }
     ensures open_and_gone { AllOpenWait (order (true ∷ false ∷ true ∷ [])) (pos 1 ∷ []) → ⊥ }
+{}
+
+/// Luby's sequence begins with 1, 1, 2, 1, 1, 2, 4, 1.
+pub fn first_terms_of_lubys_sequence()
+    ensures first { Luby 1 1 }
+    ensures second { Luby 2 1 }
+    ensures third { Luby 3 2 }
+    ensures sixth { Luby 6 2 }
+    ensures seventh { Luby 7 4 }
+    ensures eighth { Luby 8 1 }
+    ensures no_other { Luby 6 1 → ⊥ }
 {}
 
 /// A marked place is seen.

@@ -3,6 +3,7 @@
 ghost use Rattle.std.specs.Prelude.{◌≡◌, [], ◌∷◌, true, false};
 ghost use Rattle.mono_steps.specs.Trimmed.{IsNamedLater, IsTrimmed, renumbered};
 ghost use Rattle.mono_steps.specs.WorkedLemmas.{barred, with_two_lemmas, with_one_lemma};
+ghost use Rattle.mono_worked.specs.Refutations.{with_unnamed_lemma, with_turned_lemma};
 
 /// Of two equal lemmas the chain names the second, so the first one goes and the chain's number with it.
 pub fn trimmed_refutation()
@@ -10,6 +11,14 @@ pub fn trimmed_refutation()
     ensures as_it_was { IsTrimmed barred with_one_lemma with_one_lemma }
     ensures not_trimmed { IsTrimmed barred with_two_lemmas with_two_lemmas → ⊥ }
     ensures nothing_left { IsTrimmed barred with_two_lemmas [] → ⊥ }
+{}
+
+/// The lemma that the chain names is kept, although another one has the same literals. No other step takes its place.
+pub fn named_lemmas_are_kept()
+    ensures kept { IsTrimmed barred with_unnamed_lemma with_one_lemma }
+    ensures dropped { IsTrimmed barred with_unnamed_lemma with_turned_lemma → ⊥ }
+    ensures unnamed_before_the_last { IsTrimmed barred with_unnamed_lemma with_unnamed_lemma → ⊥ }
+    ensures none_of_the_old_steps { IsTrimmed barred with_one_lemma with_turned_lemma → ⊥ }
 {}
 
 /// A step has to be named by a later one.

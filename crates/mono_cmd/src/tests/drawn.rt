@@ -36,16 +36,16 @@ fn theories_agree(
     Ok(true)
 }
 
-/// Whether the problem has four theories, and they agree with searches.
+/// Whether the problem has five theories, and they agree with searches.
 fn problem_agrees(
     alloc: Global,
     problem: &Problem,
     words: &mut Lcg64Xsh32,
 ) -> Result<bool, AllocError> {
     let theories = all_theories(alloc, problem)?;
-    let four = theories.len() == 4;
+    let five = theories.len() == 5;
     let agree = theories_agree(alloc, problem, theories, words)?;
-    Ok(four && agree)
+    Ok(five && agree)
 }
 
 /// Whether the theories of the problem that is drawn from the seed agree with searches.

@@ -1,6 +1,6 @@
 //! Inputs that are generated, solved and summed up.
 
-use super::{checks, outcome_of};
+use super::{assert_outcome, checks, outcome_of};
 use crate::status::Status;
 use std::process::Abort;
 use std::test::Fail;
@@ -13,8 +13,7 @@ fn writes(
     status: Status,
 ) -> Result<(), Fail> {
     let found = outcome_of(rt.alloc(), line, b"", b"")?;
-    assert_eq!(rt; found.text.as_slice(), text);
-    assert_eq!(rt; found.status, status);
+    assert_outcome(rt, &found, text, status);
     Ok(())
 }
 

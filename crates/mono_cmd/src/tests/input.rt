@@ -1,8 +1,14 @@
 //! Inputs, read, refused and printed.
 
-use super::{outcome_of, prints_each, refuses};
+use super::{assert_outcome, checks, outcome_of, prints, prints_each, refuses};
 use crate::status::Status;
+use mono_text::push_natural;
+use std::alloc::{AllocError, Global};
+use std::process::Abort;
 use std::test::Fail;
+
+const USAGE: &[u8] =
+    b"usage: solve FILE [--conflicts N] | check FILE ANSWER | print FILE | gen KIND SIZE SEED [--solve]\n";
 
 const GRAPH: &[u8] = b"digraph int 2 1 0\n";
 
@@ -36,8 +42,8 @@ fn an_input_is_printed_in_one_form(rt: HostRuntime) -> Result<(), Fail> {
                 "p gnf 1 0\ndigraph int 1000000 1 0\nedge 0 0 999999 1 1\n",
             ),
             (
-                "digraph int 2 1 0\nedge 0 0 1 1 4294967295\n",
-                "p gnf 1 0\ndigraph int 2 1 0\nedge 0 0 1 1 4294967295\n",
+                "digraph int 2 1 0\nedge 0 0 1 1 18446744073709551615\n",
+                "p gnf 1 0\ndigraph int 2 1 0\nedge 0 0 1 1 18446744073709551615\n",
             ),
         ],
     )
@@ -106,7 +112,7 @@ fn the_first_check_that_fails_names_the_fault(rt: HostRuntime) -> Result<(), Fai
                 "refused 4 NodeOutOfRange\n",
             ),
             (
-                "digraph int 2 1 0\nedge 0 0 1 1 4294967296\n",
+                "digraph int 2 1 0\nedge 0 0 1 1 18446744073709551616\n",
                 "refused 2 TooLarge\n",
             ),
             (
@@ -135,19 +141,38 @@ fn a_number_line_is_judged_token_by_token(rt: HostRuntime) -> Result<(), Fail> {
     prints_each(&rt, &[("1\t2\r\n-000003 0", "p gnf 3 1\n1 2 -3 0\n")])
 }
 
+/// So many graphs, each with an identity of its own.
+fn graphs(alloc: Global, count: u64) -> Result<Vec<u8>, AllocError> {
+    let mut text = Vec::new(alloc);
+    for identity in 0..count {
+        text.extend_from_slice(b"digraph int 1 0 ")?;
+        push_natural(&mut text, identity)?;
+        text.push(b'\n')?;
+    }
+    Ok(text)
+}
+
 #[test]
 fn there_are_at_most_1024_graphs(rt: HostRuntime) -> Result<(), Fail> {
-    let mut text = String::new(rt.alloc());
-    for identity in 0..1025u32 {
-        text.push_str(&format!(in rt.alloc(); "digraph int 1 0 {identity}\n")?)?;
-    }
-    refuses(&rt, &[(text.as_str(), "refused 1025 TooMany\n")])
+    let input = graphs(rt.alloc(), 1025)?;
+    let text = b"refused 1025 TooMany\n".as_slice();
+    checks(&rt, input.as_slice(), b"", text, Status::Refused)?;
+    prints(&rt, input.as_slice(), text, Status::Refused)
+}
+
+/// The words of the line are no command.
+fn is_no_command(rt: &(impl Abort + AllocGlobal), line: &str) -> Result<(), Fail> {
+    let words: Vec<&str> = line
+        .split(' ')
+        .filter(|word| !word.is_empty())
+        .collect(rt.alloc())?;
+    let found = outcome_of(rt.alloc(), words.as_slice(), GRAPH, b"")?;
+    assert_outcome(rt, &found, USAGE, Status::Words);
+    Ok(())
 }
 
 #[test]
 fn other_words_are_no_command(rt: HostRuntime) -> Result<(), Fail> {
-    let usage =
-        b"usage: solve FILE [--conflicts N] | check FILE ANSWER | print FILE | gen KIND SIZE SEED [--solve]\n";
     let words = [
         "",
         "check",
@@ -187,13 +212,7 @@ fn other_words_are_no_command(rt: HostRuntime) -> Result<(), Fail> {
         "print grid 10 7 --solve",
     ];
     for line in &words {
-        let split: Vec<&str> = line
-            .split(' ')
-            .filter(|word| !word.is_empty())
-            .collect(rt.alloc())?;
-        let found = outcome_of(rt.alloc(), split.as_slice(), GRAPH, b"")?;
-        assert_eq!(rt; found.text.as_slice(), usage.as_slice());
-        assert_eq!(rt; found.status, Status::Words);
+        is_no_command(&rt, line)?;
     }
     let empty = outcome_of(rt.alloc(), &["print", ""], GRAPH, b"")?;
     assert_eq!(rt; empty.status, Status::Words);

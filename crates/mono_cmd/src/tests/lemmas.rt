@@ -91,3 +91,40 @@ fn lemmas_on_trees_are_judged(rt: HostRuntime) -> Result<(), Fail> {
         ],
     )
 }
+
+/// Two edges in a row that weigh 2^64 together, and a tree of weight 5 is asked for.
+const HEAVY_ROUTE: &str =
+    "digraph int 3 2 0\nedge 0 0 1 1 18446744073709551615\nedge 0 1 2 2 1\nmst_weight_leq 0 3 5\n1 0\n2 0\n3 0\n";
+
+/// Two edges side by side that carry 2^64 together, and a flow of 5 is asked for.
+const HEAVY_PIPES: &str =
+    "digraph int 2 2 0\nedge 0 0 1 1 18446744073709551615\nedge 0 0 1 2 1\nmaximum_flow_geq 0 0 1 3 5\n3 0\n";
+
+#[test]
+fn lemmas_on_great_weights_are_judged(rt: HostRuntime) -> Result<(), Fail> {
+    judges(
+        &rt,
+        &[
+            (
+                HEAVY_ROUTE,
+                "s UNSATISFIABLE\nleast 1 -3 0 1 2\nchain 0 4 3\n",
+                "accepted refutation\n",
+            ),
+            (
+                HEAVY_ROUTE,
+                "s UNKNOWN\ntree 1 -1 -2 3 0 1 2\n",
+                "rejected 2 WitnessFails\n",
+            ),
+            (
+                HEAVY_PIPES,
+                "s UNSATISFIABLE\nflowcut 1 -3 0 0\n",
+                "rejected 2 MissingLiteral\n",
+            ),
+            (
+                HEAVY_PIPES,
+                "s UNKNOWN\nflowcut 1 1 -3 0 0\n",
+                "accepted progress 0\n",
+            ),
+        ],
+    )
+}

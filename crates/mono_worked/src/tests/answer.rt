@@ -22,9 +22,9 @@ fn steps_in(alloc: Global, text: &[u8]) -> Result<Vec<Step>, ItemRefusal> {
 #[test]
 fn every_word_is_read_and_printed(rt: HostRuntime) -> Result<(), Fail> {
     let text =
-        b"c x\ns UNSATISFIABLE\n path 1 -1 03 0 1 2\r\ncut 1 1 -3 0 0\n\nlabel 2 3 -4 0 0 0 1 5\nflow 1 3 0 1 7\nflowcut 2 -4 0 0\ntree 1 1 0\nsplit 1 1 -2 0 0\nleast 1 -4 0 1 2\nchain 0 4 1 2";
+        b"c x\ns UNSATISFIABLE\n path 1 -1 03 0 1 2\r\ncut 1 1 -3 0 0\n\nlabel 2 3 -4 0 0 0 1 5\nflow 1 3 0 1 7\nflowcut 2 -4 0 0\ntree 1 1 0\nsplit 1 1 -2 0 0\nleast 1 -4 0 1 2\ncycle 1 -1 -2 -3 0 1 02\norder 1 1 3 0 1 0\nchain 0 4 1 2";
     let want =
-        b"s UNSATISFIABLE\npath 1 -1 3 0 1 2\ncut 1 1 -3 0 0\nlabel 2 3 -4 0 0 0 1 5\nflow 1 3 0 1 7\nflowcut 2 -4 0 0\ntree 1 1 0\nsplit 1 1 -2 0 0\nleast 1 -4 0 1 2\nchain 0 4 1 2\n";
+        b"s UNSATISFIABLE\npath 1 -1 3 0 1 2\ncut 1 1 -3 0 0\nlabel 2 3 -4 0 0 0 1 5\nflow 1 3 0 1 7\nflowcut 2 -4 0 0\ntree 1 1 0\nsplit 1 1 -2 0 0\nleast 1 -4 0 1 2\ncycle 1 -1 -2 -3 0 1 2\norder 1 1 3 0 1 0\nchain 0 4 1 2\n";
     match steps_in(rt.alloc(), text.as_slice()) {
         Err(_) => assert!(rt; false),
         Ok(steps) => {
@@ -37,13 +37,15 @@ fn every_word_is_read_and_printed(rt: HostRuntime) -> Result<(), Fail> {
 
 #[test]
 fn bad_lines(rt: HostRuntime) {
-    let table: [&[u8]; 6] = [
+    let table: [&[u8]; 8] = [
         b"chain 0",
         b"v x",
         b"flow 1 0 1",
         b"paths",
         b"s",
         b"tree 4294967296 0",
+        b"cycle 1 0 -1",
+        b"order 1 3",
     ];
     for text in table {
         let line = Line { number: 1, text };

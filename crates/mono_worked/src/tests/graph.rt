@@ -26,7 +26,7 @@ fn star(alloc: Global) -> Result<Graph, EdgeRefusal>
         from: 0,
         to: 2,
         var: 9,
-        weight: 4294967295,
+        weight: 18446744073709551615,
     })?;
     graph.add_edge(Edge {
         number: 9,
@@ -70,9 +70,9 @@ fn assert_places(rt: &impl Abort, graph: &Graph) {
 fn assert_edges(rt: &impl Abort, graph: &Graph)
     requires { length graph.now.edges ≡ 3 }
 {
-    assert_eq!(rt; graph.edge(1).weight, 4294967295);
+    assert_eq!(rt; graph.edge(1).weight, 18446744073709551615);
     assert_eq!(rt; graph.edge(2).from, 2);
-    assert_eq!(rt; graph.weight_of(&[0, 1, 1]), 8589934595);
+    assert_eq!(rt; graph.weight_of(&[0, 1, 1]), 36893488147419103235);
 }
 
 #[test]

@@ -2,6 +2,7 @@ use Rattle.std.proofs.Common.{map, string_bytes}
 use Rattle.mono_cmd.specs.Commands.{command_of}
 use Rattle.mono_cmd.proofs.Stages.{ends_begun, ends_faults}
 use Rattle.mono_cmd.proofs.Causes.{fault_counted, past_its_limit}
+use Rattle.mono_cmd.proofs.OutOfMemory.{memory_wanting}
 use Rattle.mono_cmd.proofs.Needs.{no_read_fault, steady, complete}
 use Rattle.mono_cmd.proofs.Solves.{satisfiable, unsatisfiable, unknown, its_verdict}
 use Rattle.mono_cmd.proofs.Summaries.{gen_satisfiable, gen_unsatisfiable, gen_unknown, summed}
@@ -16,6 +17,9 @@ returns-clause-read_fault g c = fault_counted _ _ _ c.ending_of-ending.result c.
 
 pub returns-clause-too_long : goal.returns-clause-too_long
 returns-clause-too_long g c = past_its_limit _ _ _ c.ending_of-ending.result c.write_ending.result _ _ c.ending_of-ending.ensures c.write_ending.ensures.writes
+
+pub returns-clause-given_up : goal.returns-clause-given_up
+returns-clause-given_up g c = memory_wanting _ _ _ c.ending_of-ending.result c.write_ending.result _ _ c.ending_of-ending.ensures c.write_ending.ensures.writes
 
 pub returns-clause-refutes : goal.returns-clause-refutes
 returns-clause-refutes g c =

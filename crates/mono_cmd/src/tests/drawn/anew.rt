@@ -5,6 +5,7 @@ ghost use Rattle.mono_graph.specs.Digraph.{IsPartOf};
 ghost use Rattle.mono_problem.specs.WellFormed.{IsOver};
 
 use mono_base::Lit;
+use mono_cycles::{CycleOrOrder, find_cycle};
 use mono_flows::{FlowOrCut, find_flow};
 use mono_graph::{Graph, Limit, Part};
 use mono_paths::{PathOrCut, PathOrLabels, find_light, find_path};
@@ -66,6 +67,10 @@ fn is_found(
         Predicate::Tree { most } => {
             let found = find_tree(alloc, graph, part, most)?;
             Ok(matches!(found, TreeFound::Tree(_)))
+        }
+        Predicate::Acyclic => {
+            let found = find_cycle(alloc, graph, part)?;
+            Ok(matches!(found, CycleOrOrder::Order(_)))
         }
     }
 }

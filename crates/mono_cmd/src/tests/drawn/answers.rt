@@ -7,7 +7,7 @@ ghost use Rattle.mono_problem.specs.WellFormed.{IsOver};
 use super::anew::{holds, says};
 use super::kept::Kept;
 use mono_base::Lit;
-use mono_problem::{Atom, Problem};
+use mono_problem::{Atom, Predicate, Problem};
 use mono_steps::{Lemma, StepChecker};
 use std::alloc::{AllocError, Global};
 
@@ -26,6 +26,11 @@ fn atom_of(problem: &Problem, number: u32) -> Option<Atom>
     Some(atom)
 }
 
+/// Whether the predicate may fail once more edges are present.
+fn falls(predicate: Predicate) -> bool {
+    matches!(predicate, Predicate::Acyclic)
+}
+
 /// Whether what is kept of the atom agrees with searches and, after an answer of Quiet, the literals say what it forces.
 pub fn agrees(
     alloc: Global,
@@ -41,8 +46,12 @@ pub fn agrees(
     let graph = problem.graph(0);
     let surely = holds(alloc, graph, lits, false, atom.predicate)?;
     let possibly = holds(alloc, graph, lits, true, atom.predicate)?;
-    let owes = (surely && !says(lits, atom.var, true))
-        || !(possibly || says(lits, atom.var, false));
+    let (always, ever) = if falls(atom.predicate) {
+        (possibly, surely)
+    } else {
+        (surely, possibly)
+    };
+    let owes = (always && !says(lits, atom.var, true)) || !(ever || says(lits, atom.var, false));
     let right = match kept {
         Some(kept) => kept.is_right(surely, possibly, quiet),
         None => true,
@@ -62,7 +71,8 @@ pub fn is_forced(
         return Ok(false);
     };
     let value = lit.is_positive();
-    let found = holds(alloc, problem.graph(0), lits, !value, atom.predicate)?;
+    let possibly = value == falls(atom.predicate);
+    let found = holds(alloc, problem.graph(0), lits, possibly, atom.predicate)?;
     Ok(found == value && lit.var() == atom.var && !says(lits, lit.var(), value))
 }
 

@@ -63,6 +63,9 @@ fn drawn_predicate(words: &mut Lcg64Xsh32, kind: u32, from: u32) -> Predicate
             least: i64::from(bound / 2),
         };
     }
+    if kind == 5 {
+        return Predicate::Acyclic;
+    }
     Predicate::Tree {
         most: i64::from(2 * bound),
     }
@@ -111,7 +114,7 @@ fn ask_all(
     each: u32,
     share: bool,
 ) -> Result<(), AllocError> {
-    for kind in 0..5 {
+    for kind in 0..6 {
         let from = words.next_word() % 9;
         for next in 0..each {
             let own = FIRST_ATOM_VAR + 4 * kind + next % 4;

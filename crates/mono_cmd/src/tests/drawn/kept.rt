@@ -132,12 +132,12 @@ fn kept_flows(theory: &FlowTheory, number: u32) -> Option<Kept> {
     })
 }
 
-/// What the theory keeps of its atom of the number. Theories of trees tell nothing.
+/// What the theory keeps of its atom of the number. Theories of trees and of cycles tell nothing.
 pub fn kept_of(theory: &AnyTheory, number: u32) -> Option<Kept> {
     match theory {
         AnyTheory::Reach(theory) => kept_marks(theory, number),
         AnyTheory::Distance(theory) => kept_labels(theory, number),
         AnyTheory::Flow(theory) => kept_flows(theory, number),
-        AnyTheory::Tree(_) => None,
+        AnyTheory::Tree(_) | AnyTheory::Acyclic(_) => None,
     }
 }

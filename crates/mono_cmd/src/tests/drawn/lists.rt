@@ -15,7 +15,7 @@ use std::alloc::{AllocError, Global};
 const CALLS: usize = 40;
 
 /// No literal is drawn of a greater variable.
-const GREATEST_VAR: u32 = 44;
+const GREATEST_VAR: u32 = 48;
 
 /// What is found of an answer.
 #[derive(Clone, Copy)]

@@ -7,9 +7,9 @@ use Rattle.mono_dynamic.proofs.relax.relax.Goals as goal
 pub returns-clause-relaxed : goal.returns-clause-relaxed
 returns-clause-relaxed c = λ ks.
     let x = c.edge-edge.result in
-    let change : Change = record { node = x.to; place = c.args.place; before = c.last.result; previous = c.last-2.result; old = c.label-old.result; label = c.label.result + c.cost_of.result; stamp = c.args.stamp } in
-    relaxed_lower c.args.graph.now c.args.part.now c.args.place c.cost_of.result ks x change c.args.table.now c.lower.new.self
+    let change : Change = record { node = x.to; place = c.args.place; before = c.last.result; previous = c.last-2.result; old = c.label-old.result; label = c.label-start.result + c.cost_of-cost.result; stamp = c.args.stamp } in
+    relaxed_lower c.args.graph.now c.args.part.now c.args.place c.cost_of-cost.result ks x change c.args.table.now c.lower.new.self
     (heap_items c.args.queue.now) (heap_items c.push.new.self) c.left.result c.requires.place c.edge-edge.ensures.edge (sym c.has.ensures ∙ c.if-not-has.false) c.edge-edge.ensures.from c.edge-edge.ensures.to c.requires.size
-    c.cost_of.ensures.cost refl refl c.label-old.ensures.label (let e = c.label.ensures.label in omega arith)
-    (let e = c.label-old.ensures.label in let b = c.if-label-old.false in omega arith) (let e = c.label-old.ensures.label in let m = c.label-old.ensures.most in omega arith)
+    c.cost_of-cost.ensures refl refl c.label-old.ensures.label (let e = c.label-start.ensures.label in omega arith)
+    (let e = c.label-old.ensures.label in let more = c.if-old-start.false in let b = c.if-old-start-2.false in omega arith) (let e = c.label-old.ensures.label in let m = c.label-old.ensures.most in omega arith)
     c.last.ensures c.in_ok-lower.ensures.lowered c.left.ensures c.in_ok-push.ensures.permutation

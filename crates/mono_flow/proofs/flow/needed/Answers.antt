@@ -24,4 +24,4 @@ pub returns-clause-others : goal.returns-clause-others
 returns-clause-others c = so_far_all (let past = c.loop-place-test.false in omega (arith, past)) c.loop-place.invariant
 
 pub returns-clause-each : goal.returns-clause-each
-returns-clause-each c = so_far_each (let past = c.loop-place-test.false in omega (arith, past)) c.loop-place.invariant
+returns-clause-each c = so_far_each (let past = c.loop-place-test.false in omega (arith, past)) c.loop-place.invariant c.requires.distinct

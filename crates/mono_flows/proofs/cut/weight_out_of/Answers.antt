@@ -18,8 +18,8 @@ loop-node-preserved c =
       | then-not-index w ↦
           subst (λ (v : Vec Bool Global). Weighed c.args.network.now.graph.now c.args.network.now.part.now c.args.inside.now v.items c.args.nodes.now (i + 1) c.if-not-index.weight) (sym w.counted-is)
           (subst (λ (n : ℕ). Weighed c.args.network.now.graph.now c.args.network.now.part.now c.args.inside.now (set c.loop-node.counted.items u true) c.args.nodes.now (i + 1) n) (sym w.weight-is)
-          (weighed_new c.args.network.now.graph.now c.args.network.now.part.now c.args.inside.now c.loop-node.counted.items c.args.nodes.now i c.loop-node.weight w.from-weight.result u c.loop-node-test.true refl within (sym read ∙ w.if-not-index.true)
-          (w.from-weight.ensures ∙ w.weight_leaving.ensures.exact) (let e = w.from-weight.ensures in let b = w.weight_leaving.ensures.bound in omega arith) c.loop-node.invariant))
+          (weighed_new c.args.network.now.graph.now c.args.network.now.part.now c.args.inside.now c.loop-node.counted.items c.args.nodes.now i c.loop-node.weight w.weight_leaving-weight.result u c.loop-node-test.true refl within (sym read ∙ w.if-not-index.true)
+          w.weight_leaving-weight.ensures.exact w.weight_leaving-weight.ensures.bound c.loop-node.invariant))
       | else-not-index w ↦
           subst (λ (v : Vec Bool Global). Weighed c.args.network.now.graph.now c.args.network.now.part.now c.args.inside.now v.items c.args.nodes.now (i + 1) c.if-not-index.weight) (sym w.counted-is)
           (subst (λ (n : ℕ). Weighed c.args.network.now.graph.now c.args.network.now.part.now c.args.inside.now c.loop-node.counted.items c.args.nodes.now (i + 1) n) (sym w.weight-is)

@@ -17,7 +17,7 @@ returns-in-None-clause-value c =
 pub returns-in-None-clause-decides : goal.returns-in-None-clause-decides
 returns-in-None-clause-decides c none last =
     let atoms = c.graph.ensures.atoms in
-    unshown_decides false c.args.place c.requires.place c.graph.ensures.known (atoms.over c.args.place no_atom c.requires.place).1 c.requires.side none (c.in-None.ensures.none c.requires.thorough)
+    unshown_decides false c.args.place c.requires.place c.graph.ensures.known (c.requires.covered.each c.args.place no_atom c.requires.place) (atoms.over c.args.place no_atom c.requires.place).1 c.requires.side none (c.in-None.ensures.none c.requires.thorough)
 
 pub returns-in-Some-clause-value : goal.returns-in-Some-clause-value
 returns-in-Some-clause-value c =
@@ -38,4 +38,4 @@ returns-in-Some-clause-decides c none is_last =
     let q = (atom_at f.atoms c.args.place).predicate in
     let last = c.ends_of-to.ensures.last ∙ ap (λ (x : Atom). last_node x.predicate) c.atom_at-atom.ensures.atom in
     subst (λ (v : ℕ). Decides f.graph (under f.graph f.seen) q (eqb c.args.node v)) (sym last)
-    (found_decides f.graph (under f.graph f.seen) q c.in-Some.field-0.now c.args.node c.in-Some.ensures.right is_last)
+    (found_decides f.graph (under f.graph f.seen) q c.in-Some.field-0.now c.args.node (c.requires.covered.each c.args.place no_atom c.requires.place) c.in-Some.ensures.right is_last)

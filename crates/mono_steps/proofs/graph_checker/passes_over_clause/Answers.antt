@@ -16,6 +16,6 @@ returns-clause-passes c =
     let changed = c.switch_edges.new.part in
     subst (λ (x : Bool). IfOk c.passes-passes.result (λ b. b ≡ x))
     (ap (λ (h : Digraph). passes h changed q w) c.graph-graph.ensures
-    ∙ clause_passes g changed lits q w c.args.positive c.requires.positive c.switch_edges.ensures.part
-    (λ k low. c.switch_edges.ensures.places k low ∙ ap (λ (b : Bool). cond (has_lit lits (literal_of (not c.args.positive) (edge_at g k).var)) c.args.positive b) (c.requires.reset k low)))
+    ∙ clause_passes g changed lits q w c.args.on_present c.requires.rests c.switch_edges.ensures.part
+    (λ k low. c.switch_edges.ensures.places k low ∙ ap (λ (b : Bool). cond (has_lit lits (literal_of (not c.args.on_present) (edge_at g k).var)) c.args.on_present b) (c.requires.reset k low)))
     c.passes-passes.ensures.passes

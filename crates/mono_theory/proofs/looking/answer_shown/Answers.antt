@@ -3,6 +3,7 @@ use Rattle.std.specs.Prelude.{IfSome}
 use Rattle.mono_base.specs.Partial.{is_true_in}
 use Rattle.mono_problem.specs.declared.atom.Atom.{Atom}
 use Rattle.mono_steps.specs.Switching.{literal_of}
+use Rattle.mono_theory.specs.Evidences.{shown_by}
 use Rattle.mono_theory.specs.Sound.{IsSound, evidence_at}
 use Rattle.mono_theory.proofs.QuietLaws.{shown_forces}
 use Rattle.mono_theory.proofs.looking.answer_shown.Goals as goal
@@ -14,8 +15,8 @@ returns-clause-answer c =
     let a = c.args.place in
     let x = c.atom_at-atom.result in
     let at = c.atom_at-atom.ensures.atom in (
-      rw c.literal.ensures (shown_forces f.graph f.atoms f.seen x b (evidence_at c.args.side.now.shown a) c.graph.ensures.known c.atom_at-atom.ensures.over c.atom_at-atom.ensures.found
+      rw (c.literal.ensures, c.shown_by.ensures) (shown_forces f.graph f.atoms f.seen x b (evidence_at c.args.side.now.shown a) c.graph.ensures.known c.atom_at-atom.ensures.over c.atom_at-atom.ensures.found
           (subst (λ (y : Atom). IfSome (evidence_at c.args.side.now.shown a) (IsSound f.graph y.predicate (not b))) (sym at) (c.requires.side.shown.each a c.requires.next.known)) c.requires.right
-          (subst (λ (y : Atom). is_true_in f.seen (literal_of (not b) y.var) ≡ false) (sym at) (c.is_settled.ensures.open c.if-is_settled.false))),
+          (subst (λ (y : Atom). is_true_in f.seen (literal_of (shown_by y.predicate (not b)) y.var) ≡ false) (sym at) (c.is_settled.ensures.open c.if-is_settled.false))),
       refl,
     )

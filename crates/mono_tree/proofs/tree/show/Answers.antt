@@ -38,4 +38,4 @@ returns-in-Least-clause-evidence c =
     let ks = c.in-Least.places in
     IfOk-weaker c.least_evidence.result (IsLeastEvidence g P ks.items) _
     (λ e is. least_shows g P c.args.most ks.items e c.nodes.ensures.graph (rw c.in-Least.is at c.in_ok-places.ensures.known)
-    (subst (λ (z : ℤ). Passes g P z (found.Least ks)) kept (rw c.in-Least.is at c.in_ok-places.ensures.passes)) is) (rw c.as_slice.ensures.value at c.least_evidence.ensures)
+    (subst (λ (z : ℤ). Passes g P z (found.Least ks)) kept (rw c.in-Least.is at c.in_ok-places.ensures.passes)) is) (rw c.as_slice.ensures.value at c.least_evidence.ensures.evidence)

@@ -36,3 +36,6 @@ returns-in-Tree-clause-holds c =
     let kept : to_z w64 (of_z w64 c.in-Tree.most) ≡ c.in-Tree.most = to_z-of_z w64 c.in-Tree.most fits in
     let holds = subst (λ (z : ℤ). IfOk c.spans.result (λ yes. IsTrue yes ↔ Holds c.args.graph.now c.args.self.now.part (kind.Tree z))) kept c.spans.ensures.holds in
     subst (λ (q : Predicate). IfOk c.spans.result (λ yes. IsTrue yes ↔ Holds c.args.graph.now c.args.self.now.part q)) (sym c.in-Tree.is) holds
+
+pub returns-in-Acyclic-clause-holds : goal.returns-in-Acyclic-clause-holds
+returns-in-Acyclic-clause-holds c = subst (λ (q : Predicate). IfOk c.has_no_cycle.result (λ yes. IsTrue yes ↔ Holds c.args.graph.now c.args.self.now.part q)) (sym c.in-Acyclic.is) c.has_no_cycle.ensures.holds

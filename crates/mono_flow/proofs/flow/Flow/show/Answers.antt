@@ -30,3 +30,6 @@ returns-in-Cut-clause-evidence c =
     (λ e is. cut_shows g P c.args.source c.args.sink c.args.least set.items c.in_ok-found.found.value c.spare_of-spare.result e (rw c.in-Cut.is at c.in_ok-found.ensures.known)
     (subst (λ (z : ℤ). Passes g P c.args.source c.args.sink z (found.Cut set)) kept (rw c.in-Cut.is at c.in_ok-found.ensures.passes))
     (rw c.in-Cut.is at c.in_ok-found.ensures.value) (sym kept ∙ c.spare_of-spare.ensures) is) c.cut_evidence.ensures.evidence
+
+pub cut_evidence-requires-clause-distinct : goal.cut_evidence-requires-clause-distinct
+cut_evidence-requires-clause-distinct c = rw c.in-Cut.is at c.in_ok-found.ensures.distinct

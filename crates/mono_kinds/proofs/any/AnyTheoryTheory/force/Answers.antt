@@ -11,3 +11,6 @@ returns-in-Flow-clause-answer c = rw c.in-Flow.is c.force-in-Flow.ensures.answer
 
 pub returns-in-Tree-clause-answer : goal.returns-in-Tree-clause-answer
 returns-in-Tree-clause-answer c = rw c.in-Tree.is c.force-in-Tree.ensures.answer
+
+pub returns-in-Acyclic-clause-answer : goal.returns-in-Acyclic-clause-answer
+returns-in-Acyclic-clause-answer c = rw c.in-Acyclic.is c.force-in-Acyclic.ensures.answer

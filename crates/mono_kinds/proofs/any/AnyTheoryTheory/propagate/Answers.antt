@@ -11,3 +11,6 @@ returns-in-Flow-clause-finding c = rw c.in-Flow.is c.propagate-in-Flow.ensures.f
 
 pub returns-in-Tree-clause-finding : goal.returns-in-Tree-clause-finding
 returns-in-Tree-clause-finding c = rw c.in-Tree.is c.propagate-in-Tree.ensures.finding
+
+pub returns-in-Acyclic-clause-finding : goal.returns-in-Acyclic-clause-finding
+returns-in-Acyclic-clause-finding c = rw c.in-Acyclic.is c.propagate-in-Acyclic.ensures.finding

@@ -11,3 +11,6 @@ returns-in-Flow c = rw c.in-Flow.is c.variables-in-Flow.ensures
 
 pub returns-in-Tree : goal.returns-in-Tree
 returns-in-Tree c = rw c.in-Tree.is c.variables-in-Tree.ensures
+
+pub returns-in-Acyclic : goal.returns-in-Acyclic
+returns-in-Acyclic c = rw c.in-Acyclic.is c.variables-in-Acyclic.ensures

@@ -2,8 +2,7 @@ use Rattle.std.proofs.Common.{◌≡◌, sym, subst}
 use Rattle.std.proofs.lemmas.Result.{IfOk-weaker}
 use Rattle.mono_theory.specs.Evidences.{IsEvidence}
 use Rattle.mono_theory.specs.Walked.{walk_evidence}
-use Rattle.mono_reach.specs.Reaches.{cut_evidence}
-use Rattle.mono_reach.proofs.ReachLaws.{walk_shows, cut_shows}
+use Rattle.mono_reach.proofs.ReachLaws.{walk_shows}
 use Rattle.mono_reach.proofs.reach.ReachKind.evidence.Goals as goal
 
 pub returns-in-Path-clause-evidence : goal.returns-in-Path-clause-evidence
@@ -16,12 +15,11 @@ returns-in-Path-clause-evidence c =
     (λ e is. subst (IsEvidence g P _) (sym is)
     (walk_shows g P c.in-Reach.from c.in-Reach.to ks c.nodes.ensures.graph (rw c.in-Path.is at c.in_ok-places.ensures.known) (rw c.in-Path.is at c.in_ok-places.ensures.passes))) c.walk_evidence.ensures)
 
+pub least_cut-requires-clause-nodes : goal.least_cut-requires-clause-nodes
+least_cut-requires-clause-nodes c = rw c.in-Cut.is at c.in_ok-places.ensures.known
+
+pub least_cut-requires-clause-cut : goal.least_cut-requires-clause-cut
+least_cut-requires-clause-cut c = rw c.in-Cut.is at c.in_ok-places.ensures.passes
+
 pub returns-in-Cut-clause-evidence : goal.returns-in-Cut-clause-evidence
-returns-in-Cut-clause-evidence c =
-    let g = c.args.graph.now in
-    let P = c.args.part.now in
-    let s = c.in-Cut.nodes.items in
-    rw c.in-Reach.is
-    (IfOk-weaker c.cut_evidence.result (λ e. e ≡ cut_evidence g P s) _
-    (λ e is. subst (IsEvidence g P _) (sym is)
-    (cut_shows g P c.in-Reach.from c.in-Reach.to s (rw c.in-Cut.is at c.in_ok-places.ensures.known) (rw c.in-Cut.is at c.in_ok-places.ensures.passes))) c.cut_evidence.ensures.evidence)
+returns-in-Cut-clause-evidence c = rw c.in-Reach.is c.least_cut.ensures.evidence

@@ -8,4 +8,4 @@ returns-clause-decided g c = λ _.
 
 pub returns-clause-signed : goal.returns-clause-signed
 returns-clause-signed g c = λ _.
-    rw (← c.self.view_is) (decided_by_sign c.self.inside.theories c.self.inside.trail c.decide.new.self c.self.inside.store c.self.inside.journal c.self.inside.order c.pick.new.self c.literal-lit.result c.in-Some.var c.phase.result c.in-Some.ensures.some c.phase.ensures c.literal-lit.ensures.value c.decide.ensures)
+    rw (← c.self.view_is) (decided_by_sign c.self.inside.theories c.self.inside.trail c.decide.new.self c.self.inside.store c.self.inside.journal c.self.inside.order c.pick.new.self c.literal-lit.result c.in-Some.var c.sign_of.result c.in-Some.ensures.some c.sign_of.ensures c.literal-lit.ensures.value c.decide.ensures)

@@ -1,5 +1,6 @@
 use Rattle.std.proofs.Common.{◌≤◌, arith}
 use Rattle.mono_steps.specs.Journals.{chain_count}
+use Rattle.mono_search.proofs.Counting.{counted_none, counted_one}
 use Rattle.mono_search.proofs.LearnedClauses.{spent}
 use Rattle.mono_search.proofs.state.State.resolve.Goals as goal
 
@@ -7,3 +8,9 @@ pub returns-then-learned-budget-clause-ends : goal.returns-then-learned-budget-c
 returns-then-learned-budget-clause-ends g c =
     let le : c.args.budget ≤ chain_count c.args.self.now.steps = omega (arith, c.if-learned-budget.true, c.learned.ensures) in
     spent c.args.self.now c.restart.new.self c.args.budget c.args.conflict c.requires c.restart.ensures.ready c.restart.ensures.problem c.restart.ensures.steps le
+
+pub returns-then-learned-budget-clause-counted : goal.returns-then-learned-budget-clause-counted
+returns-then-learned-budget-clause-counted g c = λ on. counted_none c.args.self.now.steps c.restart.new.self.steps c.args.restarts.now c.restart.ensures.steps
+
+pub returns-clause-counted : goal.returns-clause-counted
+returns-clause-counted g c = λ on. counted_one (chain_count c.args.self.now.steps) (chain_count c.learn.new.self.steps) c.args.restarts.now c.count_clause.new.self c.count_clause.result c.in_ok-learn.ensures.chains c.count_clause.ensures

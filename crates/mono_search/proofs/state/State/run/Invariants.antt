@@ -1,5 +1,6 @@
 use Rattle.std.proofs.Common.{◌≡◌, ◌≤◌, max}
 use Rattle.mono_steps.specs.Journals.{chain_count}
+use Rattle.mono_search.specs.Restarts.{KeepsCount}
 use Rattle.mono_search.specs.State.{IsReady, work_left}
 use Rattle.mono_search.proofs.state.State.run.Given as goal
 
@@ -9,6 +10,7 @@ invariant-loop-outcome g l = record {
   problem : l.self.theories.problem ≡ l.fn.self.theories.problem;
   few : chain_count l.self.steps ≤ max l.budget (chain_count l.fn.self.steps);
   no_fewer : chain_count l.fn.self.steps ≤ chain_count l.self.steps;
+  counted : KeepsCount (chain_count l.fn.self.steps) (chain_count l.self.steps) l.fn.restarts l.restarts;
 }
 
 abbrev pub decreases-loop-outcome : goal.decreases-loop-outcome

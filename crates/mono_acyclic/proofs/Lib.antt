@@ -1,0 +1,3 @@
+pub mod CycleEvidence
+pub mod OrderLaws
+pub mod Together

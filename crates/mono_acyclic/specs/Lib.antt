@@ -1,0 +1,3 @@
+pub mod Cyclic
+pub mod Orders
+pub mod Together

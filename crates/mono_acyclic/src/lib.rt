@@ -1,0 +1,12 @@
+//! Whether a part of a graph has no cycle, as a theory.
+#![tactic(auto)]
+
+/// The predicate on cycles.
+mod acyclic;
+/// The surely present edges in an order.
+mod ordered_edges;
+/// Edges that come to a part with an order together.
+mod ordering;
+
+pub use acyclic::{Acyclic, AcyclicTheory};
+pub use ordered_edges::{Closing, OrderedEdges};

@@ -1,0 +1,202 @@
+//! The surely present edges in an order, which are kept while literals come and go.
+//!
+//! While literals come, the surely present edges only grow. As long as they have no cycle, a list of all nodes is kept in
+//! which each of them begins before it ends: an edge that agrees with it costs nothing, another one only the nodes between its
+//! ends (Marchetti-Spaccamela, Nanni and Rohnert 1996). The first literal whose edges close a cycle is kept with the cycle,
+//! and the edges of that literal and of the later ones aren't put in. Going back takes out the edges that came since, and
+//! leaves the order as it is: it is one of fewer edges too.
+
+ghost use Rattle.std.specs.Prelude.{◌≡◌, ◌+◌, ◌<◌, ◌≤◌, true, length, int_lt, pos, slice_index_or, IfOk, OnErr};
+ghost use Rattle.mono_theory.specs.Bound.{edge_vars};
+ghost use Rattle.mono_acyclic.specs.Orders.{IsKeptTo, IsOrderedTo, ordered_count};
+
+use crate::acyclic::{Acyclic, cycle_evidence};
+use crate::ordering::{insert_all, remove_all};
+use mono_base::Lit;
+use mono_cycles::OrderedPart;
+use mono_rows::Rows;
+use mono_theory::{Bounds, Evidence, Frame};
+use std::alloc::{AllocError, Global};
+use std::marker::Model;
+
+/// The literal that closed a cycle, and the cycle.
+#[derive(Drop)]
+pub struct Closing {
+    /// The place of the literal in the list of those seen.
+    pub at: usize,
+    /// The places of the cycle's edges.
+    pub cycle: Vec<u32>,
+}
+
+/// The surely present edges in an order, or a cycle that they have.
+#[derive(Drop)]
+pub struct OrderedEdges {
+    alloc: Global,
+    /// The edges of each variable. The bounds are those before any literal.
+    index: Bounds,
+    /// The edges of the literals before the one that closed a cycle, or of all.
+    ordered: OrderedPart,
+    closing: Option<Closing>,
+}
+
+impl Model for OrderedEdges {
+    ghost use Rattle.mono_acyclic.specs.Orders.{OrderedView};
+
+    ghost Value = { OrderedView };
+
+    ghost view = { λ s. record { vars = s.index.vars; ordered = s.ordered; closing = s.closing } };
+}
+
+/// The edges of the literal at a place come, which is positive. Where they close a cycle, they go again.
+fn advance(
+    alloc: Global,
+    frame: &Frame,
+    index: &Bounds,
+    ordered: &mut OrderedPart,
+    lit: Lit,
+    at: usize,
+) -> Result<Option<Closing>, AllocError>
+    requires vars { index.now.vars ≡ edge_vars frame.now.graph }
+    requires ordered { IsOrderedTo frame.now at ordered.old }
+    requires more { at < length frame.now.seen }
+    requires next { slice_index_or frame.now.seen at lit ≡ lit }
+    requires positive { int_lt (pos 0) lit ≡ true }
+    ensures kept { IfOk result (λ closing. IsKeptTo frame.now (at + 1) ordered.new closing) }
+    ensures stays { OnErr result (IsOrderedTo frame.now at ordered.new) }
+{
+    let _ = frame.seen();
+    let graph = frame.graph();
+    let places = index.places_of(lit.var());
+    if insert_all(ordered, graph, places) {
+        return Ok(None);
+    }
+    let cycle = Vec::from_slice(alloc, ordered.cycle());
+    remove_all(ordered, places);
+    Ok(Some(Closing { at, cycle: cycle? }))
+}
+
+/// The edges of the literal at a place go.
+fn retreat_one(frame: &Frame, index: &Bounds, ordered: &mut OrderedPart, at: usize)
+    requires vars { index.now.vars ≡ edge_vars frame.now.graph }
+    requires ordered { IsOrderedTo frame.now (at + 1) ordered.old }
+    requires at { at < length frame.now.seen }
+    ensures { IsOrderedTo frame.now at ordered.new }
+{
+    let _ = frame.seen();
+    let lit = frame.literal_at(at);
+    // The variable of a literal isn't 0.
+    let var = lit.var();
+    if lit.is_positive() {
+        remove_all(ordered, index.places_of(var));
+    }
+}
+
+/// The edges of the literals from the first `kept` on go.
+fn retreat(frame: &Frame, index: &Bounds, ordered: &mut OrderedPart, looked: usize, kept: usize)
+    requires vars { index.now.vars ≡ edge_vars frame.now.graph }
+    requires ordered { IsOrderedTo frame.now looked ordered.old }
+    requires looked { looked ≤ length frame.now.seen }
+    requires kept { kept ≤ looked }
+    ensures { IsOrderedTo frame.now kept ordered.new }
+{
+    let mut at = looked;
+    'back: while at > kept {
+        at -= 1;
+        retreat_one(frame, index, ordered, at);
+    }
+}
+
+impl OrderedEdges {
+    /// Of how many first literals the edges are there, of those that were looked at.
+    fn ordered_count(&self, looked: usize) -> usize
+        ensures { result ≡ ordered_count looked self.now.closing }
+    {
+        match &self.closing {
+            Some(closing) => closing.at,
+            None => looked,
+        }
+    }
+}
+
+impl Rows<Acyclic> for OrderedEdges {
+    ghost use Rattle.mono_acyclic.specs.Orders.{AreEdgesOf};
+
+    ghost are_right = { AreEdgesOf };
+
+    fn are_few(alloc: Global, frame: &Frame) -> Result<bool, AllocError> {
+        let _ = (alloc, frame.seen());
+        Ok(true)
+    }
+
+    fn of_frame(alloc: Global, frame: &Frame) -> Result<Self, AllocError> {
+        let graph = frame.graph();
+        let index = Bounds::new(alloc, graph)?;
+        let ordered = OrderedPart::new(alloc, graph.nodes(), graph.edge_count())?;
+        Ok(OrderedEdges {
+            alloc,
+            index,
+            ordered,
+            closing: None,
+        })
+    }
+
+    fn look_at(
+        &mut self,
+        frame: &Frame,
+        bounds: &Bounds,
+        looked: usize,
+        lit: Lit,
+    ) -> Result<(), AllocError> {
+        let _ = bounds.under();
+        let _ = (frame.seen(), lit.var());
+        if self.closing.is_some() {
+            return Ok(());
+        }
+        if !lit.is_positive() {
+            return Ok(());
+        }
+        self.closing = advance(
+            self.alloc,
+            frame,
+            &self.index,
+            &mut self.ordered,
+            lit,
+            looked,
+        )?;
+        Ok(())
+    }
+
+    fn undo_to(&mut self, frame: &Frame, looked: usize, kept: usize) {
+        let ordered = self.ordered_count(looked);
+        if ordered < kept {
+            return;
+        }
+        self.closing = None;
+        retreat(frame, &self.index, &mut self.ordered, ordered, kept);
+    }
+
+    fn shows(&self, frame: &Frame, looked: usize, place: usize) -> bool {
+        let _ = (frame.seen(), looked, place);
+        self.closing.is_some()
+    }
+
+    fn evidence(
+        &self,
+        alloc: Global,
+        frame: &Frame,
+        looked: usize,
+        place: usize,
+        kept: usize,
+    ) -> Result<Option<Evidence>, AllocError> {
+        let _ = (looked, place);
+        let Some(closing) = &self.closing else {
+            return Ok(None);
+        };
+        if closing.at >= kept {
+            return Ok(None);
+        }
+        let cycle = Vec::from_slice(alloc, closing.cycle.as_slice())?;
+        let evidence = cycle_evidence(alloc, frame.graph(), cycle)?;
+        Ok(Some(evidence))
+    }
+}

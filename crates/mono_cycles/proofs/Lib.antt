@@ -1,0 +1,9 @@
+pub mod Lists
+pub mod Walking
+pub mod Ranked
+pub mod Searching
+pub mod Decides
+pub mod Found
+pub mod Arranged
+pub mod Grown
+pub mod Ordered

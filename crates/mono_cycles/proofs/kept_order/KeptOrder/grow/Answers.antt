@@ -1,0 +1,111 @@
+use Rattle.std.proofs.Common.{◌≡◌, ◌∙◌, ◌<◌, ◌++◌, [], ℕ, List, Bool, false, length, take, drop, get_or, sym, ap, subst, arith}
+use Rattle.std.specs.Prelude.{IsTrue, vec_capacity}
+use Rattle.std.proofs.lemmas.List.{get_or_read, take_at}
+use Rattle.mono_graph.specs.Digraph.{has}
+use Rattle.mono_graph.specs.declared.edge.Edge.{Edge}
+use Rattle.mono_graph.proofs.Membership.{has_here}
+use Rattle.mono_cycles.specs.Arranged.{arranged, is_marked}
+use Rattle.mono_cycles.specs.Behind.{IsClosed}
+use Rattle.mono_graph.specs.Cycles.{is_order}
+use Rattle.mono_cycles.specs.Kept.{Kept}
+use Rattle.mono_cycles.proofs.Found.{continues_has}
+use Rattle.mono_cycles.proofs.Grown.{IsMended, order_stays, order_mended, rank_known, kept_arranged, kept_at, one_not}
+use Rattle.mono_cycles.proofs.kept_order.KeptOrder.grow.Goals as goal
+
+pub returns-then-high-low-clause-order : goal.returns-then-high-low-clause-order
+returns-then-high-low-clause-order c =
+    let g = c.args.graph.now in
+    let o = c.self.inside in
+    let k = c.self.invariant in
+    let e = c.edge-edge.result in
+    let view : o.order.items ≡ c.args.self.now.order = ap (λ (v : Kept). v.order) c.self.view_is in
+    let size : length o.order.items ≡ g.nodes = ap (λ (ks : List ℕ). length ks) view ∙ c.requires.size in
+    let lx = c.edge-edge.ensures.from in
+    let ly = c.edge-edge.ensures.to in
+    let rl = k.ranks_len in
+    let low : c.index-low.result.now ≡ get_or o.ranks.items e.to 0 = get_or_read o.ranks.items e.to c.index-low.result.now (omega arith) c.index-low.ensures 0 in
+    let high : c.index-high.result.now ≡ get_or o.ranks.items e.from 0 = get_or_read o.ranks.items e.from c.index-high.result.now (omega arith) c.index-high.ensures 0 in
+    let lt = c.if-high-low.true in
+    λ ok P h grown. subst (λ (ks : List ℕ). IsTrue (is_order g c.args.part.now ks)) view
+    (order_stays g P c.args.part.now o.order.items o.ranks.items c.args.place e.from e.to c.nodes.ensures.graph.ends (subst (λ (ks : List ℕ). IsTrue (is_order g P ks)) (sym view) h) grown k.ranks_are (λ u l. k.every u (omega arith))
+    (ap (λ (x : Edge). x.from) (sym c.edge-edge.ensures.edge)) (ap (λ (x : Edge). x.to) (sym c.edge-edge.ensures.edge)) lx ly (omega arith))
+
+pub arrange-requires-clause-high : goal.arrange-requires-clause-high
+arrange-requires-clause-high c =
+    let g = c.args.graph.now in
+    let o = c.self.inside in
+    let k = c.self.invariant in
+    let e = c.edge-edge.result in
+    let view : o.order.items ≡ c.args.self.now.order = ap (λ (v : Kept). v.order) c.self.view_is in
+    let size : length o.order.items ≡ g.nodes = ap (λ (ks : List ℕ). length ks) view ∙ c.requires.size in
+    let lx = c.edge-edge.ensures.from in
+    let rl = k.ranks_len in
+    let high : c.index-high.result.now ≡ get_or o.ranks.items e.from 0 = get_or_read o.ranks.items e.from c.index-high.result.now (omega arith) c.index-high.ensures 0 in
+    subst (λ (ks : List ℕ). c.index-high.result.now < length ks) (sym c.deref_mut.ensures.value)
+    (rank_known g o.order.items o.ranks.items e.from c.index-high.result.now k.ranks_are (λ u l. k.every u (omega arith)) lx (sym high))
+
+pub invariant_of-self-in-None : goal.invariant_of-self-in-None
+invariant_of-self-in-None c =
+    let g = c.args.graph.now in
+    let o = c.self.inside in
+    let k = c.self.invariant in
+    let e = c.edge-edge.result in
+    let s = c.search-found.new.self in
+    let found = c.in-None.ensures in
+    let view : o.order.items ≡ c.args.self.now.order = ap (λ (v : Kept). v.order) c.self.view_is in
+    let size : length o.order.items ≡ g.nodes = ap (λ (ks : List ℕ). length ks) view ∙ c.requires.size in
+    let order-len : length c.arrange.new.order ≡ o.order.len = c.arrange.auto.order ∙ c.deref_mut.ensures.len in
+    let order-taken : take o.order.len (c.arrange.new.order ++ drop (length c.arrange.new.order) o.order.items) ≡ c.arrange.new.order = take_at c.arrange.new.order (drop (length c.arrange.new.order) o.order.items) o.order.len order-len in
+    let order-is : c.arrange.new.order ≡ arranged (is_marked s.marks.items) o.order.items c.index-low.result.now c.index-high.result.now =
+    c.arrange.ensures.order ∙ (ap (λ (ms : List Bool). arranged (is_marked ms) c.deref_mut.result.now c.index-low.result.now c.index-high.result.now) c.deref-in-None.ensures.value
+    ∙ ap (λ (ks : List ℕ). arranged (is_marked s.marks.items) ks c.index-low.result.now c.index-high.result.now) c.deref_mut.ensures.value) in
+    let f = c.forget-in-None.new.self in
+    let ranks-len : length c.arrange.new.ranks ≡ o.ranks.len = c.arrange.auto.ranks ∙ c.deref_mut-in-None.ensures.len in
+    let ranks-taken : take o.ranks.len (c.arrange.new.ranks ++ drop (length c.arrange.new.ranks) o.ranks.items) ≡ c.arrange.new.ranks = take_at c.arrange.new.ranks (drop (length c.arrange.new.ranks) o.ranks.items) o.ranks.len ranks-len in
+    kept_at c.arrange.new.order _ c.arrange.new.ranks _ f.marks.items f.onward.items (vec_capacity f.nodes) (vec_capacity c.arrange.new.buffer) (vec_capacity o.cycle) order-taken ranks-taken
+    (kept_arranged (is_marked s.marks.items) o.order.items o.ranks.items c.arrange.new.order c.arrange.new.ranks o.behind.marks.items f.marks.items o.behind.onward.items f.onward.items (vec_capacity o.behind.nodes) (vec_capacity o.buffer) (vec_capacity o.cycle)
+    (vec_capacity f.nodes) (vec_capacity c.arrange.new.buffer) c.index-low.result.now c.index-high.result.now k c.if-high-low.false order-is c.arrange.ensures.ranks
+    (c.arrange.auto.order ∙ ap (λ (ks : List ℕ). length ks) c.deref_mut.ensures.value) (c.arrange.auto.ranks ∙ ap (λ (ks : List ℕ). length ks) c.deref_mut-in-None.ensures.value)
+    (c.forget-in-None.ensures.len ∙ (found.behind.marks_len ∙ sym size)) (ap (λ (ks : List ℕ). length ks) c.forget-in-None.ensures.onward ∙ (found.behind.onward_len ∙ sym size)) c.forget-in-None.ensures.clear
+    (let room = found.room in let cap = c.forget-in-None.ensures.capacity in omega arith) c.arrange.ensures.capacity)
+
+pub returns-in-None-clause-order : goal.returns-in-None-clause-order
+returns-in-None-clause-order c =
+    let g = c.args.graph.now in
+    let o = c.self.inside in
+    let k = c.self.invariant in
+    let e = c.edge-edge.result in
+    let s = c.search-found.new.self in
+    let found = c.in-None.ensures in
+    let view : o.order.items ≡ c.args.self.now.order = ap (λ (v : Kept). v.order) c.self.view_is in
+    let size : length o.order.items ≡ g.nodes = ap (λ (ks : List ℕ). length ks) view ∙ c.requires.size in
+    let order-len : length c.arrange.new.order ≡ o.order.len = c.arrange.auto.order ∙ c.deref_mut.ensures.len in
+    let order-taken : take o.order.len (c.arrange.new.order ++ drop (length c.arrange.new.order) o.order.items) ≡ c.arrange.new.order = take_at c.arrange.new.order (drop (length c.arrange.new.order) o.order.items) o.order.len order-len in
+    let order-is : c.arrange.new.order ≡ arranged (is_marked s.marks.items) o.order.items c.index-low.result.now c.index-high.result.now =
+    c.arrange.ensures.order ∙ (ap (λ (ms : List Bool). arranged (is_marked ms) c.deref_mut.result.now c.index-low.result.now c.index-high.result.now) c.deref-in-None.ensures.value
+    ∙ ap (λ (ks : List ℕ). arranged (is_marked s.marks.items) ks c.index-low.result.now c.index-high.result.now) c.deref_mut.ensures.value) in
+    let rl = k.ranks_len in
+    let lx = c.edge-edge.ensures.from in
+    let ly = c.edge-edge.ensures.to in
+    let low : c.index-low.result.now ≡ get_or o.ranks.items e.to 0 = get_or_read o.ranks.items e.to c.index-low.result.now (omega arith) c.index-low.ensures 0 in
+    let high : c.index-high.result.now ≡ get_or o.ranks.items e.from 0 = get_or_read o.ranks.items e.from c.index-high.result.now (omega arith) c.index-high.ensures 0 in
+    let mended : IsMended g c.args.part.now o.order.items o.ranks.items s.nodes.items s.marks.items c.args.place e.from e.to c.index-low.result.now c.index-high.result.now = record {
+      ends = c.nodes.ensures.graph.ends;
+      ranks_are = k.ranks_are;
+      every = λ u l. k.every u (omega arith);
+      len = size;
+      from = ap (λ (x : Edge). x.from) (sym c.edge-edge.ensures.edge);
+      to = ap (λ (x : Edge). x.to) (sym c.edge-edge.ensures.edge);
+      x_known = lx;
+      y_known = ly;
+      low_is = sym low;
+      high_is = sym high;
+      down = c.if-high-low.false;
+      marked = found.behind.marked;
+      closed = subst (λ (ks : List ℕ). IsClosed g c.args.part.now ks c.index-low.result.now s.nodes.items) c.deref.ensures.value found.found;
+      x_found = continues_has c.begin.new.self.nodes.items s.nodes.items e.from found.continues (subst (λ (ks : List ℕ). IsTrue (has ks e.from)) (sym c.begin.ensures.nodes) (has_here e.from []));
+      y_not = found.apart (subst (λ (ks : List ℕ). has ks e.to ≡ false) (sym c.begin.ensures.nodes) (one_not e.from e.to c.if-edge.false));
+    } in
+    λ ok P h grown. subst (λ (ks : List ℕ). IsTrue (is_order g c.args.part.now ks)) (sym order-taken)
+    (order_mended g P c.args.part.now o.order.items o.ranks.items s.nodes.items s.marks.items c.args.place e.from e.to c.index-low.result.now c.index-high.result.now c.arrange.new.order c.arrange.new.ranks mended
+    (subst (λ (ks : List ℕ). IsTrue (is_order g P ks)) (sym view) h) grown order-is c.arrange.ensures.ranks)

@@ -1,0 +1,5 @@
+pub mod Searches
+pub mod Found
+pub mod Behind
+pub mod Arranged
+pub mod Kept

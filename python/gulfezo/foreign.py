@@ -1,0 +1,115 @@
+"""Reads files of other programs: DIMACS CNF, and the part of MonoSAT's GNF that this program has.
+
+What isn't understood is refused by the line's number and word, and nothing is guessed.
+"""
+
+from __future__ import annotations
+
+import os
+from pathlib import Path
+from typing import Any
+
+from .errors import FormatError
+from .literals import WORDS, one_line, whole
+from .problem import MOST_VARIABLES, Problem
+from .reading import BLANKS, Reader, natural
+
+# Words of MonoSAT's that mean the same as here.
+SHARED = {"p", "edge", *WORDS}
+
+
+def read_dimacs(path: str | os.PathLike[str]) -> Problem:
+    """The problem of a DIMACS CNF file: comments, a header `p cnf V C`, and clauses. A line `%` ends it, as in SATLIB.
+
+    `FormatError`: another line, or another number of clauses or a greater variable than the header says.
+    """
+    reader, header = Reader(), None
+    number = 0
+    for number, tokens, line in lines_of(path):
+        if tokens[0] == "%":
+            break
+        if tokens[0] == "p":
+            if header is not None or len(tokens) != 4 or tokens[1] != "cnf":
+                raise FormatError(number, "a DIMACS CNF file has one header, `p cnf` and two numbers")
+            header = taken(reader, number, tokens, line, lambda: (natural(tokens[2]), natural(tokens[3])))
+        elif tokens[0] != "c" and not tokens[0].lstrip("-").isdigit():
+            raise FormatError(number, f"`{tokens[0]}` begins no line of a DIMACS CNF file")
+        taken(reader, number, tokens, line)
+    if reader.open:
+        raise FormatError(number, "the last clause isn't ended by 0")
+    found = reader.problem.variables, len(reader.problem.clauses)
+    if header is not None and (found[0] > header[0] or found[1] != header[1]):
+        said = f"{header[0]} variables and {header[1]} clauses"
+        raise FormatError(number, f"the header says {said}, and the file has {found[0]} and {found[1]}")
+    return reader.problem
+
+
+def read_monosat(path: str | os.PathLike[str]) -> Problem:
+    """The problem of a file of MonoSAT's, where each of its lines means something here.
+
+    Read are clauses, `digraph` with whole weights and perhaps a name, `node G N [NAME]`, which adds a node or names
+    one, `edge`, `symbol X NAME`, and the predicates that this program has. `FormatError`: any other line, such as one
+    on bit-vectors or geometry.
+    """
+    reader, number = Reader(), 0
+    for number, tokens, line in lines_of(path):
+        word = tokens[0]
+        if word == "digraph":
+            taken(reader, number, tokens, line, lambda: graph(reader.problem, tokens))
+        elif word == "node":
+            taken(reader, number, tokens, line, lambda: node(reader.problem, tokens))
+        elif word == "symbol":
+            taken(reader, number, tokens, line, lambda: symbol(reader, tokens))
+        elif word in SHARED or word == "c" or word.lstrip("-").isdigit():
+            taken(reader, number, tokens, line)
+        else:
+            raise FormatError(number, f"`{word}` has no counterpart in this program's format")
+    if reader.open:
+        raise FormatError(number, "the last clause isn't ended by 0")
+    return reader.problem
+
+
+def lines_of(path: str | os.PathLike[str]) -> list[tuple[int, list[str], str]]:
+    """The lines that aren't blank: numbers, tokens and texts."""
+    text = Path(path).read_text(encoding="utf-8", errors="replace")
+    split = ((number, BLANKS.split(line.strip(" \t\r")), line) for number, line in enumerate(text.split("\n"), 1))
+    return [(number, tokens, line) for number, tokens, line in split if tokens != [""]]
+
+
+def taken(reader: Reader, number: int, tokens: list[str], line: str, read: Any = None) -> Any:
+    """What `read` gives, or else what the reader makes of the line. `FormatError`: it isn't understood."""
+    try:
+        return reader.take(tokens, line) if read is None else read()
+    except (ValueError, KeyError, IndexError) as fault:
+        raise FormatError(number, f"`{tokens[0]}`: {fault}") from fault
+
+
+def graph(problem: Problem, tokens: list[str]) -> None:
+    """Reads `digraph [int] N M G [NAME]`."""
+    fields = tokens[2:] if tokens[1] == "int" else tokens[1:]
+    if len(fields) not in (3, 4) or not fields[0].isdigit():
+        raise ValueError("only graphs with weights `int` are read: `digraph int N M G` and perhaps a name")
+    made = problem.declare_graph(natural(fields[2]), " ".join(fields[3:]))
+    made.add_nodes(natural(fields[0]))
+    natural(fields[1])
+
+
+def node(problem: Problem, tokens: list[str]) -> None:
+    """Reads `node G N [NAME]`."""
+    if len(tokens) not in (3, 4):
+        raise ValueError("it has another number of fields")
+    found, number = problem.graphs[natural(tokens[1])], natural(tokens[2])
+    if number == len(found):
+        found.add_node()
+    if number > len(found):
+        raise ValueError(f"node {number} comes before node {len(found)}")
+    found.names[number] = one_line(" ".join(tokens[3:]))
+
+
+def symbol(reader: Reader, tokens: list[str]) -> None:
+    """Reads `symbol X NAME`."""
+    if len(tokens) != 3:
+        raise ValueError("it has another number of fields")
+    number = whole(natural(tokens[1]), "a variable", MOST_VARIABLES, 1)
+    reader.use_variables(number)
+    reader.problem.names[number] = one_line(tokens[2])

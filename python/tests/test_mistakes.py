@@ -1,0 +1,246 @@
+"""Mistakes that would encode something else in silence: each is refused where it is made, and changes nothing."""
+
+import contextlib
+import copy
+import io
+import itertools
+import os
+import subprocess
+import sys
+import tempfile
+import unittest
+import xml.dom.minidom
+from pathlib import Path
+
+from gulfezo import And, Edge, FormatError, Literal, Model, Or, Problem, draw, parse_problem
+from helpers import REPOSITORY, assignments, satisfies
+
+
+def size(problem: Problem) -> tuple[int, ...]:
+    """How much a problem has of each thing."""
+    return problem.variables, problem.nodes, len(problem.edges), len(problem.predicates), len(problem.clauses)
+
+
+class Mistakes(unittest.TestCase):
+    def setUp(self):
+        self.problem, self.other = Problem(), Problem()
+        self.graph, self.far = self.problem.add_graph(), self.other.add_graph()
+        self.a, self.b = self.graph.add_nodes(2)
+        self.x, self.y = self.problem.add_variables(2)
+        self.foreign = self.other.add_variable()
+        self.before = size(self.problem)
+
+    def refused(self, error: type[Exception], *calls: object) -> None:
+        """Each call is refused, and changes nothing."""
+        for place, call in enumerate(calls):
+            with self.subTest(place), self.assertRaises(error):
+                call()
+        self.assertEqual(size(self.problem), self.before)
+
+
+class Literals(Mistakes):
+    def test_a_literal_has_no_truth_value(self):
+        x, y, problem = self.x, self.y, self.problem
+        self.refused(
+            TypeError,
+            lambda: problem.require(x and y),
+            lambda: problem.require(x or y),
+            lambda: problem.require(not x),
+            lambda: problem.add_clause(x if y else ~x),
+            lambda: bool(self.graph.edges or ~x),
+        )
+        with self.assertRaisesRegex(TypeError, r"And\(a, b\).*Or\(a, b\).*~a"):
+            bool(x)
+
+    def test_what_is_no_literal(self):
+        x, problem, graph = self.x, self.problem, self.graph
+        self.refused(
+            TypeError,
+            lambda: problem.require(x == x),
+            lambda: problem.require([x]),
+            lambda: problem.require(x, 1),
+            lambda: problem.add_clause(x, 2),
+            lambda: problem.add_clause([x], x),
+            lambda: problem.add_clause("x"),
+            lambda: problem.at_most_one([x, 1]),
+            lambda: problem.add_sum([(1, 1)]),
+            lambda: graph.add_edge(0, 1, 1, 1),
+            lambda: Or(x, True),
+        )
+        for wrong in (0, True, 1.0, "1"):
+            with self.assertRaises(ValueError):
+                Literal(wrong)
+
+    def test_another_problem(self):
+        problem, graph, foreign = self.problem, self.graph, self.foreign
+        with_edge = self.other.add_graph(nodes=2)
+        edge, holds = with_edge.add_edge(0, 1), with_edge.reach(0, 1)
+        self.refused(
+            ValueError,
+            *(lambda x=x: problem.add_clause(self.x, x) for x in (foreign, ~foreign, edge, holds)),
+            lambda: problem.require(self.x, foreign),
+            lambda: problem.exactly_one([self.x, self.y, foreign]),
+            lambda: problem.at_least(2, [self.x, foreign]),
+            lambda: problem.add_sum([(self.x, 1), (foreign, 1)]),
+            lambda: graph.add_edge(0, 1, variable=foreign),
+            lambda: graph.reach(0, 1, foreign),
+            lambda: Or(self.x, foreign),
+            lambda: And(foreign, self.x),
+            lambda: problem.add_clause(Literal(99)),
+            lambda: problem.literal(3),
+            lambda: Or(),
+        )
+        self.assertEqual(problem.literal(-2), ~self.y)
+        model = Model(problem, {1: True, 2: False}, "")
+        self.refused(
+            ValueError,
+            lambda: model[foreign],
+            lambda: model[edge],
+            lambda: model.path(holds),
+            lambda: model.edges(with_edge),
+            lambda: model[1],
+        )
+
+    def test_a_node_of_another_graph(self):
+        second = self.problem.add_graph(nodes=3)
+        node = second.add_node()
+        self.before = size(self.problem)
+        self.refused(
+            ValueError,
+            lambda: self.graph.add_edge(self.a, node),
+            lambda: self.graph.add_link(node, self.b),
+            lambda: self.graph.reach(node, self.a),
+            lambda: second.maximum_flow_geq(self.a, node, 1),
+            lambda: self.graph.add_edge(0, 2),
+            lambda: self.graph.add_edge(False, 1),
+            lambda: self.graph.add_edge(0, 1.0),
+        )
+        self.assertIsInstance(second.add_edge(0, node), Edge)
+        self.assertEqual(f"{node} {node!r}", "3 3")
+        copied = copy.deepcopy(self.problem)
+        self.assertEqual(copied.text(), self.problem.text())
+
+
+class Numbers(Mistakes):
+    def test_whole_numbers_within_their_limits(self):
+        problem, graph, x = self.problem, self.graph, self.x
+        for wrong in (1.5, True, 3.0, "1", None, -1, 2**64):
+            calls = [lambda: graph.add_edge(0, 1, wrong), lambda: problem.add_sum([(x, wrong)])]
+            calls += [lambda: graph.add_link(0, 1, wrong), lambda: graph.add_nodes(wrong)]
+            calls += [lambda: problem.add_variables(wrong)]
+            self.refused((ValueError, TypeError), *calls)
+        for wrong in (1.5, True, 3.0, "1", -1, 2**53 + 1):
+            self.refused(
+                ValueError,
+                lambda: graph.distance_leq(0, 1, wrong),
+                lambda: graph.maximum_flow_gt(0, 1, wrong),
+                lambda: graph.mst_weight_lt(wrong),
+            )
+        for wrong in (1.5, True, 3.0, "1", None):
+            self.refused(ValueError, lambda: problem.at_most(wrong, [x]), lambda: problem.at_least(wrong, [x]))
+        self.refused(ValueError, lambda: problem.solve(budget=1.0), lambda: problem.declare_graph(2**32))
+
+
+class Gates(unittest.TestCase):
+    def test_by_trying_all_assignments(self):
+        for count, word in itertools.product(range(1, 5), (Or, And)):
+            problem = Problem()
+            chosen = [~x if place % 2 else x for place, x in enumerate(problem.add_variables(count))]
+            gate = word(chosen) if count % 2 else word(*chosen)
+            models = [v for v in assignments(problem.variables) if satisfies(v, problem.clauses)]
+            self.assertEqual(len(models), 2**count)
+            for values in models:
+                model = Model(problem, values, "")
+                self.assertEqual(model[gate], (any if word is Or else all)(model[x] for x in chosen))
+
+    def test_a_list_is_a_clause(self):
+        problem = Problem()
+        x, y = problem.add_variables(2)
+        problem.add_clause([x, ~y])
+        problem.add_clause(z for z in (y, x))
+        problem.add_clause([])
+        self.assertEqual(problem.clauses, [(1, -2), (2, 1), ()])
+
+
+class Names(Mistakes):
+    def test_keys_and_coordinates(self):
+        graph = self.problem.add_graph()
+        keys = [(1, 23), (12, 3), (1, 2, 3), (1, 2, 4), "hub", ("row", 1)]
+        nodes = graph.add_nodes(keys)
+        self.assertEqual([graph.node(key) for key in keys], nodes)
+        self.assertEqual(len(set(graph.names)), len(keys))
+        own = graph.add_node("shown", key=frozenset([1]))
+        self.assertEqual(graph.node(frozenset([1])), own)
+        graph.add_nodes(["shown", "shown"])
+        self.before = size(self.problem)
+        self.refused(
+            ValueError,
+            lambda: graph.add_node(key=frozenset([1])),
+            lambda: graph.node("shown"),
+            lambda: graph.node("none"),
+            lambda: graph.add_node(5),
+        )
+
+    def test_names_with_control_characters(self):
+        graph, problem = self.graph, self.problem
+        for wrong in ("a\x00b", "\x1b[1m", "a\x7f", "\u2028", "\ud800", "\t"):
+            self.refused(
+                ValueError,
+                lambda: graph.add_node(wrong),
+                lambda: graph.add_node((wrong, 1)),
+                lambda: problem.add_variable(wrong),
+                lambda: problem.add_graph(wrong),
+            )
+        drawn = draw.drawing(parse_problem("digraph 1 0 0\nc node 0 0 a\x01\x1b<b\n"), None)
+        xml.dom.minidom.parseString(drawn)
+
+    def test_numbers_and_blanks_as_the_files_have_them(self):
+        for wrong in ("1\x0b0\n", "１ 0\n", "1_0 0\n", "+1 0\n", "1.0 0\n", "digraph 1\xa00 0\n"):
+            with self.subTest(wrong), self.assertRaises(FormatError) as fault:
+                parse_problem(wrong)
+            self.assertEqual(fault.exception.line, 1)
+
+
+class Commands(unittest.TestCase):
+    def setUp(self):
+        folder = tempfile.TemporaryDirectory()
+        self.addCleanup(folder.cleanup)
+        self.folder = Path(folder.name)
+
+    def test_a_predicate_lemma_or_graph_that_is_not_there(self):
+        file, answer, model = (str(self.folder / name) for name in ("f", "a", "m"))
+        Path(file).write_text("digraph 2 1 0\nedge 0 0 1 1\nreach 0 0 1 2\n")
+        Path(answer).write_text("s UNSATISFIABLE\ncut 1 1 -2 0 0\n")
+        Path(model).write_text("s SATISFIABLE\nv 1 2 0\n")
+        out = ["-o", str(self.folder / "svg"), "--unchecked"]
+        for words, said in [
+            ([file, "--predicate", "99"], "there is no predicate 99"),
+            ([file, answer, "--predicate", "1"], "no predicate of a refutation"),
+            ([file, model, "--predicate", "2"], "there is no predicate 2"),
+            ([file, model, "--lemma", "1"], "a model has no lemmas"),
+            ([file, answer, "--lemma", "2"], "no step has the number 2"),
+            ([file, answer, "--graph", "1"], "there is no graph 1"),
+            ([file, "--graph", "-1"], "there is no graph -1"),
+        ]:
+            told = io.StringIO()
+            with self.subTest(words), contextlib.redirect_stderr(told):
+                self.assertEqual(draw.main([*words, *out]), 1)
+            self.assertIn(said, told.getvalue())
+
+    def test_a_closed_pipe(self):
+        file, answer = self.folder / "f", self.folder / "a"
+        file.write_text("1 0\n-1 0\n" * 10)
+        wide = " ".join(map(str, range(1, 1001)))
+        answer.write_text("s UNSATISFIABLE\n" + f"chain {wide} 0 1\n" * 2000 + "chain 0 1 2\n")
+        words = [sys.executable, "-m", "gulfezo.lrat", str(file), str(answer)]
+        environment = {**os.environ, "PYTHONPATH": str(REPOSITORY / "python")}
+        run = subprocess.Popen(words, stdout=subprocess.PIPE, stderr=subprocess.PIPE, env=environment)
+        run.stdout.readline()
+        run.stdout.close()
+        self.assertEqual(run.stderr.read(), b"")
+        run.stderr.close()
+        self.assertIn(run.wait(), (0, 1))
+
+
+if __name__ == "__main__":
+    unittest.main()

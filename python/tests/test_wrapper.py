@@ -1,0 +1,125 @@
+"""The script `gulfezo`: when it builds, and what it says, with a stand-in for the toolchain's command."""
+
+import os
+import shutil
+import signal
+import subprocess
+import tempfile
+import time
+import unittest
+from pathlib import Path
+
+from helpers import REPOSITORY
+
+RT = """#!/usr/bin/env bash
+echo $$ >../../rt.pid
+sleep ${RT_SLEEP:-0.1}
+mkdir -p ../mono_base/out/rlib && touch ../mono_base/out/rlib/stamp
+sleep 1.2
+[ -z "${RT_FAIL-}" ] || exit 1
+printf '#!/bin/sh\\necho ran "$@"\\n' >out/mono_cmd
+chmod +x out/mono_cmd
+"""
+
+
+class Wrapper(unittest.TestCase):
+    def setUp(self):
+        folder = tempfile.TemporaryDirectory()
+        self.addCleanup(folder.cleanup)
+        self.root = Path(folder.name)
+        for name in ("mono_base", "mono_cmd"):
+            (self.root / "crates" / name / "src").mkdir(parents=True)
+        self.source = self.root / "crates" / "mono_base" / "src" / "lib.rt"
+        self.source.write_text("")
+        (self.root / "crates.txt").write_text("mono_base:\nmono_cmd: mono_base\n")
+        shutil.copy(REPOSITORY / "gulfezo", self.root / "gulfezo")
+        (self.root / "bin").mkdir()
+        rt = self.root / "bin" / "rt"
+        rt.write_text(RT)
+        rt.chmod(0o755)
+
+    def start(self, *words: str, **named: str) -> subprocess.Popen:
+        path = os.environ["PATH"]
+        environment = {**os.environ, "PATH": f"{self.root / 'bin'}:{path}", **named}
+        pipes = {"stdout": subprocess.PIPE, "stderr": subprocess.PIPE, "text": True}
+        return subprocess.Popen([str(self.root / "gulfezo"), *words], env=environment, **pipes)
+
+    def run_it(self, *words: str, **named: str) -> tuple[int, str, str]:
+        """The status and what is written."""
+        child = self.start(*words, **named)
+        out, told = child.communicate(timeout=60)
+        return child.returncode, out, told
+
+    def make_older(self) -> None:
+        """As if a source had been touched after the program was built."""
+        later = time.time() + 5
+        os.utime(self.source, (later, later))
+
+    def test_it_builds_once_where_there_is_no_program(self):
+        pair = [self.start("check", word) for word in "ab"]
+        told = []
+        for child, word in zip(pair, "ab"):
+            out, said = child.communicate(timeout=60)
+            self.assertEqual((child.returncode, out), (0, f"ran check {word}\n"))
+            told.append(said)
+        self.assertEqual("".join(told).count("this can take many minutes"), 1)
+        self.assertEqual("".join(told).count("another run is building the program"), 1)
+        self.assertRegex("".join(told), r"mono_base is proved and built \(1 of at most 2 crates, \d+ s\)")
+        self.assertEqual(self.run_it("check", "c"), (0, "ran check c\n", ""))
+
+    def test_newer_sources_are_said_and_built_when_asked(self):
+        self.run_it("build")
+        self.make_older()
+        code, out, told = self.run_it("check", "d")
+        self.assertEqual((code, out), (0, "ran check d\n"))
+        self.assertIn("'./gulfezo build' makes it anew", told)
+        code, out, told = self.run_it("build", RT_FAIL="1")
+        self.assertEqual((code, out), (126, ""))
+        self.assertIn("the build failed; see crates/mono_cmd/out/build.log", told)
+        self.assertEqual(self.run_it("check", "e")[:2], (0, "ran check e\n"))
+        os.utime(self.source, (0, 0))
+        code, out, told = self.run_it("build")
+        self.assertEqual((code, told.count("many minutes")), (0, 0))
+
+    def test_without_the_toolchain(self):
+        (self.root / "bin" / "rt").unlink()
+        alone = self.root / "tools"
+        alone.mkdir()
+        for name in ("bash", "dirname", "readlink", "find", "sed", "grep", "mkdir", "sh"):
+            os.symlink(shutil.which(name), alone / name)
+        code, _, told = self.run_it("check", "a", PATH=str(alone))
+        self.assertEqual(code, 127)
+        self.assertIn("rt of the Rattle toolchain is not on the PATH", told)
+        program = self.root / "crates" / "mono_cmd" / "out" / "mono_cmd"
+        program.parent.mkdir(exist_ok=True)
+        program.write_text('#!/bin/sh\necho ran "$@"\n')
+        program.chmod(0o755)
+        self.make_older()
+        self.assertEqual(self.run_it("check", "b", PATH=str(alone))[:2], (0, "ran check b\n"))
+
+    def test_a_build_ends_with_it(self):
+        child = self.start("check", "a", RT_SLEEP="30")
+        pid = self.root / "rt.pid"
+        for _ in range(200):
+            if pid.is_file() and pid.read_text().strip():
+                break
+            time.sleep(0.05)
+        child.send_signal(signal.SIGTERM)
+        child.communicate(timeout=20)
+        self.assertEqual(child.returncode, 143)
+        for _ in range(100):
+            state = subprocess.run(["ps", "-o", "stat=", "-p", pid.read_text().strip()], capture_output=True, text=True)
+            if state.stdout.strip()[:1] in ("", "Z"):
+                break
+            time.sleep(0.05)
+        self.assertIn(state.stdout.strip()[:1], ("", "Z"))
+
+    def test_a_link_to_it(self):
+        self.run_it("build")
+        os.symlink(self.root / "gulfezo", self.root / "bin" / "gulfezo")
+        run = subprocess.run([str(self.root / "bin" / "gulfezo"), "x"], capture_output=True, text=True)
+        self.assertEqual(run.stdout, "ran x\n")
+
+
+if __name__ == "__main__":
+    unittest.main()
