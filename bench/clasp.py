@@ -1,95 +1,144 @@
-"""Measures `solve` beside clasp (Debian's package) on inputs whose one kind of predicate is `acyclic`, which has to hold.
+"""Measures `solve` beside clasp (Debian's package) on inputs with predicates `reach`, or `acyclic` that has to hold.
 
-clasp.py --program PATH [--seeds N] [--limit S] [--large] [FAMILY..]
+clasp.py [--program PATH] [--seeds N] [--limit S] [--large] [FAMILY..]
 clasp.py --text FILE                         only writes the program that clasp reads for an input
 
-clasp reads a choice of all variables, each clause as a constraint, and each edge under its variable (`#edge` directives, in
-the aspif format): its models are those of the input. Times are processor times of whole runs, reading and writing included;
-`solve` prints its model or its refutation, clasp its model alone. The status is 1 where the two differ in what they answer.
+The program is in the aspif format: a choice of all variables, and each clause as a constraint. For each first node of
+a `reach` one atom a node is derived from it along the edges whose variables are chosen, and constraints say that a
+predicate's variable agrees with its last node's atom. The edges of a graph that has to have no cycle stand under
+their variables as `#edge` directives. So the models are those of the input. Times are processor times of whole runs,
+reading and writing included; `solve` prints its model or its refutation, clasp its model alone. The status is 1 where
+the two differ in what they answer.
 """
+
+from __future__ import annotations
 
 import argparse
 import os
 import sys
 import tempfile
+from collections.abc import Iterable, Iterator
+from pathlib import Path
 
+import flags
 from families.catalogue import FAMILIES
 from runs import Solver, geometric_mean, ratio, timed
 
-USUAL = ["feedback", "schedules"]
+USUAL = ["routing", "boards", "reaching", "wall", "feedback", "schedules"]
 
 
 class NotRead(Exception):
-    """The input asks for more than that its graphs have no cycle."""
+    """The input has a predicate of another kind, or a graph that may have a cycle."""
 
 
-def program_of(lines):
-    """The aspif program of an input's lines. The nodes of all graphs are numbered one after the other."""
-    rows, clause, variables, first, nodes, asked, units = [], [], 0, {}, 0, {}, set()
-    for tokens in map(str.split, lines):
-        if not tokens or tokens[0] in ("c", "p"):
-            continue
-        if tokens[0] == "digraph":
-            first[tokens[4]], nodes = nodes, nodes + int(tokens[2])
-        elif tokens[0] == "edge":
-            start, u, v, x = first[tokens[1]], *map(int, tokens[2:5])
-            rows.append("8 %d %d 1 %d" % (start + u, start + v, x))
-            variables = max(variables, x)
-        elif tokens[0] == "acyclic":
-            asked[tokens[1]] = int(tokens[2])
-        elif tokens[0].lstrip("-").isdigit():
-            for x in map(int, tokens):
-                variables = max(variables, abs(x))
-                if x:
-                    clause.append(x)
-                    continue
-                rows.append("1 0 0 0 %d %s" % (len(clause), " ".join(str(-y) for y in clause)))
-                units |= set(clause) if len(clause) == 1 else set()
-                clause = []
+class Input:
+    """What an input's lines say: edges and predicates by graph, clauses, and the greatest variable."""
+
+    def __init__(self, lines: Iterable[str]) -> None:
+        self.variables = 0
+        self.nodes: dict[str, int] = {}
+        self.edges: dict[str, list[list[int]]] = {}
+        self.reach: list[tuple[str, list[int]]] = []  # the graph, and first node, last node and variable
+        self.acyclic: dict[str, int] = {}
+        self.clauses: list[list[int]] = []
+        clause: list[int] = []
+        for tokens in map(str.split, lines):
+            if not tokens or tokens[0] in ("c", "p"):
+                continue
+            if tokens[0].lstrip("-").isdigit():
+                for x in map(int, tokens):
+                    self.variables = max(self.variables, abs(x))
+                    if x:
+                        clause.append(x)
+                    else:
+                        self.clauses.append(clause)
+                        clause = []
+            else:
+                self.row(*tokens)
+
+    def row(self, word: str, *fields: str) -> None:
+        """A line that begins with a word."""
+        if word == "digraph":
+            self.nodes[fields[3]], self.edges[fields[3]] = int(fields[1]), []
+            return
+        graph, numbers = fields[0], list(map(int, fields[1:]))
+        if word == "edge":
+            self.edges[graph].append(numbers[:3])
+            self.variables = max(self.variables, numbers[2])
+        elif word == "reach":
+            self.reach.append((graph, numbers))
+            self.variables = max(self.variables, numbers[2])
+        elif word == "acyclic":
+            self.acyclic[graph] = numbers[0]
+            self.variables = max(self.variables, numbers[0])
         else:
-            raise NotRead(tokens[0])
-    if any(asked.get(graph) not in units for graph in first):
-        raise NotRead("a graph that may have a cycle")
-    variables = max([variables, *asked.values()])
-    choice = "1 1 %d %s 0 0" % (variables, " ".join(map(str, range(1, variables + 1))))
-    return "\n".join(["asp 1 0 0", choice, *rows, "0"]) + "\n"
+            raise NotRead(word)
 
 
-def arguments():
-    parser = argparse.ArgumentParser(description=__doc__, formatter_class=argparse.RawDescriptionHelpFormatter)
-    parser.add_argument("--program")
-    parser.add_argument("--text")
-    parser.add_argument("--seeds", type=int, default=20)
-    parser.add_argument("--limit", type=int, default=60)
-    parser.add_argument("--large", action="store_true")
-    parser.add_argument("families", nargs="*", default=USUAL, metavar="FAMILY")
-    args = parser.parse_args()
-    if not (args.program or args.text):
-        parser.error("--program PATH, or --text FILE")
-    return args
+def order_rows(read: Input) -> Iterator[str]:
+    """The edges of graphs that have to have no cycle; the nodes of all graphs are numbered one after the other."""
+    units = {clause[0] for clause in read.clauses if len(clause) == 1}
+    first = 0
+    for graph, asked in read.acyclic.items():
+        if asked not in units:
+            raise NotRead("a graph that may have a cycle")
+        for u, v, x in read.edges[graph]:
+            yield f"8 {first + u} {first + v} 1 {x}"
+        first += read.nodes[graph]
 
 
-def beside(name, solver, args):
+def reach_rows(read: Input) -> Iterator[str]:
+    """Which nodes walks of chosen edges lead to from each first node, and what the predicates' variables say of it."""
+    atoms = read.variables
+    first: dict[tuple[str, int], int] = {}
+    for graph, (start, end, x) in read.reach:
+        if (graph, start) not in first:
+            at = first[graph, start] = atoms + 1
+            atoms += read.nodes[graph]
+            yield f"1 0 1 {at + start} 0 0"
+            for u, v, edge in read.edges[graph]:
+                yield f"1 0 1 {at + v} 0 2 {at + u} {edge}"
+        there = first[graph, start] + end
+        yield f"1 0 0 0 2 {x} {-there}"
+        yield f"1 0 0 0 2 {-x} {there}"
+
+
+def program_of(lines: Iterable[str]) -> str:
+    """The aspif program of an input's lines."""
+    read = Input(lines)
+    choice = f"1 1 {read.variables} {' '.join(map(str, range(1, read.variables + 1)))} 0 0"
+    clauses = (f"1 0 0 0 {len(clause)} {' '.join(str(-x) for x in clause)}" for clause in read.clauses)
+    return "\n".join(["asp 1 0 0", choice, *order_rows(read), *reach_rows(read), *clauses, "0"]) + "\n"
+
+
+def arguments() -> argparse.Namespace:
+    """What the command's words say."""
+    parser = flags.family_parser(__doc__, USUAL, 20, 60)
+    parser.add_argument("--large", action="store_true", help="the large inputs in place of the usual ones")
+    parser.add_argument("--text", metavar="FILE", help="only write what clasp reads for this input")
+    return parser.parse_args()
+
+
+def beside(name: str, solver: Solver, args: argparse.Namespace) -> int:
     """How many inputs of the family the two answer differently; prints a row for each input, and the geometric mean."""
-    wrong, ratios = 0, []
+    wrong = 0
+    ratios: list[float] = []
     for label, make in FAMILIES[name].inputs(args.seeds, args.large):
         text = make().text()
-        with open(solver.path("f"), "w") as out:
-            out.write(text)
-        with open(solver.path("asp"), "w") as out:
-            out.write(program_of(text.splitlines()))
+        solver.put(text)
+        Path(solver.path("asp")).write_text(program_of(text.splitlines()))
         ours = solver.solve()
         theirs = timed(["clasp", "--quiet=2", solver.path("asp")], os.devnull, args.limit)
         theirs.status = {30: 10}.get(theirs.status, theirs.status)
         wrong += ours.answered and theirs.answered and ours.status != theirs.status
         ratios.append(ratio(ours.seconds, theirs.seconds))
-        shown = (name, label, ours.name, ours.seconds, theirs.name, theirs.seconds, ratios[-1])
-        print("%-12s %-22s %-8s %8.3f s, clasp %-8s %8.3f s, ratio %.2f" % shown, flush=True)
-    print("%-12s geometric mean of the ratios: %.2f" % (name, geometric_mean(ratios)))
+        both = f"{ours.name:8} {ours.seconds:8.3f} s, clasp {theirs.name:8} {theirs.seconds:8.3f} s"
+        print(f"{name:12} {label:22} {both}, ratio {ratios[-1]:.2f}", flush=True)
+    print(f"{name:12} geometric mean of the ratios: {geometric_mean(ratios):.2f}")
     return wrong
 
 
-def main():
+def main() -> None:
     args = arguments()
     if args.text:
         with open(args.text) as lines:
@@ -101,4 +150,5 @@ def main():
     sys.exit(1 if wrong else 0)
 
 
-main()
+if __name__ == "__main__":
+    main()

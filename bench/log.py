@@ -6,13 +6,14 @@ log stands in a file. It prints the processor time and the peak of resident memo
 bytes, and what `check` says. Nothing here is tested: a machine's load moves both.
 """
 
-import argparse
+from __future__ import annotations
+
 import os
 import subprocess
 import tempfile
 from collections.abc import Iterator
 
-BUILT = os.path.join(os.path.dirname(os.path.dirname(os.path.abspath(__file__))), "crates/mono_cmd/out/mono_cmd")
+import flags
 
 
 def problem(numbers: int) -> str:
@@ -44,17 +45,16 @@ def measure(words: list[str], pieces: Iterator[bytes]) -> tuple[float, int, str]
 
 
 def main() -> None:
-    parser = argparse.ArgumentParser(description=(__doc__ or "").split("\n", maxsplit=1)[0])
-    parser.add_argument("--program", metavar="PATH", default=BUILT, help="the program (%(default)s)")
+    parser = flags.parser(__doc__)
     parser.add_argument("--bytes", metavar="N", type=int, default=1 << 30, help="the log's size (%(default)s)")
-    parser.add_argument("--numbers", metavar="N", type=int, default=1000, help="clauses that a step names (%(default)s)")
+    parser.add_argument("--numbers", metavar="N", type=int, default=1000, help="of clauses a step names (%(default)s)")
     options = parser.parse_args()
     with tempfile.NamedTemporaryFile("w", suffix=".gnf") as file:
         file.write(problem(options.numbers))
         file.flush()
         runs = {
             "wc": ["wc", "-"],
-            "check": [os.path.abspath(options.program), "check", file.name, "/dev/stdin"],
+            "check": [options.program, "check", file.name, "/dev/stdin"],
         }
         for name, words in runs.items():
             seconds, peak, text = measure(words, log(options.numbers, options.bytes))

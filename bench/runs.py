@@ -1,10 +1,13 @@
 """Runs of programs with their processor time, and what `check` says of an answer."""
 
+from __future__ import annotations
+
 import math
 import os
 import resource
 import subprocess
 from dataclasses import dataclass
+from pathlib import Path
 
 NO_BUDGET = 2**64 - 1
 ANSWERS = {10: "accepted model", 20: "accepted refutation"}
@@ -13,23 +16,26 @@ NAMES = {10: "model", 20: "refuted"}
 
 @dataclass
 class Run:
+    """The processor time and the status of a run."""
+
     seconds: float
     status: int
 
     @property
-    def answered(self):
+    def answered(self) -> bool:
+        """Whether it ended with a model or a refutation."""
         return self.status in ANSWERS
 
     @property
-    def name(self):
+    def name(self) -> str:
         """How it ended; a negative status is that of a run that was stopped."""
-        return "limit" if self.status < 0 else NAMES.get(self.status, "status %d" % self.status)
+        return "limit" if self.status < 0 else NAMES.get(self.status, f"status {self.status}")
 
 
-def timed(words, out, limit):
+def timed(words: list[str], out: str, limit: int) -> Run:
     """A run whose output goes to a file; after so many seconds of processor time it is stopped."""
 
-    def bound():
+    def bound() -> None:
         resource.setrlimit(resource.RLIMIT_CPU, (limit, limit + 1))
 
     with open(out, "wb") as written:
@@ -42,23 +48,28 @@ def timed(words, out, limit):
 class Solver:
     """A program of this project, over files in a folder: the input `f` and the answer `a`."""
 
-    def __init__(self, program, folder, limit):
-        self.program, self.folder, self.limit = os.path.abspath(program), folder, limit
+    def __init__(self, program: str, folder: str, limit: int) -> None:
+        self.program, self.folder, self.limit = program, folder, limit
 
-    def path(self, name):
+    def path(self, name: str) -> str:
+        """The path of a file in the folder."""
         return os.path.join(self.folder, name)
 
-    def solve(self, budget=NO_BUDGET, out="a"):
+    def put(self, text: str) -> None:
+        """The input's text."""
+        Path(self.path("f")).write_text(text)
+
+    def solve(self, budget: int = NO_BUDGET, out: str = "a") -> Run:
+        """The run of `solve` on the input."""
         words = [self.program, "solve", self.path("f"), "--conflicts", str(budget)]
         return timed(words, self.path(out), self.limit)
 
-    def check(self):
+    def check(self) -> tuple[Run, str]:
         """The run of `check` on the answer, and what it says."""
         run = timed([self.program, "check", self.path("f"), self.path("a")], self.path("verdict"), 10 * self.limit)
-        with open(self.path("verdict")) as written:
-            return run, written.read().strip()
+        return run, Path(self.path("verdict")).read_text().strip()
 
-    def conflicts(self):
+    def conflicts(self) -> int:
         """The least budget that brings the answer, to within a twentieth: so many clauses are learned."""
         low, high = 0, 1
         while not self.solve(high, "unused").answered:
@@ -72,14 +83,15 @@ class Solver:
         return high
 
 
-def minisat(folder, limit):
+def minisat(folder: str, limit: int) -> Run:
+    """The run of MiniSat on the input."""
     return timed(["minisat", os.path.join(folder, "f")], os.devnull, limit)
 
 
-def ratio(one, other):
+def ratio(one: float, other: float) -> float:
     """Of two times in seconds; below a millisecond nothing is told apart."""
     return max(one, 0.001) / max(other, 0.001)
 
 
-def geometric_mean(ratios):
+def geometric_mean(ratios: list[float]) -> float:
     return math.exp(sum(map(math.log, ratios)) / len(ratios))

@@ -1,11 +1,16 @@
 """The tables that solve.py prints: of one program, and of two beside each other."""
 
+from __future__ import annotations
+
 import os
 import shutil
+from collections.abc import Callable, Iterable
 from dataclasses import dataclass
-from typing import Optional
+from typing import Any
 
 import runs
+from families.catalogue import Family, Input
+from families.encoding import Encoding
 
 COUNTED = 3  # seconds: the conflicts of a longer run aren't counted
 
@@ -18,48 +23,52 @@ class Row:
     says: str = ""
     check: float = 0
     size: int = 0
-    conflicts: Optional[int] = None
-    minisat: Optional[runs.Run] = None
+    conflicts: int | None = None
+    minisat: runs.Run | None = None
 
     @property
-    def right(self):
+    def right(self) -> bool:
+        """Whether `check` accepts the answer, and MiniSat doesn't say otherwise."""
         if not self.run.answered:
             return True
         theirs = self.minisat
         agrees = theirs is None or not theirs.answered or theirs.status == self.run.status
         return self.says == runs.ANSWERS[self.run.status] and agrees
 
-    def text(self):
-        text = "%-8s %8.3f s" % (self.run.name, self.run.seconds)
+    def text(self) -> str:
+        """The input's line."""
+        text = f"{self.run.name:8} {self.run.seconds:8.3f} s"
         if self.run.answered:
-            counted = "" if self.conflicts is None else "%8d conflicts" % self.conflicts
-            text += "%s %10d bytes, check %7.3f s, %s" % (counted, self.size, self.check, self.says)
+            counted = "" if self.conflicts is None else f"{self.conflicts:8} conflicts"
+            text += f"{counted} {self.size:10} bytes, check {self.check:7.3f} s, {self.says}"
         if self.minisat is not None:
-            text += ", MiniSat %s %.3f s" % (self.minisat.name, self.minisat.seconds)
+            text += f", MiniSat {self.minisat.name} {self.minisat.seconds:.3f} s"
         return text if self.right else "WRONG " + text
 
 
 class Table:
     """The rows of one program, and the sums of each family."""
 
-    def __init__(self, solver, count_conflicts):
+    def __init__(self, solver: runs.Solver, count_conflicts: bool) -> None:
         self.solver, self.count_conflicts = solver, count_conflicts
-        self.families = []
+        self.families: list[tuple[str, list[Row]]] = []
 
     @property
-    def wrong(self):
+    def wrong(self) -> int:
+        """How many answers are wrong."""
         return sum(not row.right for _, rows in self.families for row in rows)
 
-    def family(self, name, family, inputs):
+    def family(self, name: str, family: Family[Any], inputs: Iterable[Input]) -> None:
+        """Measures these inputs; prints a line for each."""
         rows = []
         for label, make in inputs:
-            with open(self.solver.path("f"), "w") as out:
-                out.write(make().text())
+            self.solver.put(make().text())
             rows.append(self.row(family.clauses_alone))
-            print("%-12s %-22s %s" % (name, label, rows[-1].text()), flush=True)
+            print(f"{name:12} {label:22} {rows[-1].text()}", flush=True)
         self.families.append((name, rows))
 
-    def row(self, clauses_alone):
+    def row(self, clauses_alone: bool) -> Row:
+        """The runs on the input in the solver's folder."""
         row = Row(self.solver.solve())
         if row.run.answered:
             checked, row.says = self.solver.check()
@@ -70,46 +79,48 @@ class Table:
             row.minisat = runs.minisat(self.solver.folder, self.solver.limit)
         return row
 
-    def summary(self):
+    def summary(self) -> None:
+        """Prints the sums of each family."""
         heads = ["Family", "Inputs", "Models, refutations, at the limit", "`solve`", "Conflicts", "Answers", "`check`"]
         heads += ["MiniSat", "to MiniSat"]
-        print("\n| %s |\n%s|" % (" | ".join(heads), "|---" * len(heads)))
+        print(f"\n| {' | '.join(heads)} |\n{'|---' * len(heads)}|")
         for name, rows in self.families:
-            print("| %s | %s |" % (name, " | ".join(sums(rows))))
+            print(f"| {name} | {' | '.join(sums(rows))} |")
 
 
-def sums(rows):
+def sums(rows: list[Row]) -> list[str]:
     """The cells of a family. Runs at the limit are counted, and left out of the sums."""
     ended = [row for row in rows if row.run.answered]
     split = [sum(row.run.status == status for row in ended) for status in runs.ANSWERS] + [len(rows) - len(ended)]
-    cells = [str(len(rows)), ", ".join(map(str, split)), "%.2f s" % sum(row.run.seconds for row in ended)]
+    cells = [str(len(rows)), ", ".join(map(str, split)), f"{sum(row.run.seconds for row in ended):.2f} s"]
     counted = [row.conflicts for row in ended if row.conflicts is not None]
-    cells.append("%d%s" % (sum(counted), " (%d runs)" % len(counted) * (len(counted) < len(ended))) if counted else "")
-    cells += ["%d kB" % (sum(row.size for row in ended) / 1000), "%.2f s" % sum(row.check for row in ended)]
-    both = [row for row in ended if row.minisat is not None]
+    runs_counted = f" ({len(counted)} runs)" if len(counted) < len(ended) else ""
+    cells.append(f"{sum(counted)}{runs_counted}" if counted else "")
+    cells += [f"{sum(row.size for row in ended) // 1000} kB", f"{sum(row.check for row in ended):.2f} s"]
+    both = [(row.run.seconds, row.minisat.seconds) for row in ended if row.minisat is not None]
     if both:
-        ratios = [runs.ratio(row.run.seconds, row.minisat.seconds) for row in both]
-        cells += ["%.2f s" % sum(row.minisat.seconds for row in both), "%.2f" % runs.geometric_mean(ratios)]
+        ratios = [runs.ratio(ours, theirs) for ours, theirs in both]
+        cells += [f"{sum(theirs for _, theirs in both):.2f} s", f"{runs.geometric_mean(ratios):.2f}"]
     return cells + [""] * (8 - len(cells))
 
 
 class Ratios:
     """Two programs on the same inputs, in turn; the ratio is new to old."""
 
-    def __init__(self, old, new):
+    def __init__(self, old: runs.Solver, new: runs.Solver) -> None:
         self.old, self.new = old, new
         self.wrong = 0
-        self.sums = []
+        self.sums: list[tuple[str, list[float]]] = []
 
-    def family(self, name, _, inputs):
+    def family(self, name: str, _: Family[Any], inputs: Iterable[Input]) -> None:
+        """Measures these inputs; prints a line for each."""
         ratios = [self.ratio(name, label, make) for label, make in inputs]
         if ratios:
             self.sums.append((name, ratios))
 
-    def ratio(self, name, label, make):
+    def ratio(self, name: str, label: str, make: Callable[[], Encoding]) -> float:
         """Of one input. A run at the limit counts with the limit, so that the ratio is a bound."""
-        with open(self.new.path("f"), "w") as out:
-            out.write(make().text())
+        self.new.put(make().text())
         old = self.old.solve(out="unused")
         new = self.new.solve()
         says = "-"
@@ -117,15 +128,16 @@ class Ratios:
             _, says = self.new.check()
             self.wrong += says != runs.ANSWERS[new.status] or (old.answered and old.status != new.status)
         found = runs.ratio(new.seconds, old.seconds)
-        row = (name, label, old.name, old.seconds, new.name, new.seconds, found, says)
-        print("%-12s %-22s old %-8s %8.3f s, new %-8s %8.3f s, ratio %7.3f, %s" % row, flush=True)
+        both = f"old {old.name:8} {old.seconds:8.3f} s, new {new.name:8} {new.seconds:8.3f} s"
+        print(f"{name:12} {label:22} {both}, ratio {found:7.3f}, {says}", flush=True)
         return found
 
-    def summary(self):
+    def summary(self) -> None:
+        """Prints the geometric means of the families, and that of all."""
         print()
-        for name, ratios in self.sums:
-            row = (name, len(ratios), runs.geometric_mean(ratios), min(ratios), max(ratios))
-            print("%-12s %3d inputs: geometric mean of new to old %.3f (%.3f to %.3f)" % row)
-        if self.sums:
-            means = [runs.geometric_mean(ratios) for _, ratios in self.sums]
-            print("%-12s geometric mean of the families %.3f" % ("all", runs.geometric_mean(means)))
+        means = [runs.geometric_mean(ratios) for _, ratios in self.sums]
+        for mean, (name, ratios) in zip(means, self.sums):
+            least_and_most = f"({min(ratios):.3f} to {max(ratios):.3f})"
+            print(f"{name:12} {len(ratios):3} inputs: geometric mean of new to old {mean:.3f} {least_and_most}")
+        if means:
+            print(f"{'all':12} geometric mean of the families {runs.geometric_mean(means):.3f}")

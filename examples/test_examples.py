@@ -18,11 +18,13 @@ class Examples(unittest.TestCase):
     def setUp(self):
         self.program = os.environ.get("GULFEZO") or str(BUILT)
 
-    def check(self, problem: Path, answer: Path) -> str:
+    def run_program(self, *words: str | Path) -> str:
         if not os.access(self.program, os.X_OK):
             self.skipTest("the program isn't built, and GULFEZO names none: no answer was checked")
-        run = subprocess.run([self.program, "check", problem, answer], capture_output=True, text=True, check=False)
-        return run.stdout.strip()
+        return subprocess.run([self.program, *words], capture_output=True, text=True, check=False).stdout
+
+    def check(self, problem: Path, answer: Path) -> str:
+        return self.run_program("check", problem, answer).strip()
 
     def require(self, example: str) -> None:
         """Skips the test where this version of the program doesn't know the example's predicate."""
@@ -30,6 +32,12 @@ class Examples(unittest.TestCase):
             file = kept.HERE / example / "circle.gnf"
             if self.check(file, file).endswith("UnknownWord"):
                 self.skipTest("this version of the program doesn't know `acyclic`")
+
+    def require_form(self, example: str) -> None:
+        """Skips the test where this version of the program has no form that the example's script asks for."""
+        usage = subprocess.run([self.program], capture_output=True, text=True, check=False).stdout
+        if example in NEWER and f"{NEWER[example]} FILE" not in usage:
+            self.skipTest(f"this version of the program has no `{NEWER[example]}`")
 
     def test_files_are_as_their_scripts_make_them(self):
         for example in kept.all_kept():
@@ -42,6 +50,15 @@ class Examples(unittest.TestCase):
             with self.subTest(example.folder.name, name=example.name):
                 self.require(example.folder.name)
                 self.assertEqual(self.check(example.file("gnf"), example.file("answer")), example.verdict)
+
+    def test_answers_are_the_same_after_a_migration_there_and_back(self):
+        for example in kept.all_kept():
+            with self.subTest(example.folder.name, name=example.name), tempfile.TemporaryDirectory() as folder:
+                self.require(example.folder.name)
+                two = Path(folder, "two")
+                two.write_text(self.run_program("migrate", example.file("gnf"), example.file("answer"), "2"))
+                self.assertEqual(self.check(example.file("gnf"), two), example.verdict)
+                self.assertEqual(self.run_program("migrate", example.file("gnf"), two, "1"), example.file("answer").read_text())
 
     def test_solving_gives_the_expected_answer(self):
         for example in kept.all_kept():
@@ -56,15 +73,18 @@ class Examples(unittest.TestCase):
             with self.subTest(example):
                 self.check(Path("none"), Path("none"))
                 self.require(example)
+                self.require_form(example)
                 told = io.StringIO()
                 with contextlib.redirect_stdout(told), unittest.mock.patch.dict(os.environ, {"GULFEZO": self.program}):
                     kept.script_of(kept.HERE / example).main()
                 self.assertIn(EXPECTED[example], told.getvalue())
 
 
+# What the scripts ask the program for, beside `solve` and `check`.
+NEWER = {"routing": "core", "network": "best", "schedule": "core"}
 # The last thing that each script says.
 EXPECTED = {
-    "routing": "crossed: the nets can't both be routed",
+    "routing": "crowded: net a, net b, net c can't all be routed",
     "network": "nothing is cheaper: the refutation has",
     "placement": "tank: column ",
     "backbone": "a budget of 11: ",

@@ -1,34 +1,43 @@
-"""Runs of `print` and `check` beside fuzz/reference.py: status and text have to be the same, byte by byte."""
+"""Runs of `print`, `check` and `migrate` beside fuzz/reference.py: status and text have to be the same bytes."""
+
+from __future__ import annotations
 
 import collections
-import os
-import subprocess
 
 import reference
+from runs import Program
 
 
 class Comparison:
-    def __init__(self, program, folder):
-        self.program, self.folder = os.path.abspath(program), folder
-        self.kinds = collections.Counter()
-        self.different = 0
+    """What the runs came to, and how many of them differ from the reference."""
 
-    def compare(self, verb, text, answer=b""):
+    def __init__(self, path: str, folder: str) -> None:
+        self.program = Program(path, folder)
+        self.kinds: collections.Counter[str] = collections.Counter()
+        self.different = 0
+        self.migrates = self.takes("migrate", "f", "a", "2")
+
+    def compare(self, verb: str, text: bytes, answer: bytes = b"", version: int = 1) -> str:
+        """The text that is due, which is counted, and a line where the program writes another one."""
         names = ["f"] if verb == "print" else ["f", "a"]
         for name, held in zip(names, (text, answer)):
-            with open(os.path.join(self.folder, name), "wb") as out:
-                out.write(held)
-        run = subprocess.run([self.program, verb, *names], cwd=self.folder, capture_output=True)
-        status, due = reference.outcome(verb, text, answer)
-        words = due.split()
-        self.kinds[words[2] if status else " ".join(words[:2])] += 1
+            self.program.put(name, held)
+        run = self.program.run(verb, *names, *([str(version)] if verb == "migrate" else []))
+        status, due = reference.outcome(verb, text, answer, version)
+        done = f"migrated to {version}" if verb == "migrate" else " ".join(due.split()[:2])
+        self.kinds[due.split()[2] if status else done] += 1
         if (run.returncode, run.stdout, run.stderr) != (status, due.encode(), b""):
             self.different += 1
-            print("%s differs: input %r, answer %r" % (verb, text, answer))
-            print("  due %d %r, found %d %r %r" % (status, due, run.returncode, run.stdout, run.stderr), flush=True)
+            print(f"{verb} differs: input {text!r}, answer {answer!r}")
+            print(f"  due {status} {due!r}, found {run.returncode} {run.stdout!r} {run.stderr!r}", flush=True)
         return due
 
-    def show(self):
+    def takes(self, *words: str) -> bool:
+        """Whether the words are a command of this program."""
+        return not self.program.run(*words).stdout.startswith(b"usage")
+
+    def show(self) -> None:
+        """How many runs there were of each kind."""
         for kind, count in sorted(self.kinds.items()):
-            print("%7d %s" % (count, kind))
-        print("%d runs, %d different" % (sum(self.kinds.values()), self.different))
+            print(f"{count:7} {kind}")
+        print(f"{sum(self.kinds.values())} runs, {self.different} different")

@@ -1,11 +1,13 @@
 #!/usr/bin/env python3
 """Refuses requests for memory, and calls on files, one a run: faults.py
 
-A small library (faults/refuse.c) stands in front of the C library's. Each run either ends as the undisturbed one does, or
-as the call that was refused asks: without memory with 6 and nothing written, where a file couldn't be opened or read with
-4 and `read fault`, and where a write failed with 5 and a prefix of the text. Where the machine has no C compiler, it says
-so and tries nothing.
+A small library (faults/refuse.c) stands in front of the C library's. Each run either ends as the undisturbed one does,
+or as the call that was refused asks: without memory with 6 and nothing written, where a file couldn't be opened or
+read with 4 and `read fault`, and where a write failed with 5 and a prefix of the text. Where the machine has no C
+compiler, it says so and tries nothing.
 """
+
+from __future__ import annotations
 
 import os
 import shutil
@@ -14,7 +16,7 @@ import sys
 import tempfile
 from pathlib import Path
 
-import kinds
+import flags
 
 HERE = Path(__file__).resolve().parent
 FIRST = HERE.parent / "examples" / "first"
@@ -32,6 +34,7 @@ def commands() -> list[list[str]]:
     """The words of the runs."""
     circle = str(SCHEDULE / "circle.gnf")
     routes, refutation = str(FIRST / "routes.gnf"), str(FIRST / "routes.refutation")
+    wishes, core = str(FIRST / "wishes.gnf"), str(FIRST / "wishes.core")
     return [
         ["check", routes, refutation],
         ["print", routes],
@@ -39,6 +42,15 @@ def commands() -> list[list[str]]:
         ["solve", routes],
         ["solve", circle],
         ["solve", routes, "--conflicts", "1"],
+        ["migrate", routes, refutation, "2"],
+        ["migrate", circle, str(SCHEDULE / "circle.answer"), "1"],
+        ["core", wishes, "6", "-1", "-2", "-5"],
+        ["core", wishes, "6", "-1"],
+        ["check-with", wishes, core, "6", "-1", "-2"],
+        ["best", str(FIRST / "bridges.gnf"), "1"],
+        ["ask", str(FIRST / "bridges.gnf"), "1", "8"],
+        ["team", routes, "2", "1"],
+        ["team", wishes, "2", "1"],
         ["gen", "grid", "2", "7"],
         ["gen", "wall", "3", "7", "--solve"],
     ]
@@ -47,7 +59,7 @@ def commands() -> list[list[str]]:
 def ending(words: list[str], library: str = "", kind: str = "", at: int = 0) -> Ending:
     """The status and the text of a run that is refused the call of this kind and number."""
     environment = dict(os.environ, LD_PRELOAD=library, REFUSE_KIND=kind, REFUSE_AT=str(at)) if library else None
-    run = subprocess.run(words, capture_output=True, env=environment, timeout=60)
+    run = subprocess.run(words, capture_output=True, env=environment, timeout=60, check=False)
     return run.returncode, run.stdout
 
 
@@ -78,7 +90,7 @@ def places(words: list[str], library: str, kind: str) -> int:
 
 
 def main() -> None:
-    program = os.path.abspath(kinds.parser(__doc__).parse_args().program)
+    program = flags.parser(__doc__).parse_args().program
     compiler = shutil.which("cc")
     if compiler is None:
         print("skipped: no C compiler")

@@ -3,41 +3,50 @@
 The words are those of PCG with 64 bits of state and words of 32 bits (O'Neill 2014), on stream 0.
 """
 
+from __future__ import annotations
+
+from collections.abc import Iterator
+
 MASK = 2**64 - 1
+Cell = tuple[int, int]
 
 
 class Pcg32:
-    def __init__(self, seed):
+    """The generator of words."""
+
+    def __init__(self, seed: int) -> None:
         self.increment = 1
         self.state = (seed + self.increment) & MASK
         self.step()
 
-    def step(self):
+    def step(self) -> None:
         self.state = (self.state * 6364136223846793005 + self.increment) & MASK
 
-    def word(self):
+    def word(self) -> int:
         old = self.state
         self.step()
         mixed = (((old >> 18) ^ old) >> 27) & 0xFFFFFFFF
         turn = old >> 59
         return (mixed >> turn | mixed << (32 - turn)) & 0xFFFFFFFF
 
-    def draw(self, below):
+    def draw(self, below: int) -> int:
         return self.word() % below
 
 
-def neighbours(size, row, column):
+def neighbours(size: int, row: int, column: int) -> Iterator[Cell]:
+    """The cells beside a cell of the grid: below, right, above, left."""
     for down, right in ((0, 1), (1, 0), (0, -1), (-1, 0)):
         if 0 <= row + down < size and 0 <= column + right < size:
             yield row + down, column + right
 
 
-def edges_of(size):
+def edges_of(size: int) -> list[tuple[Cell, Cell]]:
+    """The edges of a grid of so many cells on a side."""
     cells = [(row, column) for row in range(size) for column in range(size)]
     return [(cell, other) for cell in cells for other in neighbours(size, *cell)]
 
 
-def generated(kind, size, seed):
+def generated(kind: str, size: int, seed: int) -> str:
     """The text of `gen KIND SIZE SEED`."""
     words = Pcg32(seed)
     edges = edges_of(size)
@@ -71,4 +80,4 @@ def generated(kind, size, seed):
         variables = count + 1
     head = [f"p gnf {variables} {len(clauses)}", f"digraph int {size * size} {count} 0"]
     lines += [" ".join(map(str, clause)) + " 0" for clause in clauses]
-    return "".join(line + "\n" for line in head + lines)
+    return "".join(f"{line}\n" for line in head + lines)

@@ -1,14 +1,13 @@
-"""Which kinds of predicates, and which weights, a program knows, and the flags that all scripts of this folder have."""
+"""Which kinds of predicates, and which weights, a program knows."""
 
-import argparse
-import os
-import subprocess
+from __future__ import annotations
+
 import tempfile
 
 import graphs
 import reference
+from runs import Program
 
-BUILT = os.path.join(os.path.dirname(os.path.abspath(__file__)), os.pardir, "crates", "mono_cmd", "out", "mono_cmd")
 # A predicate of each kind over a graph of two nodes.
 LINES = {
     "reach": b"reach 0 0 1 1",
@@ -20,41 +19,29 @@ LINES = {
 }
 
 
-def parser(doc, what=None, count=None):
-    """Flags: `--program` for each script; `--rounds` and `--first` where so many of a thing are drawn by seeds."""
-    text, _, rest = doc.partition("\n")
-    made = argparse.ArgumentParser(description=text, epilog=rest, formatter_class=argparse.RawDescriptionHelpFormatter)
-    made.add_argument("--program", metavar="PATH", default=os.path.normpath(BUILT), help="the program (%(default)s)")
-    if what:
-        made.add_argument("--rounds", metavar="N", type=int, default=count, help="how many %s (%%(default)s)" % what)
-        made.add_argument("--first", metavar="SEED", type=int, default=1, help="the first seed (%(default)s)")
-    return made
-
-
-def status(program, verb, line):
+def status(path: str, verb: str, line: bytes) -> int:
     """The status of a run over an input with one line about a graph of two nodes."""
     with tempfile.TemporaryDirectory() as folder:
-        path = os.path.join(folder, "f")
-        with open(path, "wb") as out:
-            out.write(b"digraph int 2 0 0\n" + line + b"\n")
-        return subprocess.run([program, verb, path], stdout=subprocess.DEVNULL).returncode
+        program = Program(path, folder)
+        program.put("f", b"digraph int 2 0 0\n" + line + b"\n")
+        return program.run(verb, "f").returncode
 
 
-def known(program):
+def known(path: str) -> list[str]:
     """The kinds that the program reads, and `wide weights` where it reads those above 32 bits.
 
     What it doesn't know is taken out of the reference, which then knows no more.
     """
     for kind, line in LINES.items():
-        if status(program, "print", line) == 3:
+        if status(path, "print", line) == 3:
             forget(kind)
-    if status(program, "print", b"edge 0 0 1 1 4294967296") == 3:
+    if status(path, "print", b"edge 0 0 1 1 4294967296") == 3:
         reference.MOST_WEIGHT = reference.MOST_32_BITS
         return list(graphs.WORDS)
     return [*graphs.WORDS, "wide weights"]
 
 
-def forget(kind):
+def forget(kind: str) -> None:
     """Takes a kind out of the reference, with the words that serve it alone."""
     reference.PREDICATES.pop(LINES[kind].split()[0])
     words = graphs.WORDS.pop(kind)
@@ -63,6 +50,6 @@ def forget(kind):
     reference.read.cache_clear()
 
 
-def solved(program):
+def solved(path: str) -> list[str]:
     """The kinds that `solve` takes; an input with another one ends with `refused 0 NotBuilt`."""
-    return [kind for kind in graphs.WORDS if status(program, "solve", LINES[kind]) != 3]
+    return [kind for kind in graphs.WORDS if status(path, "solve", LINES[kind]) != 3]

@@ -6,38 +6,23 @@ clauses, each new. Each answer is judged by fuzz/reference.py and by the program
 write the same bytes. The status is 0 exactly where nothing differs.
 """
 
-import collections
-import itertools
-import os
-import subprocess
-import sys
-import tempfile
+from __future__ import annotations
 
 import kinds
 import problems
 import reference
+from assignments import is_satisfiable
+from reference import Clause, Problem
+from rounds import Rounds, Wrong, play
 
 STATUSES = {b"s SATISFIABLE": 10, b"s UNSATISFIABLE": 20, b"s UNKNOWN": 0}
 DEFAULT_BUDGET = 100_000
 
 
-class Wrong(Exception):
-    """What is wrong with a run."""
-
-
-def is_satisfiable(problem):
-    for values in itertools.product([False, True], repeat=problem.variables):
-        signs = dict(enumerate(values, 1))
-        if all(any(signs[abs(x)] == (x > 0) for x in c) for c in problem.clauses):
-            if reference.first_wrong_predicate(problem, signs) is None:
-                return True
-    return False
-
-
 # ---- new learned clauses
 
 
-def is_quiet_without(clauses, assumed, literal):
+def is_quiet_without(clauses: list[Clause], assumed: set[int], literal: int) -> bool:
     """Whether unit propagation from the assumed literals comes to no false clause and leaves the literal open."""
     true = set(assumed)
     if any(-x in true for x in true):
@@ -57,131 +42,89 @@ def is_quiet_without(clauses, assumed, literal):
     return literal not in true and -literal not in true
 
 
-def is_new(known, clause):
+def is_new(known: list[Clause], clause: Clause) -> bool:
+    """Whether some literal of the clause doesn't follow from the others by unit propagation."""
     return any(is_quiet_without(known, {-x for x in clause if x != literal}, literal) for literal in clause)
 
 
-def check_progress(problem, answer, budget):
+def check_progress(problem: Problem, answer: bytes, budget: int) -> None:
     """Each chain has exactly its end, is nonempty and new, and there are as many as the budget."""
     clauses = [frozenset(c) for c in problem.clauses]
     known, chains = list(clauses), 0
     for line, tokens in list(reference.lines(answer))[1:]:
-        word, _, literals, listed = reference.step_line(line, tokens)
-        clause = frozenset(literals)
-        if word == "chain":
-            left = clauses[listed[0] - 1]
-            for number in listed[1:]:
-                left = reference.resolvent(left, clauses[number - 1])
-            if left != clause or not clause:
-                raise Wrong("line %d isn't exactly the end of its chain, or is empty" % line)
+        step = reference.step_line(line, tokens)
+        clause = frozenset(step.literals)
+        if step.is_chain:
+            if reference.chain_end(clauses, step.listed) != clause or not clause:
+                raise Wrong(f"line {line} isn't exactly the end of its chain, or is empty")
             if not is_new(known, clause):
-                raise Wrong("line %d isn't new" % line)
+                raise Wrong(f"line {line} isn't new")
             known.append(clause)
             chains += 1
         clauses.append(clause)
     if chains != budget:
-        raise Wrong("%d chains at a budget of %d" % (chains, budget))
+        raise Wrong(f"{chains} chains at a budget of {budget}")
 
 
-def check_is_trimmed(problem, answer):
+def check_is_trimmed(problem: Problem, answer: bytes) -> None:
     """Each step but the last is named by a later one."""
-    rows = [reference.step_line(line, tokens) for line, tokens in list(reference.lines(answer))[1:]]
+    steps = [reference.step_line(line, tokens) for line, tokens in list(reference.lines(answer))[1:]]
     first = len(problem.clauses) + 1
-    named = {n for word, _, _, listed in rows if word == "chain" for n in listed}
-    if not all(first + k in named for k in range(len(rows) - 1)):
+    named = {n for step in steps if step.is_chain for n in step.listed}
+    if not all(first + k in named for k in range(len(steps) - 1)):
         raise Wrong("a step that nothing rests on")
 
 
 # ---- runs
 
 
-class Comparison:
-    def __init__(self, program, folder, solved):
-        self.program, self.folder, self.solved = os.path.abspath(program), folder, solved
-        self.found = collections.Counter()
-        self.wrong = 0
+class Solved(Rounds):
+    """Problems that are solved, most of them within a small budget."""
 
-    def run(self, *words):
-        run = subprocess.run([self.program, *words], cwd=self.folder, capture_output=True)
-        if run.stderr:
-            raise Wrong("it wrote to standard error: %r" % run.stderr)
-        return run.returncode, run.stdout
+    def __init__(self, path: str, folder: str) -> None:
+        super().__init__(path, folder)
+        self.solved = kinds.solved(path)
 
-    def put(self, name, text):
-        with open(os.path.join(self.folder, name), "wb") as out:
-            out.write(text)
+    def is_built(self, problem: Problem) -> bool:
+        """Whether `solve` takes each predicate."""
+        return all(predicate.meaning.kind in self.solved for predicate in problem.predicates)
 
-    def is_built(self, problem):
-        return all(reference.meaning(p)[0] in self.solved for p in problem.predicates)
-
-    def judge(self, problem, status, answer, budget):
+    def judge_answer(self, problem: Problem, status: int, answer: bytes, budget: int) -> None:
         """The verdict that the answer has to have, which the reference and the program have to give it."""
         first = answer.split(b"\n")[0]
         if STATUSES.get(first) != status:
-            raise Wrong("status %d with %r" % (status, first))
+            raise Wrong(f"status {status} with {first!r}")
         if status == 10:
             verdict = "accepted model"
         elif status == 20:
             verdict = "accepted refutation"
             check_is_trimmed(problem, answer)
         else:
-            verdict = "accepted progress %d" % budget
+            verdict = f"accepted progress {budget}"
             check_progress(problem, answer, budget)
             if budget >= 3**problem.variables:
                 raise Wrong("enough budget, and yet it was spent")
-        try:
-            judged = reference.judged(problem, answer)
-        except reference.Rejected as rejected:
-            judged = "rejected %s" % (rejected.args,)
-        if judged != verdict:
-            raise Wrong("the reference says %s" % judged)
-        self.put("a", answer)
-        checked = self.run("check", "f", "a")
-        if checked != (0, verdict.encode() + b"\n"):
-            raise Wrong("check says %s" % (checked,))
+        self.judge(self.text, answer, "check", "f", "a", due=f"{verdict}\n")
 
-    def compare(self, text, budget):
-        problem = reference.read(text)
-        self.put("f", text)
+    def compare(self, seed: int) -> str:
+        small = problems.Small(seed)
+        self.take(small.text())
+        problem = reference.read(self.text)
+        budget = small.random.choice([1, 2, 3, 5, DEFAULT_BUDGET] if small.is_hard else [1, 3, DEFAULT_BUDGET])
         words = ["solve", "f"] + (["--conflicts", str(budget)] if budget != DEFAULT_BUDGET else [])
         status, answer = self.run(*words)
         if not self.is_built(problem):
             if (status, answer) != (3, b"refused 0 NotBuilt\n"):
-                raise Wrong("status %d with %r, where a predicate isn't built" % (status, answer))
+                raise Wrong(f"status {status} with {answer!r}, where a predicate isn't built")
             return "NotBuilt"
-        self.judge(problem, status, answer, budget)
+        self.judge_answer(problem, status, answer, budget)
         if status and is_satisfiable(problem) != (status == 10):
-            raise Wrong("status %d, and trying all assignments says otherwise" % status)
+            raise Wrong(f"status {status}, and trying all assignments says otherwise")
         if self.run(*words) != (status, answer):
             raise Wrong("a second run wrote other bytes")
-        met = {reference.meaning(p)[0] for p in problem.predicates} or {"clauses"}
-        return "%s %s" % ({10: "model", 20: "refutation", 0: "progress"}[status], "+".join(sorted(met)))
-
-    def round(self, seed):
-        small = problems.Small(seed)
-        text = small.text()
-        budget = small.random.choice([1, 2, 3, 5, DEFAULT_BUDGET] if small.is_hard else [1, 3, DEFAULT_BUDGET])
-        try:
-            self.found[self.compare(text, budget)] += 1
-        except Wrong as wrong:
-            self.wrong += 1
-            print("seed %d, budget %d: %s\n  input %r" % (seed, budget, wrong, text))
+        met = {predicate.meaning.kind for predicate in problem.predicates} or {"clauses"}
+        return {10: "model", 20: "refutation", 0: "progress"}[status] + " " + "+".join(sorted(met))
 
 
-def main():
-    parser = kinds.parser(__doc__, "problems", 5000)
-    parser.add_argument("--list", action="store_true", help="count the kinds of answers")
-    args = parser.parse_args()
-    kinds.known(args.program)
-    with tempfile.TemporaryDirectory() as folder:
-        comparison = Comparison(args.program, folder, kinds.solved(args.program))
-        for seed in range(args.first, args.first + args.rounds):
-            comparison.round(seed)
-    if args.list:
-        for kind, count in sorted(comparison.found.items()):
-            print("%7d %s" % (count, kind))
-    print("%d problems solved, %d wrong" % (args.rounds, comparison.wrong))
-    sys.exit(1 if comparison.wrong else 0)
-
-
-main()
+if __name__ == "__main__":
+    play(__doc__, Solved, "problems", 5000)

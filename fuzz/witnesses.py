@@ -1,117 +1,148 @@
 """What shows that a predicate holds or fails with exactly some of its graph's edges: the list of a lemma's line."""
 
+from __future__ import annotations
+
+from collections.abc import Collection, Iterable
+
 import graphs
 import reference
+from graphs import Edge, Edges, Meaning
+from reference import Problem, Signs, Step
+
+# The list of a lemma's line, and the numbers of the edges on which it rests.
+Witness = tuple[list[int], list[int]]
 
 
-def walk(edges, kind, ends):
+def walk(edges: Edges, kind: str, ends: list[int]) -> list[int]:
     """A cheapest walk between the ends, as numbers of edges."""
-    least = {ends[0]: (0, [])}
+    least: dict[int, tuple[int, list[int]]] = {ends[0]: (0, [])}
     for _ in range(len(edges) + 1):
         for n, e in edges.items():
-            if e[1] in least:
-                cost, way = least[e[1]]
+            if e.start in least:
+                cost, way = least[e.start]
                 cost += graphs.cost(kind, e)
-                if e[2] not in least or cost < least[e[2]][0]:
-                    least[e[2]] = (cost, way + [n])
+                if e.end not in least or cost < least[e.end][0]:
+                    least[e.end] = (cost, way + [n])
     return least[ends[1]][1]
 
 
-def positive(nodes, edges, present, kind, ends, bound):
-    """The word, the list and the numbers of the edges on which it rests, where the predicate holds."""
-    held = {n: edges[n] for n in present}
-    if kind == "flow":
-        _, amounts, _ = graphs.maximum_flow(list(held.values()), *ends, max(bound, 0))
-        carried = [(n, a) for n, a in zip(held, amounts) if a]
-        return "flow", [x for pair in carried for x in pair], [n for n, _ in carried]
-    if kind == "tree":
-        tree = lightest_tree(nodes, held)
-        return "tree", tree, tree
-    if kind == "acyclic":
-        listed = order(nodes, list(held.values()))
-        return "order", listed, [n for n, e in edges.items() if listed.index(e[1]) >= listed.index(e[2])]
-    way = walk(held, kind, ends)
-    return "path", way, way
-
-
-def order(nodes, edges):
-    """The nodes in an order in which each edge begins before it ends; those on cycles, and behind them, come last."""
-    listed = []
-    while True:
-        ready = [u for u in range(nodes) if u not in listed and all(e[1] in listed for e in edges if e[2] == u)]
-        if not ready:
-            return listed + [u for u in range(nodes) if u not in listed]
-        listed += ready
-
-
-def cycle(nodes, edges):
+def cycle(nodes: int, edges: Edges) -> list[int]:
     """The numbers of the edges of a cycle; none where there is none."""
     for n, e in edges.items():
-        if graphs.distances(nodes, list(edges.values()), "reach", e[2])[e[1]] == 0:
-            return [n] + walk(edges, "reach", (e[2], e[1]))
+        if graphs.distances(nodes, edges.values(), "reach", e.end)[e.start] == 0:
+            return [n] + walk(edges, "reach", [e.end, e.start])
     return []
 
 
-def lightest_tree(nodes, edges):
-    """The numbers of the edges of a lightest spanning forest."""
-    chosen, name = [], list(range(nodes))
-    for n, e in sorted(edges.items(), key=lambda item: item[1][4]):
-        old, new = name[e[1]], name[e[2]]
-        if old != new:
-            chosen.append(n)
-            name = [new if k == old else k for k in name]
-    return chosen
+def carried(numbers: Iterable[int], amounts: Iterable[int]) -> Witness:
+    """What edges carry, in pairs; the flow rests on those that carry something."""
+    pairs = list(zip(numbers, amounts))
+    return flat(pairs), [n for n, a in pairs if a]
 
 
-def negative(nodes, edges, present, kind, ends, bound):
-    """The word, the list and the numbers of the edges on which it rests, where the predicate fails."""
+def flat(pairs: Iterable[tuple[int, int]]) -> list[int]:
+    return [x for pair in pairs for x in pair]
+
+
+# ---- witnesses of one word: over these edges, of which some are held
+
+
+def order(nodes: int, edges: Edges, held: Collection[Edge]) -> Witness:
+    """The nodes in an order in which held edges begin before they end; those on cycles, and behind them, come last."""
+    listed: list[int] = []
+    while True:
+        ready = [u for u in range(nodes) if u not in listed and all(e.start in listed for e in held if e.end == u)]
+        if not ready:
+            break
+        listed += ready
+    listed += [u for u in range(nodes) if u not in listed]
+    return listed, [n for n, e in edges.items() if listed.index(e.start) >= listed.index(e.end)]
+
+
+def cut(nodes: int, edges: Edges, held: Collection[Edge], start: int) -> Witness:
+    """The nodes to which held edges lead from the start."""
+    found = graphs.distances(nodes, held, "reach", start)
+    inside = [u for u in range(nodes) if found[u] is not None]
+    return inside, leaving(edges, inside)
+
+
+def leaving(edges: Edges, inside: list[int]) -> list[int]:
+    """The numbers of the edges that lead out of these nodes."""
+    return [n for n, e in edges.items() if graphs.leaves(e, inside)]
+
+
+def label(nodes: int, edges: Edges, held: Collection[Edge], meaning: Meaning) -> Witness:
+    """The distances by held edges as far as the bound."""
+    kind, ends, bound = meaning
+    found = graphs.distances(nodes, held, kind, ends[0])
+    listed = {u: d for u, d in enumerate(found) if d is not None and d <= bound}
+
+    def of(u: int) -> int:
+        return listed.get(u, bound + 1)
+
+    return flat(listed.items()), [n for n, e in edges.items() if of(e.end) > of(e.start) + graphs.cost(kind, e)]
+
+
+def split(nodes: int, edges: Edges, held: Collection[Edge]) -> Witness:
+    """The nodes that held edges join with the first one."""
+    name = graphs.joined(nodes, held)
+    inside = [u for u in range(nodes) if name[u] == name[0]]
+    return inside, [n for n, e in edges.items() if (e.start in inside) != (e.end in inside)]
+
+
+def least(nodes: int, edges: Edges, tree: list[int]) -> Witness:
+    """The tree, which rests on the edges that would make it lighter."""
+    return tree, [n for n, e in edges.items() if not graphs.is_bridged(nodes, edges, tree, e)]
+
+
+# ---- lemmas
+
+
+def positive(nodes: int, edges: Edges, present: set[int], meaning: Meaning) -> tuple[str, Witness]:
+    """A word and a witness, where the predicate holds."""
+    kind, ends, bound = meaning
     held = {n: edges[n] for n in present}
     if kind == "flow":
-        inside = graphs.maximum_flow(list(held.values()), *ends)[2]
-        return "flowcut", inside, [n for n in edges if n not in present and graphs.leaves(edges[n], inside)]
+        flow = graphs.maximum_flow(held.values(), ends, max(bound, 0))
+        amounts = {n: a for n, a in zip(held, flow.amounts) if a}
+        return "flow", carried(amounts.keys(), amounts.values())
+    if kind == "acyclic":
+        return "order", order(nodes, edges, held.values())
+    listed = graphs.lightest_forest(nodes, held) if kind == "tree" else walk(held, kind, ends)
+    return "tree" if kind == "tree" else "path", (listed, listed)
+
+
+def negative(nodes: int, edges: Edges, present: set[int], meaning: Meaning) -> tuple[str, Witness]:
+    """A word and a witness, where the predicate fails."""
+    kind, ends, _ = meaning
+    held = {n: edges[n] for n in present}
+    if kind == "flow":
+        inside = graphs.maximum_flow(held.values(), ends).reached
+        return "flowcut", (inside, [n for n in leaving(edges, inside) if n not in present])
     if kind == "tree":
-        return no_tree(nodes, edges, held)
+        tree = graphs.lightest_forest(nodes, held)
+        if len(tree) < nodes - 1:
+            return "split", split(nodes, edges, held.values())
+        return "least", least(nodes, edges, tree)
     if kind == "acyclic":
         found = cycle(nodes, held)
-        return "cycle", found, found
-    found = graphs.distances(nodes, list(held.values()), kind, ends[0])
+        return "cycle", (found, found)
     if kind == "reach":
-        inside = [u for u in range(nodes) if found[u] is not None]
-        return "cut", inside, [n for n in edges if n not in present and graphs.leaves(edges[n], inside)]
-    label = {u: d for u, d in enumerate(found) if d is not None and d <= bound}
-
-    def tense(e):
-        return label.get(e[2], bound + 1) > label.get(e[1], bound + 1) + graphs.cost(kind, e)
-
-    needed = [n for n, e in edges.items() if n not in present and tense(e)]
-    return "label", [x for pair in label.items() for x in pair], needed
+        return "cut", cut(nodes, edges, held.values(), ends[0])
+    return "label", label(nodes, edges, held.values(), meaning)
 
 
-def no_tree(nodes, edges, held):
-    name = graphs.joined(nodes, list(held.values()))
-    if len(set(name)) > 1:
-        inside = [u for u in range(nodes) if name[u] == name[0]]
-        return "split", inside, [n for n, e in edges.items() if (e[1] in inside) != (e[2] in inside)]
-    tree = lightest_tree(nodes, held)
-    return "least", tree, [n for n, e in edges.items() if not graphs.is_bridged(nodes, edges, tree, e)]
-
-
-def lemma(problem, number, signs):
-    """A lemma that the assignment makes false, for a predicate on which it doesn't agree with the graph: its word, its
-    literals and its list."""
+def lemma(problem: Problem, number: int, signs: Signs) -> Step:
+    """A lemma that the assignment makes false, for a predicate on which it doesn't agree with the graph."""
     predicate = problem.predicates[number - 1]
-    kind, ends, bound = reference.meaning(predicate)
-    nodes, x = reference.nodes_of(problem, predicate), reference.variable_of(predicate)
-    edges = {n: e for n, e in enumerate(problem.edges, 1) if e[0] == predicate[1][0]}
-    present = {n for n, e in edges.items() if signs[e[3]]}
-    if signs[x]:
-        word, listed, needed = negative(nodes, edges, present, kind, ends, bound)
-    else:
-        word, listed, needed = positive(nodes, edges, present, kind, ends, bound)
-    return word, sorted(owed(word, x, (edges[n][3] for n in needed))), listed
+    nodes, edges = problem.nodes_of(predicate), problem.edges_of(predicate)
+    present = {n for n, e in edges.items() if signs[e.variable]}
+    shown = negative if signs[predicate.variable] else positive
+    word, (listed, needed) = shown(nodes, edges, present, predicate.meaning)
+    return Step(word, number, sorted(owed(word, predicate.variable, edges, needed)), listed)
 
 
-def owed(word, x, variables):
+def owed(word: str, variable: int, edges: Edges, needed: Iterable[int]) -> set[int]:
     """The literals that a lemma owes, of the predicate's variable and those of the edges on which it rests."""
     side = -1 if word in reference.OVER_PRESENT else 1
-    return {side * variable for variable in variables} | {x if word in reference.POSITIVE else -x}
+    return {side * edges[n].variable for n in needed} | {variable if word in reference.POSITIVE else -variable}

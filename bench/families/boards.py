@@ -1,12 +1,15 @@
 """Families on boards of n by n cells, numbered row by row."""
 
+from __future__ import annotations
+
 import itertools
 import random
+from collections.abc import Iterator
 
 from families.encoding import Encoding
 
 
-def neighbours(n):
+def neighbours(n: int) -> Iterator[tuple[int, int]]:
     """The pairs of cells that lie side by side."""
     for r, q in itertools.product(range(n), repeat=2):
         if q + 1 < n:
@@ -15,14 +18,25 @@ def neighbours(n):
             yield r * n + q, (r + 1) * n + q
 
 
-def routing(size, seed):
-    """Nets that join two pins each, a graph a net; a cell is used by one net at most, and one cell in eight is blocked."""
+def routing(size: tuple[int, int], seed: int) -> Encoding:
+    """Nets that join two pins each, a graph a net; a cell is used by one net at most, one cell in eight is blocked."""
     n, nets = size
+    return routed(n, nets, n * n // 8, seed)
+
+
+def boards(size: tuple[int, int], seed: int) -> Encoding:
+    """Nets as in `routing`, on boards like those of examples/routing: one cell in ten is blocked."""
+    n, nets = size
+    return routed(n, nets, n * n // 10, seed)
+
+
+def routed(n: int, nets: int, without: int, seed: int) -> Encoding:
+    """Nets on a board on which so many cells are blocked."""
     drawn = random.Random(seed)
-    blocked = set(drawn.sample(range(n * n), n * n // 8))
+    blocked = set(drawn.sample(range(n * n), without))
     pins = drawn.sample([u for u in range(n * n) if u not in blocked], 2 * nets)
     made = Encoding()
-    users = [[] for _ in range(n * n)]
+    users: list[list[int]] = [[] for _ in range(n * n)]
     for start, end in zip(pins[::2], pins[1::2]):
         graph, uses = made.graph(n * n), [made.variable() for _ in range(n * n)]
         for u, x in enumerate(uses):
@@ -39,13 +53,12 @@ def routing(size, seed):
     return made
 
 
-def maze(n, seed):
+def maze(n: int, seed: int) -> Encoding:
     """Passages between cells, so that only long ways lead to the exit, and each square of cells has a wall."""
     drawn = random.Random(seed)
     made = Encoding()
-    graph, passage = made.graph(n * n), {}
-    for u, v in neighbours(n):
-        passage[u, v] = made.link(graph, u, v)
+    graph = made.graph(n * n)
+    passage = {(u, v): made.link(graph, u, v) for u, v in neighbours(n)}
     for r, q in itertools.product(range(n - 1), repeat=2):
         u = r * n + q
         made.clause(-passage[u, u + 1], -passage[u, u + n], -passage[u + 1, u + n + 1], -passage[u + n, u + n + 1])

@@ -1,29 +1,46 @@
 """The families by name: how an input is made of a size and a seed, and the sizes, each with its number of seeds."""
 
+from __future__ import annotations
+
+from collections.abc import Callable, Iterator
 from dataclasses import dataclass
-from typing import Callable
+from functools import partial
+from typing import Any, Generic, TypeVar
 
 from families import boards, clauses, grids, orders, precedence, sites
+from families.encoding import Encoding
+
+Size = TypeVar("Size")
+# The label of an input, and what makes it.
+Input = tuple[str, Callable[[], Encoding]]
 
 
 @dataclass
-class Family:
-    make: Callable
-    sizes: list  # pairs of a size and its number of seeds
-    large: list  # the same, for sizes that take long
+class Family(Generic[Size]):
+    """Inputs that are made alike."""
+
+    make: Callable[[Size, int], Encoding]
+    sizes: list[tuple[Size, int]]  # each with its number of seeds
+    large: list[tuple[Size, int]]  # those that take long
     clauses_alone: bool = False
 
-    def inputs(self, seeds, large):
-        """The label and the maker of each input."""
+    @property
+    def what(self) -> str:
+        """What the inputs are about, in one line."""
+        return (self.make.__doc__ or "").splitlines()[0]
+
+    def inputs(self, seeds: int, large: bool) -> Iterator[Input]:
+        """The inputs of each size, so many seeds at most."""
         for size, most in self.large if large else self.sizes:
             for seed in range(1, min(seeds, most) + 1):
                 shown = "x".join(map(str, size)) if isinstance(size, tuple) else str(size)
-                yield "%s, seed %d" % (shown, seed), lambda size=size, seed=seed: self.make(size, seed)
+                yield f"{shown}, seed {seed}", partial(self.make, size, seed)
 
 
-FAMILIES = {
+FAMILIES: dict[str, Family[Any]] = {
     # boards: cells on a side, nets
     "routing": Family(boards.routing, [((10, 4), 10), ((12, 5), 10)], [((20, 10), 3), ((30, 8), 3)]),
+    "boards": Family(boards.boards, [((12, 6), 5), ((20, 6), 5), ((30, 6), 5)], [((40, 6), 5)]),
     "maze": Family(boards.maze, [(20, 5), (30, 5)], [(60, 3)]),
     # sites
     "network": Family(sites.network, [(40, 10), (60, 10)], [(120, 3), (200, 3)]),

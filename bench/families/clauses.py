@@ -1,18 +1,22 @@
 """Families of clauses alone, which a solver for clauses reads too."""
 
+from __future__ import annotations
+
 import itertools
 import random
 
 from families.encoding import Encoding
 
 
-def of_clauses(variables, clauses):
+def of_clauses(variables: int, clauses: list[list[int]]) -> Encoding:
+    """These clauses over so many variables."""
     made = Encoding()
-    made.variables, made.clauses = variables, clauses
+    made.variables = variables
+    made.clauses += clauses
     return made
 
 
-def uniform(variables, seed):
+def uniform(variables: int, seed: int) -> Encoding:
     """Uniform random 3-SAT, 4.26 clauses a variable."""
     drawn = random.Random(seed)
     clauses = []
@@ -22,7 +26,7 @@ def uniform(variables, seed):
     return of_clauses(variables, clauses)
 
 
-def pigeons(holes, _):
+def pigeons(holes: int, _: int) -> Encoding:
     """One pigeon more than there are holes."""
     at = [[p * holes + h + 1 for h in range(holes)] for p in range(holes + 1)]
     clauses = [list(row) for row in at]
@@ -31,7 +35,7 @@ def pigeons(holes, _):
     return of_clauses((holes + 1) * holes, clauses)
 
 
-def colours(nodes, seed):
+def colours(nodes: int, seed: int) -> Encoding:
     """Three colours for a random graph with 4.6 neighbours a node."""
     drawn = random.Random(seed)
     pairs = drawn.sample(list(itertools.combinations(range(nodes), 2)), nodes * 23 // 10)
@@ -42,7 +46,7 @@ def colours(nodes, seed):
     return of_clauses(3 * nodes, clauses)
 
 
-def parity(variables, seed):
+def parity(variables: int, seed: int) -> Encoding:
     """The parity of the variables along two orders, which differ."""
     drawn = random.Random(100 * variables + seed)
     made = Encoding()

@@ -1,4 +1,6 @@
-"""Families on grids of n by n nodes whose neighbours are joined by an edge each way, with random clauses over the edges."""
+"""Families on grids of n by n nodes whose neighbours are joined by edges both ways, with random clauses over these."""
+
+from __future__ import annotations
 
 import random
 
@@ -8,9 +10,11 @@ from families.encoding import Encoding
 WALKS_AND_FLOWS = ["reach", "distance_leq", "weighted_distance_leq", "maximum_flow_geq"]
 
 
-def grid(n, drawn):
+def grid(n: int, drawn: random.Random) -> tuple[Encoding, int, list[int]]:
+    """The grid with its clauses, the graph and its edges' variables."""
     made = Encoding()
-    graph, edges = made.graph(n * n), []
+    graph = made.graph(n * n)
+    edges: list[int] = []
     for u, v in neighbours(n):
         for s, t in ((u, v), (v, u)):
             edges.append(made.edge(graph, s, t, drawn.randint(1, 9)))
@@ -20,7 +24,7 @@ def grid(n, drawn):
     return made, graph, edges
 
 
-def predicates(size, seed, words=WALKS_AND_FLOWS):
+def predicates(size: tuple[int, int], seed: int, words: list[str] = WALKS_AND_FLOWS) -> Encoding:
     """Predicates on walks and flows in turn: most have to hold, and the others have to fail."""
     n, count = size
     drawn = random.Random(seed)
@@ -30,33 +34,33 @@ def predicates(size, seed, words=WALKS_AND_FLOWS):
         u, v = drawn.sample(range(n * n), 2)
         apart = abs(u // n - v // n) + abs(u % n - v % n)
         holds = k % 7 < 5
-        bound = {
+        bounds: dict[str, list[int]] = {
             "reach": [],
             "distance_leq": [apart + 4 if holds else apart],
             "weighted_distance_leq": [5 * apart + 9 if holds else 3 * apart],
             "maximum_flow_geq": [drawn.randint(2, 5) if holds else drawn.randint(12, 20)],
-        }[word]
+        }
         holds = holds or word == "reach"
-        made.clause(made.predicate(word, graph, u, v, *bound) * (1 if holds else -1))
+        made.clause(made.predicate(word, graph, u, v, *bounds[word]) * (1 if holds else -1))
     return made
 
 
-def reaching(size, seed):
+def reaching(size: tuple[int, int], seed: int) -> Encoding:
     """The same grid with predicates of reachability alone."""
     return predicates(size, seed, ["reach"])
 
 
-def near(size, seed):
+def near(size: tuple[int, int], seed: int) -> Encoding:
     """The same grid with predicates on walks within a limit alone."""
     return predicates(size, seed, ["distance_leq", "weighted_distance_leq"])
 
 
-def flows(size, seed):
+def flows(size: tuple[int, int], seed: int) -> Encoding:
     """The same grid with predicates on flows alone."""
     return predicates(size, seed, ["maximum_flow_geq"])
 
 
-def tree_bounds(size, seed):
+def tree_bounds(size: tuple[int, int], seed: int) -> Encoding:
     """Predicates on spanning trees of the same grid with rising bounds, of which the upper ones have to hold."""
     n, count = size
     drawn = random.Random(seed)
@@ -67,7 +71,7 @@ def tree_bounds(size, seed):
     return made
 
 
-def wall(n, seed):
+def wall(n: int, seed: int) -> Encoding:
     """The last node has to be reached, and no edge leads over one column's border."""
     drawn = random.Random(seed)
     made, graph, edges = grid(n, drawn)

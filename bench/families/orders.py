@@ -1,18 +1,23 @@
 """Orders in which one element stands between two others (Opatrny 1979), with reachability in place of transitivity."""
 
+from __future__ import annotations
+
 import itertools
 import random
+from collections.abc import Iterator
 
 from families.encoding import Encoding
 
 
-def betweenness(count, seed):
-    """Each drawn triple has its middle between its ends. Odd seeds draw them from a hidden order, so that there is one."""
+def betweenness(count: int, seed: int) -> Encoding:
+    """Each drawn triple has its middle between its ends. Odd seeds draw triples of a hidden order: so there is one."""
     drawn = random.Random(seed)
     made = Encoding()
-    graph, before = made.graph(count), {}
+    graph = made.graph(count)
+    before: dict[tuple[int, int], int] = {}
 
-    def pair(u, v):
+    def pair(u: int, v: int) -> int:
+        """The variable by which u comes before v."""
         if (u, v) not in before:
             for s, t in ((u, v), (v, u)):
                 before[s, t] = made.edge(graph, s, t)
@@ -33,6 +38,7 @@ def betweenness(count, seed):
     return made
 
 
-def triples(count, drawn):
+def triples(count: int, drawn: random.Random) -> Iterator[list[int]]:
+    """Three elements each, without end."""
     while True:
         yield drawn.sample(range(count), 3)

@@ -1,12 +1,14 @@
 """Families on what comes before what: no circle may be left (Karp 1972; Roy and Sussmann 1964)."""
 
+from __future__ import annotations
+
 import itertools
 import random
 
 from families.encoding import Encoding
 
 
-def feedback(size, seed):
+def feedback(size: tuple[int, int], seed: int) -> Encoding:
     """A feedback arc set: without so few of the arcs of a drawn graph, three a node, no cycle is left."""
     count, fewer = size
     drawn = random.Random(seed)
@@ -19,9 +21,11 @@ def feedback(size, seed):
     return made
 
 
-def against(count, arcs):
+def against(count: int, arcs: list[tuple[int, int]]) -> list[tuple[int, int]]:
     """The arcs against an order of the nodes that puts sources first and sinks last (Eades, Lin and Smyth 1993)."""
-    left, first, last = set(range(count)), [], []
+    left = set(range(count))
+    first: list[int] = []
+    last: list[int] = []
     while left:
         inside = [(u, v) for u, v in arcs if u in left and v in left]
         more = {u: sum(a == u for a, _ in inside) - sum(b == u for _, b in inside) for u in left}
@@ -33,8 +37,8 @@ def against(count, arcs):
     return [(u, v) for u, v in arcs if rank[u] > rank[v]]
 
 
-def schedules(size, seed):
-    """Jobs that visit every machine, each in a drawn order, with an order of the jobs on each machine; some choices exclude others."""
+def schedules(size: tuple[int, int], seed: int) -> Encoding:
+    """Jobs that visit each machine in a drawn order, with an order of the jobs on each; some choices exclude others."""
     jobs, machines = size
     drawn = random.Random(seed)
     made = Encoding()
@@ -43,7 +47,7 @@ def schedules(size, seed):
         way = drawn.sample(range(machines), machines)
         for one, other in zip(way, way[1:]):
             made.clause(made.edge(graph, job * machines + one, job * machines + other))
-    before = {}
+    before: dict[tuple[int, int], int] = {}
     for machine in range(machines):
         for job, later in itertools.combinations(range(jobs), 2):
             u, v = job * machines + machine, later * machines + machine

@@ -33,11 +33,6 @@ def encode() -> tuple[Problem, list[Edge], Sum]:
     return problem, links, costs
 
 
-def cost_of(model: Model, costs: Sum) -> int:
-    """What the links of a model cost."""
-    return sum(amount for literal, amount in costs.terms if model[literal])
-
-
 def bounded(bound: int) -> Problem:
     """The problem with links that cost at most so much."""
     problem, _, costs = encode()
@@ -59,15 +54,17 @@ def picture(problem: Problem, model: Model) -> str:
 
 
 def main() -> None:
-    """Lowers the bound until no set of links is left: the last refutation shows that the last model is the cheapest."""
+    """Asks for the cheapest set of links: a model has it, and a refutation shows that nothing is cheaper."""
     problem, links, costs = encode()
-    while answer := problem.solve():
-        cost = cost_of(answer, costs)
-        names = problem.graphs[0].names
-        built = [link for link in links if answer[link]]
-        print(f"cost {cost}:", ", ".join(f"{names[e.start].split('@')[0]}-{names[e.end].split('@')[0]}" for e in built))
-        problem.require(costs.at_most(cost - 1))
-    print(f"nothing is cheaper: the refutation has {len(answer.lemmas)} lemmas")
+    best = problem.minimise(costs)
+    if not best:
+        print("no set of links will do")
+        return
+    names = problem.graphs[0].names
+    built = [link for link in links if best.model[link]]
+    pairs = (f"{names[e.start].split('@')[0]}-{names[e.end].split('@')[0]}" for e in built)
+    print(f"cost {best.value}:", ", ".join(pairs))
+    print(f"nothing is cheaper: the refutation has {len(best.refutation.lemmas)} lemmas")
 
 
 if __name__ == "__main__":

@@ -21,8 +21,8 @@ def read_board(path: Path) -> dict[Cell, str]:
     return {(x, y): mark for y, row in enumerate(rows) for x, mark in enumerate(row) if mark != "#"}
 
 
-def encode(board: dict[Cell, str]) -> Problem:
-    """One graph for each net, over the same cells."""
+def encode(board: dict[Cell, str], required: bool = True) -> Problem:
+    """One graph for each net, over the same cells; each net is routed, or, where it isn't required, may be."""
     problem = Problem()
     cells = list(board)
     used: dict[Cell, list[Literal]] = {cell: [] for cell in cells}
@@ -37,7 +37,9 @@ def encode(board: dict[Cell, str]) -> Problem:
                     problem.add_clause(~track, uses[x, y])
                     problem.add_clause(~track, uses[beside])
         start, end = (node[cell] for cell in cells if board[cell] == net)
-        problem.require(graph.reach(start, end))
+        routed = graph.reach(start, end, problem.add_variable(f"net {net}"))
+        if required:
+            problem.require(routed)
         for cell in cells:
             used[cell].append(uses[cell])
     for literals in used.values():
@@ -55,8 +57,27 @@ def picture(problem: Problem, model: Model) -> str:
     return drawing(problem, model)
 
 
+def crowded() -> Problem:
+    """A large board, of 30 by 30 cells, on which not all nets can be routed together; none is required."""
+    return encode(read_board(HERE / "crowded.txt"), required=False)
+
+
+def say_why(problem: Problem) -> None:
+    """Prints which nets stand against each other, and how long the others' ways are without one of them."""
+    core = problem.core(problem.predicates)
+    if core:
+        print("crowded: all nets can be routed")
+        return
+    print(f"crowded: {', '.join(core.names)} can't all be routed")
+    for need, name in zip(core.needs, core.names):
+        if need.model:
+            routed = [net for net in problem.predicates if need.model[net]]
+            ways = (f"{problem.described(net)} by {len(need.model.path(net))} tracks" for net in routed)
+            print(f"crowded: without {name}: {', '.join(ways)}")
+
+
 def main() -> None:
-    """Solves both boards, and prints each net's way."""
+    """Solves both small boards, and prints each net's way; then says which nets are too many for the large one."""
     for name, problem in problems().items():
         answer = problem.solve()
         if not answer:
@@ -66,6 +87,7 @@ def main() -> None:
             way, graph = answer.path(net), problem.graphs[net.graph]
             nodes = [way[0].start] + [edge.end for edge in way]
             print(f"{name}: {graph.name}: {' '.join(graph.names[node] for node in nodes)}")
+    say_why(crowded())
 
 
 if __name__ == "__main__":

@@ -30,10 +30,14 @@ class Task:
 
 @dataclass
 class Shop:
-    """A problem with its tasks in the order of their nodes. Its one predicate is that no order runs in a circle."""
+    """A problem with its tasks in the order of their nodes. Its one predicate is that no order runs in a circle.
+
+    Where tasks may take no time, `done` says of each that it takes its hours.
+    """
 
     problem: Problem
     tasks: list[Task]
+    done: list[Literal]
 
 
 def read_rows(name: str) -> list[list[str]]:
@@ -41,8 +45,10 @@ def read_rows(name: str) -> list[list[str]]:
     return [line.split() for line in (HERE / name).read_text().splitlines()]
 
 
-def encode(deadline: int | None = None, wishes: bool = False) -> Shop:
+def encode(deadline: int | None = None, wishes: bool = False, all_done: bool = True) -> Shop:
     """All tasks end by the deadline, where there is one; the wishes are met where they are wanted.
+
+    Unless all are to be done, a task may take no time; it still comes before or after the others on its machine.
 
     An edge from a task to another says that it comes before. Successive tasks of a job have one that is always there.
     Two tasks on one machine have one each way, of which one at least is there.
@@ -66,17 +72,21 @@ def encode(deadline: int | None = None, wishes: bool = False) -> Shop:
         for machine, first, second in read_rows("wishes.txt"):
             edges = [e for e in graph.edges if (e.start, e.end) == (node[machine, first], node[machine, second])]
             problem.require(*edges)
+    done = [] if all_done else [problem.add_variable(f"{task.job} {task.machine}") for task in tasks]
     if deadline is not None:
-        require_deadline(problem, tasks, deadline)
-    return Shop(problem, tasks)
+        require_deadline(problem, tasks, deadline, done)
+    return Shop(problem, tasks, done)
 
 
-def require_deadline(problem: Problem, tasks: list[Task], deadline: int) -> None:
-    """Variables say of each task that it starts at an hour or later; where it must, the tasks behind it must too."""
+def require_deadline(problem: Problem, tasks: list[Task], deadline: int, done: list[Literal]) -> None:
+    """Variables say of each task that it starts at an hour or later; where it must, the tasks behind it must too.
+
+    A task takes its hours where its literal in `done` is true, or where there is none.
+    """
     late = {
         (task.node, hour): problem.add_variable(f"{task.job} {task.machine} starts at {hour} or later")
         for task in tasks
-        for hour in range(1, deadline - task.hours + 1)
+        for hour in range(1, deadline - (0 if done else task.hours) + 1)
     }
 
     def starts(node: int, hour: int) -> Iterator[Literal]:
@@ -87,11 +97,14 @@ def require_deadline(problem: Problem, tasks: list[Task], deadline: int) -> None
     for node, hour in late:
         if hour > 1:
             problem.add_clause(~late[node, hour], late[node, hour - 1])
+    for task, literal in zip(tasks, done):
+        problem.add_clause(~literal, ~late[task.node, deadline - task.hours + 1])
     for edge in problem.graphs[0].edges:
-        hours = tasks[edge.start].hours
-        problem.add_clause(~edge, *starts(edge.end, hours))
-        for hour in range(1, deadline - hours + 1):
-            problem.add_clause(~edge, ~late[edge.start, hour], *starts(edge.end, hour + hours))
+        own: list[Literal] = [~literal for literal in done[edge.start : edge.start + 1]]
+        for hours, unless in [(tasks[edge.start].hours, own), (0, own[:0])][: 1 + len(own)]:
+            for hour in range(0 if hours else 1, deadline - hours + 1):
+                is_late = [~late[edge.start, hour]] if hour else []
+                problem.add_clause([~edge, *unless, *is_late, *starts(edge.end, hour + hours)])
 
 
 def starts_of(tasks: list[Task], model: Model) -> dict[Task, int]:
@@ -143,7 +156,7 @@ def picture(problem: Problem, model: Model) -> str:
 
 
 def main() -> None:
-    """Shortens the schedule until nothing is shorter; then says which tasks of the wishes run in a circle."""
+    """Shortens the schedule until nothing is shorter; says which tasks are too much, and which run in a circle."""
     deadline = sum(task.hours for task in encode().tasks)
     while answer := (shop := encode(deadline)).problem.solve():
         starts = starts_of(shop.tasks, answer)
@@ -151,6 +164,9 @@ def main() -> None:
         print(f"{deadline} hours:", ", ".join(f"{t.job} {t.machine} at {start}" for t, start in starts.items()))
         deadline -= 1
     print(f"nothing is shorter: the refutation has {len(answer.steps)} steps")
+    shop = encode(deadline, all_done=False)
+    if not (core := shop.problem.core(shop.done)):
+        print(f"too much for {deadline} hours:", ", ".join(core.names))
     shop = encode(wishes=True)
     answer = shop.problem.solve()
     if not answer:

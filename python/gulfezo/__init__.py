@@ -11,6 +11,8 @@ program's format, runs its `solve` and its `check`, and reads what they print. W
 """
 
 from .answer import Answer, parse_answer, read_answer
+from .best import Best, NoBound
+from .cores import Core, Need
 from .errors import (
     BudgetSpent,
     FormatError,
@@ -35,7 +37,9 @@ from .sums import Sum
 __all__ = [
     "And",
     "Answer",
+    "Best",
     "BudgetSpent",
+    "Core",
     "Derivation",
     "Edge",
     "FormatError",
@@ -44,6 +48,8 @@ __all__ = [
     "Kind",
     "Literal",
     "Model",
+    "Need",
+    "NoBound",
     "Node",
     "NotSolved",
     "Or",

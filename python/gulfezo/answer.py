@@ -7,13 +7,15 @@ it; whoever calls `parse_answer` decides alone what to believe.
 from __future__ import annotations
 
 import os
+import shutil
 from pathlib import Path
 
 from .errors import FormatError
 from .lines import Lines
+from .migrating import migrated
 from .model import Model
 from .problem import Problem
-from .steps import Progress, Refutation, Steps
+from .steps import Derivation, Progress, Refutation, Steps
 
 Answer = Model | Refutation | Progress
 
@@ -27,39 +29,50 @@ def parse_answer(problem: Problem, text: str) -> Answer:
     return answer
 
 
-def read_answer(problem: Problem, path: str | os.PathLike[str]) -> Answer:
+def read_answer(problem: Problem, path: str | os.PathLike[str], assumed: int = 0) -> Answer:
     """The answer in a file, as one that `check` has accepted is read: a step is read where it is asked for.
 
-    So answers of any size need little more memory than their file has bytes. `FormatError` names a line that isn't
+    So answers of any size need little more memory than their file has bytes. `assumed` is the number of literals under
+    which it is an answer: each of them is a further clause behind the problem's. `FormatError` names a line that isn't
     understood, of a step once it is read.
     """
-    return answer_of(problem, Lines(Path(path).read_bytes()))
+    return answer_of(problem, Lines(Path(path).read_bytes()), assumed)
 
 
-def answer_of(problem: Problem, lines: Lines) -> Answer:
-    """The answer of a text by its lines."""
-    status = lines.tokens(0) if len(lines) else []
+def migrate(answer: Model | Derivation, version: int, program: str | None = None) -> Answer:
+    """See `Model.migrate` and `Derivation.migrate`."""
+    file = migrated(answer, version, program)
+    found = read_answer(answer.problem, file)
+    shutil.rmtree(file.parent)
+    return found
+
+
+def answer_of(problem: Problem, lines: Lines, assumed: int = 0) -> Answer:
+    """The answer of a text by its lines, in version 1 or, behind the line `version 2`, in version 2."""
+    begin = 1 if len(lines) and lines.tokens(0) == [b"version", b"2"] else 0
+    status = lines.tokens(begin) if len(lines) > begin else []
     if status == [b"s", b"SATISFIABLE"]:
-        return Model(problem, values(problem, lines), lines.text())
-    steps = Steps(lines, range(1, len(lines)), len(problem.clauses))
+        return Model(problem, values(problem, lines, begin + 1), lines.text())
+    before = len(problem.clauses) + assumed - begin
+    steps = Steps(lines, range(begin + 1, len(lines)), before, backwards=begin == 1)
     if status == [b"s", b"UNSATISFIABLE"]:
         return Refutation(problem, steps)
     if status == [b"s", b"UNKNOWN"]:
         return Progress(problem, steps)
-    number = lines.number(0) if len(lines) else 1
+    number = lines.number(min(begin, len(lines) - 1)) if len(lines) else 1
     raise FormatError(number, "an answer begins with `s SATISFIABLE`, `s UNSATISFIABLE` or `s UNKNOWN`")
 
 
-def values(problem: Problem, lines: Lines) -> dict[int, bool]:
-    """The value of each variable, from the lines `v` of a model."""
+def values(problem: Problem, lines: Lines, first: int) -> dict[int, bool]:
+    """The value of each variable, from the lines `v` of a model, of which the first has the place `first`."""
     found: dict[int, bool] = {}
-    for place in range(1, len(lines)):
+    for place in range(first, len(lines)):
         word, numbers = lines.numbers(place)
         if word != "v":
             raise FormatError(lines.number(place), "a model has only lines that begin with `v`")
         found.update((abs(literal), literal > 0) for literal in numbers if literal)
     if len(found) < problem.variables:
         missing = next(variable for variable in range(1, problem.variables + 1) if variable not in found)
-        line = lines.number(len(lines) - 1) if len(lines) > 1 else 1
+        line = lines.number(len(lines) - 1)
         raise FormatError(line, f"the model gives variable {missing} no value")
     return found

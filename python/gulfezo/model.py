@@ -76,6 +76,19 @@ class Model:
         assert order is not None, "the predicate holds, so there is an order"
         return order
 
+    def migrate(self, version: int, program: str | None = None) -> Model:
+        """The model in version 1 or 2 of the format of answers (docs/FORMATS.md), by the program's `migrate`.
+
+        The program judges the answer against the problem as it is now, and turns only what it accepts.
+        `RejectedAnswer`: it doesn't, as where the problem has grown since. `UnexpectedStatus`: it printed something
+        else. Both name the files, which stay. `ProgramMissing`: there is no program.
+        """
+        from .answer import migrate
+
+        found = migrate(self, version, program)
+        assert isinstance(found, Model), "a model's migrated text is a model"
+        return found
+
     def networkx(self, graph: Graph) -> Any:
         """The present edges as a `networkx.MultiDiGraph`, whose edges are keyed by their numbers and have a weight.
 

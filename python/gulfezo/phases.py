@@ -5,16 +5,18 @@ from __future__ import annotations
 import sys
 import threading
 import time
+from collections.abc import Callable
 from types import TracebackType
 
 
 class Phase:
     """Within it, a line tells after a second, and then now and again, what is done and for how long.
 
-    On a terminal the line is written over each second; elsewhere there are ever fewer lines. No note: no line.
+    On a terminal the line is written over each second; elsewhere there are ever fewer lines. No note: no line. A note
+    may be a function, which is asked for each line.
     """
 
-    def __init__(self, note: str) -> None:
+    def __init__(self, note: str | Callable[[], str]) -> None:
         self.note = note
         self.over = threading.Event()
         self.teller: threading.Thread | None = None
@@ -37,7 +39,8 @@ class Phase:
         start, end = ("\r", "") if is_terminal else ("", "\n")
         try:
             while not self.over.wait(max(0.0, began + due - time.monotonic())):
-                print(f"{start}gulfezo: {self.note}, {due:.0f} s", end=end, file=out, flush=True)
+                note = self.note() if callable(self.note) else self.note
+                print(f"{start}gulfezo: {note}, {due:.0f} s", end=end, file=out, flush=True)
                 due = due + 1 if is_terminal else due * 2
             if is_terminal and due > 1:
                 print(file=out, flush=True)

@@ -12,6 +12,8 @@ from .literals import Edge, Literal, Predicate, listed, one_line, printable, who
 from .sums import Sum
 
 if TYPE_CHECKING:
+    from .best import Best
+    from .cores import Core
     from .model import Model
     from .steps import Refutation
 
@@ -201,8 +203,17 @@ class Problem:
         *,
         seconds: float | None = None,
         conflicts: int | None = None,
+        assumptions: Iterable[Literal] = (),
+        workers: int | None = None,
+        rounds: int = 10,
     ) -> Model | Refutation:
         """A model, which is true in an `if`, or a refutation, which is false; `check` has accepted either.
+
+        `assumptions` are up to 1,000 literals that are to be true in this one answer, and aren't clauses of the problem
+        after it; `check-with` judges an answer under them, and `core` says which of them stand against each other.
+
+        With `workers`, from 1 to 8, so many searches take turns and share what they learn, for up to `rounds` rounds,
+        from 1 to 100, in which each learns 1,000 clauses; that is their budget.
 
         The files `problem.gnf` and `answer` are written into `folder`, or into a temporary one that goes again. The
         search stops after `budget` learned clauses, from 1 (100,000 where it is left out; `conflicts` is another name
@@ -218,4 +229,81 @@ class Problem:
         """
         from .solving import solve
 
-        return solve(self, budget if conflicts is None else conflicts, folder, program, progress, seconds)
+        spent = budget if conflicts is None else conflicts
+        return solve(self, spent, folder, program, progress, seconds, assumptions, workers, rounds)
+
+    def core(
+        self,
+        assumptions: Iterable[Literal],
+        folder: str | os.PathLike[str] | None = None,
+        program: str | None = None,
+        progress: bool = True,
+        *,
+        seconds: float | None = None,
+    ) -> Model | Core:
+        """Which of the assumptions can't hold together, with why each is needed; or a model in which all of them hold.
+
+        A core is false in an `if`, a model true. Both are judged by the program: see `Core`. The folder has the files
+        `problem.gnf` and `answer`, and `needed-N` for a need that is a model. Errors are those of `solve`;
+        `BudgetSpent`: a search learned 100,000 clauses before it was known whether the assumptions hold together.
+        """
+        from .cores import core
+
+        return core(self, assumptions, folder, program, progress, seconds)
+
+    def best(
+        self,
+        predicate: Predicate,
+        folder: str | os.PathLike[str] | None = None,
+        program: str | None = None,
+        progress: bool = True,
+        *,
+        seconds: float | None = None,
+    ) -> Best | Refutation:
+        """The best bound of a predicate over all models, a model that attains it, and the proof that none is better.
+
+        Of a flow it is the greatest value, of a distance or a tree the least; the predicate's own bound, and whether
+        it is to hold, don't matter. A refutation, which is false, where there is no model with any bound. The problem
+        stays as it is. `NoBound`: a flow has models with every bound. `BudgetSpent`: a search learned 100,000 clauses.
+        Other errors are those of `solve`.
+        """
+        from .best import best
+
+        return best(self, predicate, folder, program, progress, seconds)
+
+    def minimise(
+        self,
+        total: Sum,
+        folder: str | os.PathLike[str] | None = None,
+        program: str | None = None,
+        progress: bool = True,
+        *,
+        seconds: float | None = None,
+    ) -> Best | Refutation:
+        """The least value of a sum over all models: see `best`. The problem stays as it is."""
+        from .best import minimise
+
+        return minimise(self, total, folder, program, progress, seconds)
+
+    def described(self, literal: Literal) -> str:
+        """The literal in words: the name of its variable, or its predicate or edge; `not ..` where it is a negation."""
+        variable = self.require_own(literal).variable
+        said = next(self.names_of(variable), f"variable {variable}")
+        return said if literal.number > 0 else f"not {said}"
+
+    def names_of(self, variable: int) -> Iterator[str]:
+        """What the variable is called, the best name first."""
+        if variable in self.names:
+            yield self.names[variable]
+        yield from (f"{x} of graph {self.graph_name(x)}" for x in self.predicates if x.variable == variable)
+        yield from (self.edge_name(x) for x in self.edges if x.variable == variable)
+
+    def graph_name(self, thing: Edge | Predicate) -> str:
+        """The name of its graph, or the graph's number."""
+        return self.graphs[thing.graph].name or str(thing.graph)
+
+    def edge_name(self, edge: Edge) -> str:
+        """The edge in words."""
+        names = self.graphs[edge.graph].names
+        ends = (names[node] or str(node) for node in (edge.start, edge.end))
+        return f"edge from {' to '.join(ends)} of graph {self.graph_name(edge)}"

@@ -3,13 +3,14 @@
 from __future__ import annotations
 
 import contextlib
+import importlib.metadata
 import os
 import shutil
 import signal
 import subprocess
 import threading
 import time
-from collections.abc import Iterator
+from collections.abc import Iterator, Sequence
 from pathlib import Path
 from types import FrameType
 from typing import IO
@@ -31,7 +32,8 @@ NO_ANSWER = {
 
 def find(program: str | None = None) -> str:
     """The program's path: the one that is given, that of the environment variable GULFEZO, the script `gulfezo` of the
-    checkout in which this package lies, or `gulfezo` on the PATH, in this order.
+    checkout in which this package lies, the program that was installed with this package, or `gulfezo` on the PATH, in
+    this order.
 
     `ProgramMissing`: there is none.
     """
@@ -44,13 +46,26 @@ def find(program: str | None = None) -> str:
     beside = Path(__file__).resolve().parents[2] / "gulfezo"
     if beside.is_file() and os.access(beside, os.X_OK):
         return str(beside)
-    on_path = shutil.which("gulfezo")
-    if on_path is None:
+    found = installed() or shutil.which("gulfezo")
+    if found is None:
         raise ProgramMissing(
             "the program gulfezo isn't there: set the environment variable GULFEZO to the script `gulfezo` of a "
-            "checkout, or to crates/mono_cmd/out/mono_cmd in it, or put a link to it on the PATH"
+            "checkout, or to crates/mono_cmd/out/mono_cmd in it, or put a link to it on the PATH, or install a wheel "
+            "that holds it (tools/wheel makes one)"
         )
-    return on_path
+    return found
+
+
+def installed() -> str | None:
+    """The program that was installed with this package, where one was: pip has written down where it put it."""
+    try:
+        parts = importlib.metadata.distribution("gulfezo").files or []
+    except importlib.metadata.PackageNotFoundError:
+        return None
+    for part in parts:
+        if part.name == "gulfezo" and part.parent.name == "bin":
+            return shutil.which(os.path.abspath(part.locate()))
+    return None
 
 
 class Terminated(BaseException):
@@ -111,10 +126,16 @@ def end(process: subprocess.Popen[bytes]) -> None:
         process.kill()
 
 
-def verdict(program: str, problem: Path, answer: Path, deadline: float | None = None) -> str:
-    """The line that `check` prints about an answer: `accepted ..`, `rejected ..` or another. `TimeSpent`: see `run`."""
+def verdict(
+    program: str, problem: Path, answer: Path, deadline: float | None = None, literals: Sequence[int] = ()
+) -> str:
+    """The line that `check` prints about an answer: `accepted ..`, `rejected ..` or another. `TimeSpent`: see `run`.
+
+    With literals it is `check-with`, which judges as if each of them were a further clause behind the problem's.
+    """
+    words = [program, "check-with" if literals else "check", str(problem), str(answer), *map(str, literals)]
     read, write = os.pipe()
     with open(read, "rb") as said:
         with open(write, "wb") as out:
-            run([program, "check", str(problem), str(answer)], out, deadline)
+            run(words, out, deadline)
         return said.read().decode("utf-8", "replace").strip()

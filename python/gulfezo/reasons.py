@@ -48,6 +48,8 @@ def explained(said: str, path: Path) -> str:
     if meaning is None or not words[1].isdigit():
         return f" ({said})" if said and words[0] != "rejected" else ""
     where = "" if words[0] == "rejected" else f" ({said})"
+    if int(words[1]) == 0:  # no line is named
+        return f"{where}\n  {meaning}"
     return f"{where}\n  {meaning}\n  line {words[1]} of {path}: {text_of(path, int(words[1]))}"
 
 

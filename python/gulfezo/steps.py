@@ -6,7 +6,7 @@ from array import array
 from collections.abc import Sequence
 from dataclasses import dataclass
 from functools import cached_property
-from typing import Literal as Constant, overload
+from typing import Literal as Constant, Self, overload
 
 from .errors import FormatError
 from .lines import Lines
@@ -47,14 +47,16 @@ class Step:
 class Steps(Sequence[Step]):
     """Steps of an answer by the places of their lines, each read where it is asked for.
 
-    `clauses` is the number of the problem's clauses, which come before those of the steps. `FormatError`: the line of
-    the step that is asked for isn't understood.
+    The line at place k is the step of number `before` + k: the problem's clauses come before those of the steps. With
+    `backwards` a chain's numbers count backwards from its own step in the text; `listed` has those of clauses.
+    `FormatError`: the line of the step that is asked for isn't understood.
     """
 
-    def __init__(self, lines: Lines, places: Sequence[int], clauses: int) -> None:
+    def __init__(self, lines: Lines, places: Sequence[int], before: int, backwards: bool = False) -> None:
         self.lines = lines
         self.places = places
-        self.clauses = clauses
+        self.before = before
+        self.backwards = backwards
 
     def __len__(self) -> int:
         return len(self.places)
@@ -70,7 +72,7 @@ class Steps(Sequence[Step]):
         return self.read(self.places[at])
 
     def read(self, place: int) -> Step:
-        """The step of the line at that place; the status line has place 0."""
+        """The step of the line at that place."""
         word, numbers = self.lines.numbers(place)
         line = self.lines.number(place)
         if word != "chain" and not numbers:
@@ -79,16 +81,19 @@ class Steps(Sequence[Step]):
         if 0 not in numbers:
             raise FormatError(line, "a step's clause ends with 0")
         end = numbers.index(0)
-        return Step(self.clauses + place, line, word, predicate, tuple(numbers[:end]), tuple(numbers[end + 1 :]))
+        own, listed = self.before + place, numbers[end + 1 :]
+        if self.backwards and word == "chain":
+            listed = [max(own - number, 0) for number in listed]
+        return Step(own, line, word, predicate, tuple(numbers[:end]), tuple(listed))
 
     def lemmas(self) -> Steps:
         """Those that speak of graphs."""
         places = array("Q", (place for place in self.places if not self.lines.is_chain(place)))
-        return Steps(self.lines, places, self.clauses)
+        return Steps(self.lines, places, self.before, self.backwards)
 
 
 class Derivation:
-    """Steps, each of which follows from the problem and the steps before it."""
+    """Steps, each of which follows from the problem, what it was assumed with, and the steps before it."""
 
     def __init__(self, problem: Problem, steps: Steps) -> None:
         self.problem = problem
@@ -106,14 +111,30 @@ class Derivation:
 
     def step(self, number: int) -> Step:
         """The step whose clause has that number, as chains name it. `ValueError`: none has."""
-        first = len(self.problem.clauses) + 1
+        first = self.steps.before + (2 if self.steps.backwards else 1)
         if not first <= number < first + len(self.steps):
             raise ValueError(f"no step has the number {number}: they go from {first} to {first + len(self.steps) - 1}")
         return self.steps[number - first]
 
+    def migrate(self, version: int, program: str | None = None) -> Self:
+        """The same steps in version 1 or 2 of the format of answers (docs/FORMATS.md), by the program's `migrate`.
+
+        The program judges the answer against the problem as it is now, and turns only what it accepts.
+        `RejectedAnswer`: it doesn't, as where the problem has grown since. `UnexpectedStatus`: it printed something
+        else. Both name the files, which stay. `ProgramMissing`: there is no program.
+        """
+        from .answer import migrate
+
+        found = migrate(self, version, program)
+        assert isinstance(found, type(self)), "a refutation's migrated text is a refutation, and progress is progress"
+        return found
+
 
 class Refutation(Derivation):
-    """A proof that the problem has no model: its last step is the empty clause."""
+    """A proof that the problem has no model, or none under the assumptions: its last step is the empty clause.
+
+    Each assumption is a clause of its own, numbered behind the problem's.
+    """
 
     def __bool__(self) -> Constant[False]:
         return False

@@ -12,7 +12,13 @@ from helpers import REPOSITORY, program
 PRINTED = {
     "README.md": ["True"],
     "python/README.md": ["True"],
-    "docs/TUTORIAL.md": ["True True [1, 2]", "4 cut ", "5 chain ()"],
+    "docs/TUTORIAL.md": [
+        "True True [1, 2]",
+        "4 cut ",
+        "5 chain ()",
+        "['not edge from ",
+        "True [False, False]",
+    ],
 }
 
 

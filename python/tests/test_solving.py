@@ -36,10 +36,10 @@ def one_variable() -> Problem:
 
 
 def is_over(pid: Path) -> bool:
-    """Whether the process of that number has ended."""
+    """Whether the process of that number has ended; on a busy machine it may have been ended before it wrote it."""
     try:
         os.kill(int(pid.read_text()), 0)
-    except ProcessLookupError:
+    except (ProcessLookupError, FileNotFoundError):
         return True
     return False
 

@@ -3,3 +3,4 @@ pub mod Printing
 pub mod ReadBack
 pub mod RoundTrip
 pub mod SmallSteps
+pub mod Within

@@ -7,6 +7,7 @@ use Rattle.mono_graph.specs.declared.label.Label.{Label}
 use Rattle.mono_graph.specs.declared.amount.Amount.{Amount}
 use Rattle.mono_steps.specs.declared.step.Step.{Step}
 use Rattle.mono_answer.specs.Behind.{behind}
+use Rattle.mono_answer.specs.Versions.{turned, turned_steps}
 use Rattle.mono_answer.specs.Printed.{numbers_text, with_zero, literals_from, literal_of, labels_text, amounts_text, step_line}
 
 pub behind-append : (ts us : List (List ℕ)) → behind (ts ++ us) ≡ behind ts ++ behind us
@@ -18,7 +19,7 @@ spaced-behind t [] = refl
 spaced-behind t (u ∷ us) = ap (λ (s : List ℕ). t ++ 32 ∷ s) (append_assoc u (behind us) (10 ∷ []) ∙ spaced-behind u us)
 
 -- a token, tokens behind it, and a line feed
-end_line : (out t : List ℕ) (ts : List (List ℕ)) → ((out ++ t) ++ behind ts) ++ 10 ∷ [] ≡ out ++ spaced (t ∷ ts)
+pub end_line : (out t : List ℕ) (ts : List (List ℕ)) → ((out ++ t) ++ behind ts) ++ 10 ∷ [] ≡ out ++ spaced (t ∷ ts)
 end_line out t ts = append_assoc (out ++ t) (behind ts) (10 ∷ []) ∙ (append_assoc out t (behind ts ++ 10 ∷ []) ∙ ap (λ (s : List ℕ). out ++ s) (spaced-behind t ts))
 
 pub line_of_two : (out t : List ℕ) (a b : List (List ℕ)) → (((out ++ t) ++ behind a) ++ behind b) ++ 10 ∷ [] ≡ out ++ spaced (t ∷ (a ++ b))
@@ -86,6 +87,32 @@ pub lines_more : (out : List ℕ) (steps : List Step) (i : ℕ) (d : Step) → i
 lines_more out steps i d lt =
     flat_map_more spaced out (map step_line (take i steps)) (step_line (get_or steps i d))
     ∙ ap (λ (ls : List (List (List ℕ))). out ++ flat_map spaced ls) (sym (ap (map step_line) (take_more steps i d lt) ∙ map-append step_line (take i steps) (get_or steps i d ∷ [])))
+
+turned_suc : (m k : ℕ) (ss : List Step) (d : Step) → k < length ss → turned_steps m (take (suc k) ss) ≡ turned_steps m (take k ss) ++ turned (m + k) (get_or ss k d) ∷ []
+turned_suc m k [] d lt = absurd (omega arith)
+turned_suc m zero (s ∷ ss) d lt = let same : m + 0 ≡ m = omega arith in sym (ap (λ (n : ℕ). turned n s ∷ []) same)
+turned_suc m (suc k) (s ∷ ss) d lt =
+    let next : (m + 1) + k ≡ m + suc k = omega arith in
+    ap (λ (ts : List Step). turned m s ∷ ts) (turned_suc (m + 1) k ss d (omega arith) ∙ ap (λ (n : ℕ). turned_steps (m + 1) (take k ss) ++ turned n (get_or ss k d) ∷ []) next)
+
+-- behind the steps before place k, whose first step has the number m
+pub turned_more : (out : List ℕ) (m k : ℕ) (ss : List Step) (d : Step) → k < length ss
+    → (out ++ flat_map spaced (map step_line (turned_steps m (take k ss)))) ++ spaced (step_line (turned (m + k) (get_or ss k d))) ≡ out ++ flat_map spaced (map step_line (turned_steps m (take (k + 1) ss)))
+turned_more out m k ss d lt =
+    let more : k + 1 ≡ suc k = omega arith in
+    flat_map_more spaced out (map step_line (turned_steps m (take k ss))) (step_line (turned (m + k) (get_or ss k d)))
+    ∙ ap (λ (ls : List (List (List ℕ))). out ++ flat_map spaced ls)
+    (sym (ap (λ (j : ℕ). map step_line (turned_steps m (take j ss))) more ∙ ap (map step_line) (turned_suc m k ss d lt) ∙ map-append step_line (turned_steps m (take k ss)) (turned (m + k) (get_or ss k d) ∷ [])))
+
+-- the same, of what a step of the loop over places has
+pub turned_pushed : (out before after : List ℕ) (m n k : ℕ) (ss : List Step) (s d : Step) → k < length ss → n ≡ m + k → s ≡ get_or ss k d → before ≡ out ++ flat_map spaced (map step_line (turned_steps m (take k ss)))
+    → after ≡ before ++ spaced (step_line (turned n s)) → after ≡ out ++ flat_map spaced (map step_line (turned_steps m (take (k + 1) ss)))
+turned_pushed out before after m n k ss s d lt number is there pushed =
+    pushed
+    ∙ ap (λ (t : List ℕ). t ++ spaced (step_line (turned n s))) there
+    ∙ ap (λ (j : ℕ). (out ++ flat_map spaced (map step_line (turned_steps m (take k ss)))) ++ spaced (step_line (turned j s))) number
+    ∙ ap (λ (x : Step). (out ++ flat_map spaced (map step_line (turned_steps m (take k ss)))) ++ spaced (step_line (turned (m + k) x))) is
+    ∙ turned_more out m k ss d lt
 
 pub two_lines : (out : List ℕ) (a b : List (List ℕ)) → (out ++ spaced a) ++ spaced b ≡ out ++ flat_map spaced (a ∷ b ∷ [])
 two_lines out a b = append_assoc out (spaced a) (spaced b) ∙ ap (λ (s : List ℕ). out ++ (spaced a ++ s)) (sym (append-nil (spaced b)))

@@ -1,8 +1,8 @@
 -- The items of an answer's printed text are the answer's items.
 use Rattle.std.proofs.Common.{◌≡◌, ℕ, ◌+◌, ◌-◌, ◌<◌, ◌≤◌, ◌^◌, Bool, true, false, cond, not, ◌&&◌, List, [], ◌∷◌, ◌++◌, length, map, filter, flat_map, Option, Some, option_map, decimal, ℤ, pos, refl, ap, ◌∙◌, arith}
-use Rattle.std.specs.Prelude.{IsTrue, nat_abs, neg_ℤ, if◌then◌else◌, ◌==◌}
+use Rattle.std.specs.Prelude.{IsTrue, nat_le, nat_lt, nat_abs, neg_ℤ, if◌then◌else◌, ◌==◌}
 use Rattle.std.specs.List.{list_all, enumerate_from}
-use Rattle.std.proofs.lemmas.Bool.{and_parts, leb-true, not-true}
+use Rattle.std.proofs.lemmas.Bool.{and_parts, leb-true, ltb-true, not-true}
 use Rattle.std.proofs.lemmas.Int.{ints}
 use Rattle.mono_base.specs.declared.limits.TheConstants.{MAX_VARS, MAX_WITNESS_VALUE}
 use Rattle.mono_text.specs.Text.{is_skipped, lines_of, tokens_of, spaced}
@@ -22,25 +22,28 @@ use Rattle.mono_answer.specs.declared.item.Item.{Item}
 use Rattle.mono_answer.specs.declared.item.Item.TheVariants as item
 use Rattle.mono_answer.specs.declared.answer.Answer.{Answer}
 use Rattle.mono_answer.specs.declared.answer.Answer.TheVariants as answer
-use Rattle.mono_answer.specs.Items.{item_of, items_in, items_of, witness_of, chain_of, lemma_of}
-use Rattle.mono_answer.specs.Printed.{status_line, values_line, literals_from, literal_of, with_zero, numbers_text, labels_text, amounts_text, witness_text, word_for, word_text, step_line, answer_lines, answer_text, answer_items, in_lines, is_literal, is_name, is_value, is_clause_number, is_witness_within, is_step_within, is_within_format}
+use Rattle.mono_answer.specs.declared.version.Version.{Version}
+use Rattle.mono_answer.specs.declared.version.Version.TheVariants as version
+use Rattle.mono_answer.specs.Items.{item_of, items_in, spoken, answer_said_in, items_of, witness_of, chain_of, lemma_of}
+use Rattle.mono_answer.specs.Versions.{is_version_two, items_by, turned_numbers, turned, turned_steps, turned_answer, names_earlier, all_name_earlier, answer_names_earlier}
+use Rattle.mono_answer.specs.Printed.{status_line, values_line, literals_from, literal_of, with_zero, numbers_text, labels_text, amounts_text, witness_text, word_for, word_text, step_line, answer_lines, answer_text, answer_text_as, version_tokens, answer_items, in_lines, in_lines_as, is_literal, is_name, is_value, is_clause_number, is_witness_within, is_step_within, is_within_format, is_within_format_as}
 use Rattle.mono_answer.proofs.ReadBack.{AreSmall, values_read, name_read, literals_read, clause_numbers_read, witness_read}
 
 -- ---- lines of tokens, each of which says an item
 
 -- the items of lines, from line n on
-items_by : ℕ → List (List (List ℕ)) → List (ℕ × Option Item)
-items_by n [] = []
-items_by n (l ∷ ls) = if is_skipped l then items_by (n + 1) ls else (n, item_of l) ∷ items_by (n + 1) ls
+items_on : ℕ → List (List (List ℕ)) → List (ℕ × Option Item)
+items_on n [] = []
+items_on n (l ∷ ls) = if is_skipped l then items_on (n + 1) ls else (n, item_of l) ∷ items_on (n + 1) ls
 
-items_in-by : (n : ℕ) (xs : List (List ℕ)) → items_in (enumerate_from n xs) ≡ items_by n (map tokens_of xs)
-unfolding items_by
-items_in-by n [] = refl
-items_in-by n (x ∷ xs) = by_test (is_skipped (tokens_of x)) (items_in-by (n + 1) xs)
+items_in-on : (n : ℕ) (xs : List (List ℕ)) → items_in (enumerate_from n xs) ≡ items_on n (map tokens_of xs)
+unfolding items_on
+items_in-on n [] = refl
+items_in-on n (x ∷ xs) = by_test (is_skipped (tokens_of x)) (items_in-on (n + 1) xs)
   where
-    by_test : (b : Bool) → items_in (enumerate_from (n + 1) xs) ≡ items_by (n + 1) (map tokens_of xs)
+    by_test : (b : Bool) → items_in (enumerate_from (n + 1) xs) ≡ items_on (n + 1) (map tokens_of xs)
         → map (λ l. (l.0, item_of (tokens_of l.1))) (cond (not b) ((n, x) ∷ filter (λ l. not (is_skipped (tokens_of l.1))) (enumerate_from (n + 1) xs)) (filter (λ l. not (is_skipped (tokens_of l.1))) (enumerate_from (n + 1) xs)))
-        ≡ (if b then items_by (n + 1) (map tokens_of xs) else (n, item_of (tokens_of x)) ∷ items_by (n + 1) (map tokens_of xs))
+        ≡ (if b then items_on (n + 1) (map tokens_of xs) else (n, item_of (tokens_of x)) ∷ items_on (n + 1) (map tokens_of xs))
     by_test true h = h
     by_test false h = ap (λ (is : List (ℕ × Option Item)). (n, item_of (tokens_of x)) ∷ is) h
 
@@ -62,17 +65,52 @@ all_tokens [] (i ∷ is) h = absurd h
 all_tokens (l ∷ ls) [] h = absurd h
 all_tokens (l ∷ ls) (i ∷ is) h = (h.0.tokens, all_tokens ls is h.1)
 
-all_items : (n : ℕ) (ls : List (List (List ℕ))) (is : List Item) → AllSay ls is → items_by n ls ≡ enumerate_from n (map Some is)
-unfolding AllSay items_by
+all_items : (n : ℕ) (ls : List (List (List ℕ))) (is : List Item) → AllSay ls is → items_on n ls ≡ enumerate_from n (map Some is)
+unfolding AllSay items_on
 all_items n [] [] h = refl
 all_items n [] (i ∷ is) h = absurd h
 all_items n (l ∷ ls) [] h = absurd h
 all_items n (l ∷ ls) (i ∷ is) h = rw (h.0.kept, h.0.says, all_items (n + 1) ls is h.1) refl
 
-text_says : (ls : List (List (List ℕ))) (is : List Item) → AllSay ls is → items_of (flat_map spaced ls) ≡ in_lines is
-text_says ls is h =
-    items_in-by 1 (lines_of (flat_map spaced ls))
-    ∙ (ap (items_by 1) (token_lines-spaced ls (all_tokens ls is h)) ∙ all_items 1 ls is h)
+-- the items of an answer's lines, from line n on
+answer_on : ℕ → ℕ → List (List (List ℕ)) → List (ℕ × Option Item)
+answer_on c n [] = []
+answer_on c n (l ∷ ls) = if is_skipped l then answer_on c (n + 1) ls else if is_version_two l then items_by version.Two (c + 1) (items_on (n + 1) ls) else (n, item_of l) ∷ items_on (n + 1) ls
+
+answer_in-on : (c n : ℕ) (xs : List (List ℕ)) → answer_said_in c (spoken (enumerate_from n xs)) ≡ answer_on c n (map tokens_of xs)
+unfolding answer_on
+answer_in-on c n [] = refl
+answer_in-on c n (x ∷ xs) = by_test (is_skipped (tokens_of x)) (answer_in-on c (n + 1) xs)
+  where
+    by_test : (b : Bool) → answer_said_in c (spoken (enumerate_from (n + 1) xs)) ≡ answer_on c (n + 1) (map tokens_of xs)
+        → answer_said_in c (cond (not b) ((n, x) ∷ spoken (enumerate_from (n + 1) xs)) (spoken (enumerate_from (n + 1) xs)))
+        ≡ (if b then answer_on c (n + 1) (map tokens_of xs) else if is_version_two (tokens_of x) then items_by version.Two (c + 1) (items_on (n + 1) (map tokens_of xs)) else (n, item_of (tokens_of x)) ∷ items_on (n + 1) (map tokens_of xs))
+    by_test true h = h
+    by_test false h =
+        ap (λ (is : List (ℕ × Option Item)). if is_version_two (tokens_of x) then items_by version.Two (c + 1) is else (n, item_of (tokens_of x)) ∷ is) (items_in-on (n + 1) xs)
+
+-- in version 1
+first_said : (c : ℕ) (l : List (List ℕ)) (i : Item) (ls : List (List (List ℕ))) (is : List Item) → AllSay (l ∷ ls) (i ∷ is) → is_version_two l ≡ false → answer_on c 1 (l ∷ ls) ≡ in_lines (i ∷ is)
+unfolding AllSay answer_on
+first_said c l i ls is h other = rw (h.0.kept, other, h.0.says, all_items 2 ls is h.1) refl
+
+text_says : (c : ℕ) (l : List (List ℕ)) (ls : List (List (List ℕ))) (i : Item) (is : List Item) → AllSay (l ∷ ls) (i ∷ is) → is_version_two l ≡ false → items_of c (flat_map spaced (l ∷ ls)) ≡ in_lines (i ∷ is)
+text_says c l ls i is h other =
+    answer_in-on c 1 (lines_of (flat_map spaced (l ∷ ls)))
+    ∙ (ap (answer_on c 1) (token_lines-spaced (l ∷ ls) (all_tokens (l ∷ ls) (i ∷ is) h)) ∙ first_said c l i ls is h other)
+
+-- in version 2
+version_are_tokens : AreTokens version_tokens
+version_are_tokens = ((refl, refl, (refl, refl, (refl, refl, (refl, refl, (refl, refl, (refl, refl, (refl, refl, tt))))))), ((refl, refl, tt), tt))
+
+version_first : (c : ℕ) (ls : List (List (List ℕ))) (is : List Item) → AllSay ls is → answer_on c 1 (version_tokens ∷ ls) ≡ items_by version.Two (c + 1) (enumerate_from 2 (map Some is))
+unfolding answer_on
+version_first c ls is h = ap (items_by version.Two (c + 1)) (all_items 2 ls is h)
+
+version_says : (c : ℕ) (ls : List (List (List ℕ))) (is : List Item) → AllSay ls is → items_of c (flat_map spaced (version_tokens ∷ ls)) ≡ items_by version.Two (c + 1) (enumerate_from 2 (map Some is))
+version_says c ls is h =
+    answer_in-on c 1 (lines_of (flat_map spaced (version_tokens ∷ ls)))
+    ∙ (ap (answer_on c 1) (token_lines-spaced (version_tokens ∷ ls) (version_are_tokens, all_tokens ls is h)) ∙ version_first c ls is h)
 
 -- ---- tokens
 
@@ -233,5 +271,41 @@ answer_says (answer.Model values) h = (status_says kind.Model, (values_says valu
 answer_says (answer.Refutation steps) h = (status_says kind.Refutation, steps_say steps h)
 answer_says (answer.Progress steps) h = (status_says kind.Progress, steps_say steps h)
 
-pub printed_is_read : (a : Answer) → IsTrue (is_within_format a) → items_of (answer_text a) ≡ in_lines (answer_items a)
-printed_is_read a h = text_says (answer_lines a) (answer_items a) (answer_says a h)
+pub printed_is_read : (c : ℕ) (a : Answer) → IsTrue (is_within_format a) → items_of c (answer_text a) ≡ in_lines (answer_items a)
+printed_is_read c (answer.Model values) h = text_says c (status_line kind.Model) (values_line values ∷ []) (item.Status kind.Model) (item.Values (with_zero (literals_from 1 values)) ∷ []) (answer_says (answer.Model values) h) refl
+printed_is_read c (answer.Refutation steps) h = text_says c (status_line kind.Refutation) (map step_line steps) (item.Status kind.Refutation) (map item.Step steps) (answer_says (answer.Refutation steps) h) refl
+printed_is_read c (answer.Progress steps) h = text_says c (status_line kind.Progress) (map step_line steps) (item.Status kind.Progress) (map item.Step steps) (answer_says (answer.Progress steps) h) refl
+
+-- ---- numbers counted backwards twice
+
+numbers_twice : (m : ℕ) (ds : List ℕ) → IsTrue (list_all (λ d. nat_le 1 d && nat_lt d m) ds) → turned_numbers m (turned_numbers m ds) ≡ ds
+numbers_twice m [] h = refl
+numbers_twice m (d ∷ ds) h =
+    let p = and_parts (nat_le 1 d && nat_lt d m) (list_all (λ e. nat_le 1 e && nat_lt e m) ds) h in
+    let below : d < m = ltb-true d m (and_parts (nat_le 1 d) (nat_lt d m) p.0).1 in
+    let same : m - (m - d) ≡ d = omega arith in
+    rw (same, numbers_twice m ds p.1) refl
+
+pub turned_twice : (m : ℕ) (s : Step) → IsTrue (names_earlier m s) → turned m (turned m s) ≡ s
+turned_twice m (step.Lemma l) h = refl
+turned_twice m (step.Chain c) h = ap (λ (ds : List ℕ). step.Chain (record { clause = c.clause; used = ds })) (numbers_twice m c.used h)
+
+items_twice : (m n : ℕ) (ss : List Step) → IsTrue (all_name_earlier m ss) → items_by version.Two m (enumerate_from n (map Some (map item.Step (turned_steps m ss)))) ≡ enumerate_from n (map Some (map item.Step ss))
+items_twice m n [] h = refl
+items_twice m n (s ∷ ss) h =
+    let p = and_parts (names_earlier m s) (all_name_earlier (m + 1) ss) h in
+    ap (λ (t : Step). (n, Some (item.Step t)) ∷ items_by version.Two (m + 1) (enumerate_from (n + 1) (map Some (map item.Step (turned_steps (m + 1) ss))))) (turned_twice m s p.0)
+    ∙ ap (λ (ls : List (ℕ × Option Item)). (n, Some (item.Step s)) ∷ ls) (items_twice (m + 1) (n + 1) ss p.1)
+
+turned_is_read : (c : ℕ) (a : Answer) → IsTrue (is_within_format (turned_answer c a)) → IsTrue (answer_names_earlier c a) → items_of c (answer_text_as a version.Two c) ≡ in_lines_as version.Two (answer_items a)
+turned_is_read c (answer.Model values) h k = version_says c (answer_lines (answer.Model values)) (answer_items (answer.Model values)) (answer_says (answer.Model values) h)
+turned_is_read c (answer.Refutation steps) h k =
+    let a = answer.Refutation (turned_steps (c + 1) steps) in
+    version_says c (answer_lines a) (answer_items a) (answer_says a h) ∙ ap (λ (ls : List (ℕ × Option Item)). (2, Some (item.Status kind.Refutation)) ∷ ls) (items_twice (c + 1) 3 steps k)
+turned_is_read c (answer.Progress steps) h k =
+    let a = answer.Progress (turned_steps (c + 1) steps) in
+    version_says c (answer_lines a) (answer_items a) (answer_says a h) ∙ ap (λ (ls : List (ℕ × Option Item)). (2, Some (item.Status kind.Progress)) ∷ ls) (items_twice (c + 1) 3 steps k)
+
+pub version_is_read : (c : ℕ) (a : Answer) (v : Version) → IsTrue (is_within_format_as v c a) → items_of c (answer_text_as a v c) ≡ in_lines_as v (answer_items a)
+version_is_read c a version.One h = printed_is_read c a h
+version_is_read c a version.Two h = let p = and_parts (is_within_format (turned_answer c a)) (answer_names_earlier c a) h in turned_is_read c a p.0 p.1

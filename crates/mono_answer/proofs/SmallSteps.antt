@@ -1,5 +1,5 @@
 -- The labels and amounts that a line gives are at most 2^60.
-use Rattle.std.proofs.Common.{◌≡◌, ℕ, Bool, true, false, not, cond, List, [], ◌∷◌, map, filter, Option, Some, None, option_map, refl, ℤ}
+use Rattle.std.proofs.Common.{◌≡◌, ℕ, ◌+◌, Bool, true, false, not, cond, List, [], ◌∷◌, map, filter, Option, Some, None, option_map, refl, ℤ}
 use Rattle.std.specs.Prelude.{IsTrue, nat_le, nat_lt, if◌then◌else◌, option_and_then, Ok, Err, codes, bytes_eq}
 use Rattle.std.specs.List.{list_all}
 use Rattle.std.specs.Result.{result_ok}
@@ -12,6 +12,7 @@ use Rattle.mono_graph.specs.declared.label.Label.{Label}
 use Rattle.mono_graph.specs.declared.amount.Amount.{Amount}
 use Rattle.mono_steps.specs.declared.lemma.Witness.{Witness}
 use Rattle.mono_steps.specs.declared.lemma.Witness.TheVariants as witness
+use Rattle.mono_steps.specs.declared.step.Step.{Step}
 use Rattle.mono_steps.specs.declared.step.Step.TheVariants as step
 use Rattle.mono_steps.specs.Witnesses.{is_small}
 use Rattle.mono_steps.specs.Steps.{is_small_step}
@@ -20,7 +21,10 @@ use Rattle.mono_answer.specs.declared.word.Word.{Word}
 use Rattle.mono_answer.specs.declared.word.Word.TheVariants as word
 use Rattle.mono_answer.specs.declared.item.Item.{Item}
 use Rattle.mono_answer.specs.declared.item.Item.TheVariants as says
-use Rattle.mono_answer.specs.Items.{name_of, value_of, clause_numbers_of, onto, values_of, names_of, labels_of, amounts_of, literals_of, kind_of, status_of, chain_of, word_of, witness_of, lemma_of, item_of, items_in}
+use Rattle.mono_answer.specs.Items.{name_of, value_of, clause_numbers_of, onto, values_of, names_of, labels_of, amounts_of, literals_of, kind_of, status_of, chain_of, word_of, witness_of, lemma_of, item_of, items_in, said_in, answer_said_in}
+use Rattle.mono_answer.specs.declared.version.Version.{Version}
+use Rattle.mono_answer.specs.declared.version.Version.TheVariants as version
+use Rattle.mono_answer.specs.Versions.{is_version_two, turned, step_by, item_by, number_behind, items_by}
 
 abbrev pub IsSmallItem : Option Item → Type 0
 IsSmallItem (Some (says.Step s)) = IsTrue (is_small_step s)
@@ -172,3 +176,34 @@ lines_small (l ∷ ls) = by_test (not (is_skipped (tokens_of l.1))) (lines_small
     by_test : (b : Bool) → AreSmallLines (items_in ls) → AreSmallLines (map (λ (k : ℕ × List ℕ). (k.0, item_of (tokens_of k.1))) (cond b (l ∷ filter (λ (k : ℕ × List ℕ). not (is_skipped (tokens_of k.1))) ls) (filter (λ (k : ℕ × List ℕ). not (is_skipped (tokens_of k.1))) ls)))
     by_test true h = (item_small (tokens_of l.1), h)
     by_test false h = h
+
+said_small : (lines : List (ℕ × List ℕ)) → AreSmallLines (said_in lines)
+said_small [] = tt
+said_small (l ∷ ls) = (item_small (tokens_of l.1), said_small ls)
+
+turned_small : (m : ℕ) (s : Step) → IsTrue (is_small_step s) → IsTrue (is_small_step (turned m s))
+turned_small m (step.Lemma l) h = h
+turned_small m (step.Chain c) h = h
+
+step_small : (v : Version) (m : ℕ) (s : Step) → IsTrue (is_small_step s) → IsTrue (is_small_step (step_by v m s))
+step_small version.One m s h = h
+step_small version.Two m s h = turned_small m s h
+
+item_by_small : (v : Version) (m : ℕ) (i : Option Item) → IsSmallItem i → IsSmallItem (item_by v m i)
+item_by_small v m None h = tt
+item_by_small v m (Some (says.Status k)) h = tt
+item_by_small v m (Some (says.Values zs)) h = tt
+item_by_small v m (Some (says.Step s)) h = step_small v m s h
+
+pub items_small : (v : Version) (m : ℕ) (ls : List (ℕ × Option Item)) → AreSmallLines ls → AreSmallLines (items_by v m ls)
+items_small v m [] h = tt
+items_small v m ((n, i) ∷ ls) h = (item_by_small v m i h.0, items_small v (number_behind m i) ls h.1)
+
+-- of an answer in either version
+pub answer_small : (c : ℕ) (lines : List (ℕ × List ℕ)) → AreSmallLines (answer_said_in c lines)
+answer_small c [] = tt
+answer_small c (l ∷ ls) = by_test (is_version_two (tokens_of l.1)) (items_small version.Two (c + 1) (said_in ls) (said_small ls)) (said_small (l ∷ ls))
+  where
+    by_test : (b : Bool) → AreSmallLines (items_by version.Two (c + 1) (said_in ls)) → AreSmallLines (said_in (l ∷ ls)) → AreSmallLines (if b then items_by version.Two (c + 1) (said_in ls) else said_in (l ∷ ls))
+    by_test true h k = h
+    by_test false h k = k

@@ -1,5 +1,5 @@
 -- What the lines of an answer say. A line is the list of its tokens.
-use Rattle.std.specs.Prelude.{ℕ, ◌-◌, ◌^◌, not, ℤ, pos, if◌then◌else◌, List, [], ◌∷◌, map, filter, Option, Some, None, option_map, option_and_then, codes, bytes_eq}
+use Rattle.std.specs.Prelude.{ℕ, ◌+◌, ◌-◌, ◌^◌, not, ℤ, pos, if◌then◌else◌, List, [], ◌∷◌, map, filter, Option, Some, None, option_map, option_and_then, codes, bytes_eq}
 use Rattle.std.specs.Result.{result_ok}
 use Rattle.std.specs.Ordering.{int_eq}
 use Rattle.mono_base.specs.declared.limits.TheConstants.{MAX_VARS, MAX_WITNESS_VALUE}
@@ -16,6 +16,8 @@ use Rattle.mono_answer.specs.declared.word.Word.{Word}
 use Rattle.mono_answer.specs.declared.word.Word.TheVariants as word
 use Rattle.mono_answer.specs.declared.item.Item.{Item}
 use Rattle.mono_answer.specs.declared.item.Item.TheVariants as item
+use Rattle.mono_answer.specs.declared.version.Version.TheVariants as version
+use Rattle.mono_answer.specs.Versions.{is_version_two, items_by}
 
 -- ---- numbers, each within its limit
 
@@ -134,11 +136,41 @@ item_of (t ∷ ts) =
     else if bytes_eq t (codes "chain") then chain_of ts
     else option_and_then (λ w. lemma_of w ts) (word_of t)
 
--- ---- answers
+-- ---- lines
 
--- what the lines say that are no blank lines and no comments, each beside its line's number
+-- those that are no blank lines and no comments
+abbrev pub spoken : List (ℕ × List ℕ) → List (ℕ × List ℕ)
+spoken lines = filter (λ l. not (is_skipped (tokens_of l.1))) lines
+
+-- what each line says, beside its number
+abbrev pub said_in : List (ℕ × List ℕ) → List (ℕ × Option Item)
+said_in lines = map (λ l. (l.0, item_of (tokens_of l.1))) lines
+
+-- what the lines say that are no blank lines and no comments, each beside its line's number. Chains' numbers are those that are written
 abbrev pub items_in : List (ℕ × List ℕ) → List (ℕ × Option Item)
-items_in lines = map (λ l. (l.0, item_of (tokens_of l.1))) (filter (λ l. not (is_skipped (tokens_of l.1))) lines)
+items_in lines = said_in (spoken lines)
 
-abbrev pub items_of : List ℕ → List (ℕ × Option Item)
-items_of text = items_in (numbered_from 1 (lines_of text))
+-- ---- answers, given by their lines that are no blank lines and no comments. A version line comes first, or there is none
+
+-- the number of the version line, or 1
+abbrev pub version_line : List (ℕ × List ℕ) → ℕ
+version_line [] = 1
+version_line (l ∷ ls) = if is_version_two (tokens_of l.1) then l.0 else 1
+
+-- the items of an answer to a problem of c clauses. The version line is none of them, and behind it a chain's numbers count backwards
+abbrev pub answer_said_in : ℕ → List (ℕ × List ℕ) → List (ℕ × Option Item)
+answer_said_in c [] = []
+answer_said_in c (l ∷ ls) = if is_version_two (tokens_of l.1) then items_by version.Two (c + 1) (said_in ls) else said_in (l ∷ ls)
+
+-- ---- texts
+
+abbrev pub spoken_of : List ℕ → List (ℕ × List ℕ)
+spoken_of text = spoken (numbered_from 1 (lines_of text))
+
+-- the line that is named where no status line comes: the version line, or line 1
+abbrev pub first_line_of : List ℕ → ℕ
+first_line_of text = version_line (spoken_of text)
+
+-- the items of an answer to a problem of c clauses
+abbrev pub items_of : ℕ → List ℕ → List (ℕ × Option Item)
+items_of c text = answer_said_in c (spoken_of text)

@@ -1,3 +1,4 @@
+pub mod Versions
 pub mod Items
 pub mod Readings
 pub mod Printed

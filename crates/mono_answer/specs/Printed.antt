@@ -18,6 +18,9 @@ use Rattle.mono_answer.specs.declared.item.Item.{Item}
 use Rattle.mono_answer.specs.declared.item.Item.TheVariants as item
 use Rattle.mono_answer.specs.declared.answer.Answer.{Answer}
 use Rattle.mono_answer.specs.declared.answer.Answer.TheVariants as answer
+use Rattle.mono_answer.specs.declared.version.Version.{Version}
+use Rattle.mono_answer.specs.declared.version.Version.TheVariants as version
+use Rattle.mono_answer.specs.Versions.{turned_answer, answer_names_earlier}
 
 -- ---- the lines, as lists of tokens
 
@@ -108,6 +111,14 @@ answer_lines (answer.Progress steps) = status_line kind.Progress ∷ map step_li
 abbrev pub answer_text : Answer → List ℕ
 answer_text a = flat_map spaced (answer_lines a)
 
+abbrev pub version_tokens : List (List ℕ)
+version_tokens = codes "version" ∷ codes "2" ∷ []
+
+-- the text in a version, for a problem of c clauses. In version 2 the version line comes first, and chains' numbers are counted backwards
+abbrev pub answer_text_as : Answer → Version → ℕ → List ℕ
+answer_text_as a version.One c = answer_text a
+answer_text_as a version.Two c = flat_map spaced (version_tokens ∷ answer_lines (turned_answer c a))
+
 -- ---- what it says
 
 abbrev pub answer_items : Answer → List Item
@@ -118,6 +129,11 @@ answer_items (answer.Progress steps) = item.Status kind.Progress ∷ map item.St
 -- one a line, from line 1 on
 abbrev pub in_lines : List Item → List (ℕ × Option Item)
 in_lines items = enumerate_from 1 (map Some items)
+
+-- one a line, behind the version line where there is one
+abbrev pub in_lines_as : Version → List Item → List (ℕ × Option Item)
+in_lines_as version.One items = enumerate_from 1 (map Some items)
+in_lines_as version.Two items = enumerate_from 2 (map Some items)
 
 -- ---- answers that the format can write
 
@@ -155,3 +171,8 @@ abbrev pub is_within_format : Answer → Bool
 is_within_format (answer.Model values) = nat_le (length values) MAX_VARS
 is_within_format (answer.Refutation steps) = list_all is_step_within steps
 is_within_format (answer.Progress steps) = list_all is_step_within steps
+
+-- in a version, for a problem of c clauses
+abbrev pub is_within_format_as : Version → ℕ → Answer → Bool
+is_within_format_as version.One c a = is_within_format a
+is_within_format_as version.Two c a = is_within_format (turned_answer c a) && answer_names_earlier c a

@@ -1,12 +1,18 @@
 //! What is printed is read back.
 
-ghost use Rattle.std.specs.Prelude.{◌≡◌, IsTrue};
+ghost use Rattle.std.specs.Prelude.{◌≡◌, ℕ, IsTrue};
 ghost use Rattle.mono_answer.specs.Items.{items_of};
-ghost use Rattle.mono_answer.specs.Printed.{answer_text, answer_items, in_lines, is_within_format};
+ghost use Rattle.mono_answer.specs.Printed.{answer_text, answer_text_as, answer_items, in_lines, in_lines_as, is_within_format, is_within_format_as};
 ghost use Rattle.mono_answer.specs.declared.answer.Answer.{Answer};
+ghost use Rattle.mono_answer.specs.declared.version.Version.{Version};
 
 /// The items of an answer's printed text are the answer's items, one a line, for every answer whose numbers are within
 /// the format and whose chains name at least one clause.
 pub fn printed_answer_is_read()
-    ensures { (a : Answer) → IsTrue (is_within_format a) → items_of (answer_text a) ≡ in_lines (answer_items a) }
+    ensures { (c : ℕ) (a : Answer) → IsTrue (is_within_format a) → items_of c (answer_text a) ≡ in_lines (answer_items a) }
+{}
+
+/// So are those of its text in either version, which in version 2 begin at line 2, where its chains name earlier clauses.
+pub fn printed_version_is_read()
+    ensures { (c : ℕ) (a : Answer) (v : Version) → IsTrue (is_within_format_as v c a) → items_of c (answer_text_as a v c) ≡ in_lines_as v (answer_items a) }
 {}

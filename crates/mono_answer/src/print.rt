@@ -6,7 +6,7 @@
 ghost use Rattle.std.specs.Prelude.{◌≡◌, ◌+◌, ◌<◌, ◌++◌, ◌∷◌, ◌^◌, [], IfOk, OnOk, decimal, map, flat_map};
 ghost use Rattle.std.specs.Fmt.{signed_decimal};
 ghost use Rattle.mono_text.specs.Text.{spaced};
-ghost use Rattle.mono_answer.specs.Printed.{numbers_text, with_zero, literal_of, labels_text, amounts_text, witness_text, status_line, values_line, step_line, answer_text};
+ghost use Rattle.mono_answer.specs.Printed.{numbers_text, with_zero, literal_of, literals_from, labels_text, amounts_text, witness_text, status_line, values_line, step_line, answer_text};
 ghost use Rattle.mono_steps.specs.declared.step.Step.TheVariants as step;
 ghost use Rattle.mono_answer.specs.declared.answer.Answer.TheVariants as whole;
 ghost use Rattle.mono_answer.specs.Behind.{behind};
@@ -20,7 +20,7 @@ use mono_text::{push_natural, push_signed};
 use std::alloc::{AllocError, Global};
 
 /// A space and the number.
-fn push_number(out: &mut Vec<u8>, number: u64) -> Result<(), AllocError>
+pub(crate) fn push_number(out: &mut Vec<u8>, number: u64) -> Result<(), AllocError>
     ensures { OnOk result (out.new.items ≡ out.old.items ++ behind (decimal number ∷ [])) }
 {
     out.push(b' ')?;
@@ -38,7 +38,7 @@ fn push_lit(out: &mut Vec<u8>, lit: Lit) -> Result<(), AllocError>
 }
 
 /// A space and each literal, and the ending 0.
-fn push_lits(out: &mut Vec<u8>, lits: &[Lit]) -> Result<(), AllocError>
+pub fn push_lits(out: &mut Vec<u8>, lits: &[Lit]) -> Result<(), AllocError>
     ensures { OnOk result (out.new.items ≡ out.old.items ++ behind (numbers_text (with_zero lits.now))) }
 {
     for lit in lits {
@@ -104,7 +104,7 @@ fn push_witness(out: &mut Vec<u8>, witness: &Witness) -> Result<(), AllocError>
 }
 
 /// The line of a lemma.
-fn push_lemma(out: &mut Vec<u8>, lemma: &Lemma) -> Result<(), AllocError>
+pub(crate) fn push_lemma(out: &mut Vec<u8>, lemma: &Lemma) -> Result<(), AllocError>
     ensures { OnOk result (out.new.items ≡ out.old.items ++ spaced (step_line (step.Lemma lemma.now))) }
 {
     out.extend_from_slice(word_for(&lemma.witness).text())?;
@@ -126,7 +126,8 @@ fn push_chain(out: &mut Vec<u8>, chain: &Chain) -> Result<(), AllocError>
     Ok(())
 }
 
-fn push_step(out: &mut Vec<u8>, step: &Step) -> Result<(), AllocError>
+/// Appends the line of a step.
+pub fn push_step(out: &mut Vec<u8>, step: &Step) -> Result<(), AllocError>
     ensures { OnOk result (out.new.items ≡ out.old.items ++ spaced (step_line step.now)) }
 {
     match step {
@@ -144,7 +145,8 @@ fn push_steps(out: &mut Vec<u8>, steps: &[Step]) -> Result<(), AllocError>
     Ok(())
 }
 
-fn push_status(out: &mut Vec<u8>, kind: Kind) -> Result<(), AllocError>
+/// Appends the status line.
+pub fn push_status(out: &mut Vec<u8>, kind: Kind) -> Result<(), AllocError>
     ensures { OnOk result (out.new.items ≡ out.old.items ++ spaced (status_line kind)) }
 {
     out.extend_from_slice(b"s ")?;
@@ -166,19 +168,29 @@ fn push_literal(out: &mut Vec<u8>, place: usize, value: bool) -> Result<(), Allo
     Ok(())
 }
 
+/// Appends a space and each literal that the values make true, from variable 1 on, and the ending 0.
+pub fn push_literals(out: &mut Vec<u8>, values: &[bool]) -> Result<(), AllocError>
+    ensures { OnOk result (out.new.items ≡ out.old.items ++ behind (numbers_text (with_zero (literals_from 1 values.now)))) }
+{
+    for place in 0..values.len() {
+        push_literal(out, place, values[place])?;
+    }
+    out.extend_from_slice(b" 0")?;
+    Ok(())
+}
+
 /// The line of all values, from variable 1 on.
 fn push_values(out: &mut Vec<u8>, values: &[bool]) -> Result<(), AllocError>
     ensures { OnOk result (out.new.items ≡ out.old.items ++ spaced (values_line values.now)) }
 {
     out.push(b'v')?;
-    for place in 0..values.len() {
-        push_literal(out, place, values[place])?;
-    }
-    out.extend_from_slice(b" 0\n")?;
+    push_literals(out, values)?;
+    out.push(b'\n')?;
     Ok(())
 }
 
-fn push_model(out: &mut Vec<u8>, values: &[bool]) -> Result<(), AllocError>
+/// Appends the text of a model.
+pub fn push_model(out: &mut Vec<u8>, values: &[bool]) -> Result<(), AllocError>
     ensures { OnOk result (out.new.items ≡ out.old.items ++ answer_text (whole.Model values.now)) }
 {
     push_status(out, Kind::Model)?;
@@ -186,7 +198,8 @@ fn push_model(out: &mut Vec<u8>, values: &[bool]) -> Result<(), AllocError>
     Ok(())
 }
 
-fn push_claim(out: &mut Vec<u8>, kind: Kind, steps: &[Step]) -> Result<(), AllocError>
+/// Appends the status line, and the lines of the steps.
+pub fn push_claim(out: &mut Vec<u8>, kind: Kind, steps: &[Step]) -> Result<(), AllocError>
     ensures { OnOk result (out.new.items ≡ out.old.items ++ flat_map spaced (status_line kind ∷ map step_line steps.now)) }
 {
     push_status(out, kind)?;

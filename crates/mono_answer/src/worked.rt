@@ -8,9 +8,11 @@ ghost use Rattle.mono_answer.specs.declared.kind.Kind.TheVariants as kind;
 ghost use Rattle.mono_answer.specs.declared.item.Item.TheVariants as item;
 ghost use Rattle.mono_answer.specs.declared.item.ItemRefusal.TheVariants as refusal;
 ghost use Rattle.mono_answer.specs.declared.answer.Answer.TheVariants as answer;
-ghost use Rattle.mono_answer.specs.Items.{item_of, items_of};
+ghost use Rattle.mono_answer.specs.declared.version.Version.TheVariants as version;
+ghost use Rattle.mono_answer.specs.Items.{item_of, items_of, first_line_of};
+ghost use Rattle.mono_answer.specs.Versions.{is_version_two, turned, answer_names_earlier};
 ghost use Rattle.mono_answer.specs.Readings.{IsReading};
-ghost use Rattle.mono_answer.specs.Printed.{answer_text, answer_items, in_lines, is_within_format, is_step_within};
+ghost use Rattle.mono_answer.specs.Printed.{answer_text, answer_text_as, answer_items, in_lines, is_within_format, is_within_format_as, is_step_within};
 
 /// Status lines, and lines of values.
 pub fn status_and_values()
@@ -74,7 +76,7 @@ pub fn chain_lines()
 
 /// The items of a text, and what reading one of its lines gives.
 pub fn items_of_texts()
-    ensures numbered { items_of (codes "c x\n\ns UNKNOWN\nchain\n") ≡ (3, Some (item.Status kind.Progress)) ∷ (4, None) ∷ [] }
+    ensures numbered { items_of 0 (codes "c x\n\ns UNKNOWN\nchain\n") ≡ (3, Some (item.Status kind.Progress)) ∷ (4, None) ∷ [] }
     ensures blank { IsReading (tokens_of (codes " ")) (Ok None) }
     ensures comment { IsReading (tokens_of (codes "c 1")) (Ok None) }
     ensures item { IsReading (tokens_of (codes "v")) (Ok (Some (item.Values []))) }
@@ -113,4 +115,48 @@ pub fn answers_within_the_format()
     ensures steps { is_within_format (answer.Progress (step.Chain (record { clause = []; used = [] }) ∷ [])) ≡ false }
     ensures all_steps { is_within_format (answer.Refutation (step.Chain (record { clause = []; used = 1 ∷ [] }) ∷ step.Chain (record { clause = []; used = [] }) ∷ [])) ≡ false }
     ensures values { is_within_format (answer.Model (true ∷ [])) ≡ true }
+{}
+
+/// Version lines, and lines that are none.
+pub fn version_lines()
+    ensures exact { is_version_two (tokens_of (codes " version\t2\r")) ≡ true }
+    ensures one { is_version_two (tokens_of (codes "version 1")) ≡ false }
+    ensures three { is_version_two (tokens_of (codes "version 3")) ≡ false }
+    ensures leading_zero { is_version_two (tokens_of (codes "version 02")) ≡ false }
+    ensures no_number { is_version_two (tokens_of (codes "version")) ≡ false }
+    ensures long { is_version_two (tokens_of (codes "version 2 2")) ≡ false }
+    ensures capital { is_version_two (tokens_of (codes "Version 2")) ≡ false }
+    ensures blank { is_version_two (tokens_of []) ≡ false }
+    ensures no_item { item_of (tokens_of (codes "version 2")) ≡ None }
+{}
+
+/// Items of answers of version 2: a chain's numbers count backwards from its step, and lemmas are steps too.
+pub fn items_of_version_two()
+    ensures turned { items_of 3 (codes "version 2\ns UNKNOWN\nchain 1 0 1 3\n") ≡ (2, Some (item.Status kind.Progress)) ∷ (3, Some (item.Step (step.Chain (record { clause = pos 1 ∷ []; used = 3 ∷ 1 ∷ [] })))) ∷ [] }
+    ensures as_written { items_of 3 (codes "s UNKNOWN\nchain 1 0 1 3\n") ≡ (1, Some (item.Status kind.Progress)) ∷ (2, Some (item.Step (step.Chain (record { clause = pos 1 ∷ []; used = 1 ∷ 3 ∷ [] })))) ∷ [] }
+    ensures behind_a_lemma { items_of 3 (codes "version 2\ns UNKNOWN\ntree 1 0\nchain 0 1\n") ≡ (2, Some (item.Status kind.Progress)) ∷ (3, Some (item.Step (step.Lemma (record { atom = 1; clause = []; witness = witness.Tree [] })))) ∷ (4, Some (item.Step (step.Chain (record { clause = []; used = 4 ∷ [] })))) ∷ [] }
+    ensures own_and_beyond { items_of 1 (codes "version 2\ns UNKNOWN\nchain 0 0 2 3 18446744073709551615\n") ≡ (2, Some (item.Status kind.Progress)) ∷ (3, Some (item.Step (step.Chain (record { clause = []; used = 2 ∷ 0 ∷ 0 ∷ 0 ∷ [] })))) ∷ [] }
+    ensures limit { items_of 1 (codes "version 2\ns UNKNOWN\nchain 0 18446744073709551616\n") ≡ (2, Some (item.Status kind.Progress)) ∷ (3, None) ∷ [] }
+    ensures behind_blanks { items_of 1 (codes "c x\n\nversion 2\nc\ns UNKNOWN\n") ≡ (5, Some (item.Status kind.Progress)) ∷ [] }
+    ensures second { items_of 1 (codes "version 2\nversion 2\ns UNKNOWN\n") ≡ (2, None) ∷ (3, Some (item.Status kind.Progress)) ∷ [] }
+    ensures too_late { items_of 1 (codes "s UNKNOWN\nversion 2\n") ≡ (1, Some (item.Status kind.Progress)) ∷ (2, None) ∷ [] }
+    ensures nothing_behind { items_of 1 (codes "version 2\n") ≡ [] }
+    ensures named_line { first_line_of (codes "c\nversion 2\ns UNKNOWN\n") ≡ 2 }
+    ensures line_one { first_line_of (codes "c\ns UNKNOWN\n") ≡ 1 }
+    ensures no_line { first_line_of (codes "c\n") ≡ 1 }
+{}
+
+/// Answers in both versions, and whether their chains name earlier clauses.
+pub fn printed_versions()
+    ensures two { answer_text_as (answer.Refutation (step.Lemma (record { atom = 1; clause = pos 3 ∷ []; witness = witness.Path (1 ∷ 2 ∷ []) }) ∷ step.Chain (record { clause = []; used = 4 ∷ 1 ∷ [] }) ∷ [])) version.Two 3 ≡ codes "version 2\ns UNSATISFIABLE\npath 1 3 0 1 2\nchain 0 1 4\n" }
+    ensures one { answer_text_as (answer.Refutation (step.Chain (record { clause = []; used = 2 ∷ 1 ∷ [] }) ∷ [])) version.One 2 ≡ codes "s UNSATISFIABLE\nchain 0 2 1\n" }
+    ensures model { answer_text_as (answer.Model (true ∷ [])) version.Two 9 ≡ codes "version 2\ns SATISFIABLE\nv 1 0\n" }
+    ensures order_kept { answer_text_as (answer.Progress (step.Chain (record { clause = pos 2 ∷ pos 1 ∷ pos 2 ∷ []; used = 1 ∷ 2 ∷ 1 ∷ [] }) ∷ [])) version.Two 2 ≡ codes "version 2\ns UNKNOWN\nchain 2 1 2 0 2 1 2\n" }
+    ensures earlier { answer_names_earlier 1 (answer.Progress (step.Chain (record { clause = []; used = 1 ∷ [] }) ∷ step.Chain (record { clause = []; used = 2 ∷ 1 ∷ [] }) ∷ [])) ≡ true }
+    ensures own { answer_names_earlier 1 (answer.Progress (step.Chain (record { clause = []; used = 2 ∷ [] }) ∷ [])) ≡ false }
+    ensures zero { answer_names_earlier 1 (answer.Refutation (step.Chain (record { clause = []; used = 0 ∷ [] }) ∷ [])) ≡ false }
+    ensures behind_a_lemma { answer_names_earlier 1 (answer.Refutation (step.Lemma (record { atom = 1; clause = []; witness = witness.Tree [] }) ∷ step.Chain (record { clause = []; used = 2 ∷ [] }) ∷ [])) ≡ true }
+    ensures within { is_within_format_as version.Two 1 (answer.Progress (step.Chain (record { clause = []; used = 1 ∷ [] }) ∷ [])) ≡ true }
+    ensures not_within { is_within_format_as version.Two 1 (answer.Progress (step.Chain (record { clause = []; used = 2 ∷ [] }) ∷ [])) ≡ false }
+    ensures within_one { is_within_format_as version.One 1 (answer.Progress (step.Chain (record { clause = []; used = 2 ∷ [] }) ∷ [])) ≡ true }
 {}

@@ -1,4 +1,5 @@
 pub mod Walked
+pub mod Versions
 pub mod Literals
 pub mod ValueFaults
 pub mod SeenMore
@@ -14,3 +15,9 @@ pub mod ValueRows
 pub mod ModelText
 pub mod Accepted
 mod Questions
+pub mod HeldSteps
+pub mod Tokens
+pub mod BothVersions
+pub mod Shifted
+pub mod Stands
+pub mod ThereAndBack

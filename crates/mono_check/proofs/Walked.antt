@@ -1,8 +1,6 @@
 -- Lines gone through one after the other, with the first at fault deciding.
-use Rattle.std.proofs.Common.{◌≡◌, ℕ, Bool, false, not, cond, map, filter, ◌∙◌, List, [], ◌∷◌, ◌++◌, Option, Some, None, refl, sym, ap, append_assoc, append-nil}
-use Rattle.mono_text.specs.Text.{is_skipped, tokens_of}
+use Rattle.std.proofs.Common.{◌≡◌, ℕ, List, [], ◌∷◌, ◌++◌, Option, Some, None, refl, sym, ap, append_assoc, append-nil}
 use Rattle.mono_answer.specs.declared.item.Item.{Item}
-use Rattle.mono_answer.specs.Items.{item_of, items_in}
 use Rattle.mono_check.specs.declared.reason.Reason.{Reason}
 use Rattle.mono_check.specs.declared.verdict.Verdict.TheVariants as verdict
 use Rattle.mono_check.specs.Lines.{first_fault}
@@ -22,10 +20,3 @@ walked_to_fault fault end before ls n i r e = rw (← e) refl
 
 pub walked_all : (fault : List (ℕ × Option Item) → Option Item → Option Reason) (end : List (ℕ × Option Item) → Outcome) (before : List (ℕ × Option Item)) → walked fault end before [] ≡ end before
 walked_all fault end before = ap end (append-nil before)
-
--- ---- lines of a text
-
-pub next_read : (n : ℕ) (text : List ℕ) (ls : List (ℕ × List ℕ)) (i : Item) → (is_skipped (tokens_of text) ≡ false) × (item_of (tokens_of text) ≡ Some i) → items_in ((n, text) ∷ ls) ≡ (n, Some i) ∷ items_in ls
-next_read n text ls i (kept, says) =
-    ap (λ (b : Bool). map (λ (l : ℕ × List ℕ). (l.0, item_of (tokens_of l.1))) (cond (not b) ((n, text) ∷ filter (λ (l : ℕ × List ℕ). not (is_skipped (tokens_of l.1))) ls) (filter (λ (l : ℕ × List ℕ). not (is_skipped (tokens_of l.1))) ls))) kept
-    ∙ ap (λ (o : Option Item). (n, o) ∷ items_in ls) says

@@ -1,5 +1,5 @@
 -- What an accepted answer is.
-use Rattle.std.specs.Prelude.{◌≡◌, ◌≤◌, ℕ, ℤ, pos, Bool, List, [], ◌∷◌, ◌++◌, map, flat_map, Option, Some, IsTrue}
+use Rattle.std.specs.Prelude.{◌≡◌, ◌≤◌, ℕ, ℤ, pos, Bool, List, [], ◌∷◌, ◌++◌, length, map, flat_map, Option, Some, IsTrue}
 use Rattle.mono_base.specs.Partial.{has_var, is_partial}
 use Rattle.mono_problem.specs.Instance.{Instance}
 use Rattle.mono_steps.specs.ChainSteps.{names_vars}
@@ -11,17 +11,17 @@ use Rattle.mono_answer.specs.declared.item.Item.TheVariants as says
 use Rattle.mono_answer.specs.Items.{items_of}
 use Rattle.mono_check.specs.Values.{model_of}
 
--- the text is a status line of the kind, and these lines behind it
-abbrev pub HasLines : Kind → List ℕ → List (ℕ × Option Item) → Type 0
-HasLines k text ls = (n : ℕ) × (items_of text ≡ (n, Some (says.Status k)) ∷ ls)
+-- the text, of either version, is a status line of the kind and these lines behind it, for a problem of c clauses
+abbrev pub HasLines : ℕ → Kind → List ℕ → List (ℕ × Option Item) → Type 0
+HasLines c k text ls = (n : ℕ) × (items_of c text ≡ (n, Some (says.Status k)) ∷ ls)
 
 -- the item of a step's line
 abbrev pub step_item : Step → Option Item
 step_item s = Some (says.Step s)
 
 -- the text is of this kind, and gives these steps, one a line
-abbrev pub HasSteps : Kind → List ℕ → List Step → Type 0
-HasSteps k text steps = (ls : List (ℕ × Option Item)) × HasLines k text ls × (map (λ l. l.1) ls ≡ map step_item steps)
+abbrev pub HasSteps : ℕ → Kind → List ℕ → List Step → Type 0
+HasSteps c k text steps = (ls : List (ℕ × Option Item)) × HasLines c k text ls × (map (λ l. l.1) ls ≡ map step_item steps)
 
 -- a `v` line with these numbers
 abbrev pub values_item : List ℤ → Option Item
@@ -38,7 +38,7 @@ pub record HasModel (p : Instance) (text : List ℕ) (values : List Bool) : Type
   pub lines : List (ℕ × Option Item)
   pub rows : List (List ℤ)
   pub lits : List ℤ
-  pub behind : HasLines kind.Model text lines
+  pub behind : HasLines (length p.clauses) kind.Model text lines
   pub alone : map (λ l. l.1) lines ≡ map values_item rows
   pub numbers : flat_map (λ zs. zs) rows ≡ lits ++ pos 0 ∷ []
   pub one_each : AreValues p lits

@@ -2,7 +2,6 @@
 use Rattle.std.specs.Prelude.{ℕ, ◌+◌, Bool, List, ◌++◌}
 use Rattle.mono_text.specs.Text.{lines_of, numbered_from}
 use Rattle.mono_problem.specs.Instance.{Instance}
-use Rattle.mono_answer.specs.Items.{items_in}
 use Rattle.mono_check.specs.SoFar.{SoFar, behind}
 use Rattle.mono_check.specs.Verdicts.{Outcome}
 
@@ -14,7 +13,7 @@ pub record Judging : Type 0 where
 
 -- what the answer comes to where these bytes follow, and no others
 abbrev pub later_by : Instance → Judging → List ℕ → Outcome
-later_by p j rest = behind p j.so_far (items_in (numbered_from (j.lines + 1) (lines_of (j.unfinished ++ rest))))
+later_by p j rest = behind p j.so_far (numbered_from (j.lines + 1) (lines_of (j.unfinished ++ rest)))
 
 -- what contracts see of a checker: the problem, what the bytes so far come to, how many they are, and whether memory was found for all of them
 pub record Checking : Type 0 where

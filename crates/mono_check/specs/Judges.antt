@@ -1,11 +1,11 @@
 -- What the checker keeps between two pieces.
-use Rattle.std.specs.Prelude.{◌≡◌, ◌≤◌, ℕ, ◌+◌, ◌^◌, Bool, false, List, All, IsTrue, length}
+use Rattle.std.specs.Prelude.{◌≡◌, ◌≤◌, ℕ, ◌+◌, ◌^◌, Bool, true, false, List, All, IsTrue, length}
 use Rattle.mono_text.specs.Text.{is_line_feed}
 use Rattle.mono_problem.specs.Instance.{Instance}
 use Rattle.mono_check.specs.declared.said.Said.{Said}
 use Rattle.mono_check.specs.declared.said.Said.TheVariants as said
 use Rattle.mono_check.specs.declared.judge.Judge.{Judge}
-use Rattle.mono_check.specs.SoFar.{SoFar, Nothing, OfModel, OfSteps, AtFault}
+use Rattle.mono_check.specs.SoFar.{SoFar, Nothing, OfVersion, OfModel, OfSteps, AtFault}
 use Rattle.mono_check.specs.Checking.{Judging}
 use Rattle.mono_check.specs.Seen.{model_kept, steps_kept, AreValuesKept, AreStepsKept}
 
@@ -14,13 +14,22 @@ use Rattle.mono_check.specs.Seen.{model_kept, steps_kept, AreValuesKept, AreStep
 abbrev pub so_far : Said → SoFar
 so_far said.Nothing = Nothing
 so_far (said.Values status v) = OfModel (model_kept status v)
-so_far (said.Steps refutes status s) = OfSteps refutes (steps_kept status s)
+so_far (said.Version line) = OfVersion line
+so_far (said.Steps version refutes status s) = OfSteps version refutes (steps_kept status s)
 so_far (said.Fault line r) = AtFault line r
+
+-- no line but blank ones and comments was there
+abbrev pub is_nothing : Said → Bool
+is_nothing said.Nothing = true
+is_nothing s = false
+
+abbrev pub IsBegun : Said → Type 0
+IsBegun s = is_nothing s ≡ false
 
 -- what is kept is what it has to be
 abbrev pub IsSound : Instance → Said → Type 0
 IsSound p (said.Values status v) = AreValuesKept p v
-IsSound p (said.Steps refutes status s) = AreStepsKept p s
+IsSound p (said.Steps version refutes status s) = AreStepsKept p s
 IsSound p s = Unit {0}
 
 -- ---- the judge

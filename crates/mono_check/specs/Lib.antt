@@ -13,3 +13,5 @@ pub mod SoFar
 pub mod Checking
 pub mod Judges
 pub mod FromShelf
+pub mod Held
+pub mod Migrations

@@ -1,10 +1,14 @@
 -- What the lines so far have said, as the checker keeps it, and what the lines behind them come to.
-use Rattle.std.specs.Prelude.{ℕ, ◌+◌, ℤ, Bool, true, false, if◌then◌else◌, List, [], ◌∷◌, ◌++◌, Option, Some, None, option_map, is_some}
+use Rattle.std.specs.Prelude.{ℕ, ◌+◌, ℤ, Bool, true, false, if◌then◌else◌, List, [], ◌∷◌, ◌++◌, length, Option, Some, None, option_map, is_some}
 use Rattle.std.specs.Option.{option_or}
 use Rattle.mono_problem.specs.Instance.{Instance}
 use Rattle.mono_steps.specs.Steps.{clause_of, is_empty_chain}
 use Rattle.mono_answer.specs.declared.item.Item.{Item}
 use Rattle.mono_answer.specs.declared.item.Item.TheVariants as says
+use Rattle.mono_answer.specs.declared.version.Version.{Version}
+use Rattle.mono_answer.specs.declared.version.Version.TheVariants as version
+use Rattle.mono_answer.specs.Versions.{items_by}
+use Rattle.mono_answer.specs.Items.{spoken, version_line, answer_said_in, items_in}
 use Rattle.mono_check.specs.declared.reason.Reason.{Reason}
 use Rattle.mono_check.specs.declared.reason.Reason.TheVariants as reason
 use Rattle.mono_check.specs.declared.verdict.Verdict.{Verdict}
@@ -26,11 +30,12 @@ pub record StepsSoFar : Type 0 where
   pub ends_empty : Bool
   pub last : ℕ
 
--- no line but blank ones and comments; a status line and what follows it, where steps say whether they are to be a refutation; or a line at fault, and why
+-- no line but blank ones and comments; the version line, by its number; a status line and what follows it, where steps say how their chains count and whether they are to be a refutation; or a line at fault, and why
 pub data SoFar : Type 0 where
   Nothing : SoFar
+  OfVersion : ℕ → SoFar
   OfModel : ModelSoFar → SoFar
-  OfSteps : Bool → StepsSoFar → SoFar
+  OfSteps : Version → Bool → StepsSoFar → SoFar
   AtFault : ℕ → Reason → SoFar
 
 -- the lines, where a fault of the first decides
@@ -71,9 +76,19 @@ steps_behind p refutes s ((n, i) ∷ ls) = or_fault n (step_line_fault p s.claus
 
 -- ---- answers
 
--- what the answer comes to where these are the lines behind, blank ones and comments left out
-abbrev pub behind : Instance → SoFar → List (ℕ × Option Item) → Outcome
-behind p Nothing ls = items_outcome p ls
-behind p (OfModel m) ls = model_behind p m ls
-behind p (OfSteps refutes s) ls = steps_behind p refutes s ls
-behind p (AtFault n r) ls = Decided (verdict.Rejected n r)
+-- the number of the next step behind steps with these clauses
+abbrev pub next_number : Instance → List (List ℤ) → ℕ
+next_number p earlier = length p.clauses + length earlier + 1
+
+-- what the answer comes to where these are the items behind, as they are written, and no version line comes
+abbrev pub behind_items : Instance → SoFar → List (ℕ × Option Item) → Outcome
+behind_items p Nothing ls = items_outcome p 1 ls
+behind_items p (OfVersion n) ls = items_outcome p n (items_by version.Two (length p.clauses + 1) ls)
+behind_items p (OfModel m) ls = model_behind p m ls
+behind_items p (OfSteps v refutes s) ls = steps_behind p refutes s (items_by v (next_number p s.clauses) ls)
+behind_items p (AtFault n r) ls = Decided (verdict.Rejected n r)
+
+-- what the answer comes to where these are the lines behind. A version line may come where there was no other line
+abbrev pub behind : Instance → SoFar → List (ℕ × List ℕ) → Outcome
+behind p Nothing lines = items_outcome p (version_line (spoken lines)) (answer_said_in (length p.clauses) (spoken lines))
+behind p s lines = behind_items p s (items_in lines)

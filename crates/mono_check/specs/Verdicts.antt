@@ -1,5 +1,5 @@
 -- The verdict on an answer. Whether a predicate holds isn't computed, so what a text comes to is a verdict, or values that the predicates decide on.
-use Rattle.std.specs.Prelude.{◌≡◌, ℕ, Bool, true, false, List, [], ◌∷◌, if◌then◌else◌, Option, Some, None}
+use Rattle.std.specs.Prelude.{◌≡◌, ℕ, Bool, true, false, List, [], ◌∷◌, length, if◌then◌else◌, Option, Some, None}
 use Rattle.mono_base.specs.Literal.{value_in}
 use Rattle.mono_problem.specs.Instance.{Instance}
 use Rattle.mono_problem.specs.Holds.{Agrees}
@@ -7,7 +7,7 @@ use Rattle.mono_steps.specs.Steps.{ends_empty}
 use Rattle.mono_answer.specs.declared.kind.Kind.TheVariants as kind
 use Rattle.mono_answer.specs.declared.item.Item.{Item}
 use Rattle.mono_answer.specs.declared.item.Item.TheVariants as says
-use Rattle.mono_answer.specs.Items.{items_of}
+use Rattle.mono_answer.specs.Items.{items_of, first_line_of}
 use Rattle.mono_check.specs.declared.reason.Reason.{Reason}
 use Rattle.mono_check.specs.declared.reason.Reason.TheVariants as reason
 use Rattle.mono_check.specs.declared.verdict.Verdict.{Verdict}
@@ -61,16 +61,17 @@ steps_outcome p refutes n ls = or_rejected (first_fault (steps_line_fault p) [] 
 
 -- ---- answers
 
-abbrev pub items_outcome : Instance → List (ℕ × Option Item) → Outcome
-items_outcome p [] = Decided (verdict.Rejected 1 reason.NotAnswer)
-items_outcome p ((n, Some (says.Status kind.Model)) ∷ ls) = model_outcome p n ls
-items_outcome p ((n, Some (says.Status kind.Refutation)) ∷ ls) = steps_outcome p true n ls
-items_outcome p ((n, Some (says.Status kind.Progress)) ∷ ls) = steps_outcome p false n ls
-items_outcome p ((n, i) ∷ ls) = Decided (verdict.Rejected n reason.NotAnswer)
+-- what the items come to. Line m is named where there are none
+abbrev pub items_outcome : Instance → ℕ → List (ℕ × Option Item) → Outcome
+items_outcome p m [] = Decided (verdict.Rejected m reason.NotAnswer)
+items_outcome p m ((n, Some (says.Status kind.Model)) ∷ ls) = model_outcome p n ls
+items_outcome p m ((n, Some (says.Status kind.Refutation)) ∷ ls) = steps_outcome p true n ls
+items_outcome p m ((n, Some (says.Status kind.Progress)) ∷ ls) = steps_outcome p false n ls
+items_outcome p m ((n, i) ∷ ls) = Decided (verdict.Rejected n reason.NotAnswer)
 
--- what the text of an answer to the problem comes to
+-- what the text of an answer to the problem comes to, in either version
 abbrev pub outcome_of : Instance → List ℕ → Outcome
-outcome_of p text = items_outcome p (items_of text)
+outcome_of p text = items_outcome p (first_line_of text) (items_of (length p.clauses) text)
 
 -- ---- the verdict
 

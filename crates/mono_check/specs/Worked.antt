@@ -6,6 +6,10 @@ use Rattle.mono_check.specs.Checking.{later}
 use Rattle.mono_check.specs.SoFar.{SoFar}
 use Rattle.mono_check.specs.Verdicts.{Outcome, outcome_of}
 
+-- the problem of the variables 1 to `vars` without clauses
+abbrev pub alone : ℕ → Instance
+alone vars = record { vars = vars; graphs = []; atoms = []; clauses = [] }
+
 -- over the problem of these clauses and the variables 1 to `vars`
 abbrev pub judged : ℕ → List (List ℤ) → List ℕ → Outcome
 judged vars cs text = outcome_of (record { vars = vars; graphs = []; atoms = []; clauses = cs }) text

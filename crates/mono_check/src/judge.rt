@@ -3,18 +3,19 @@
 //! The names of the function `verdict` and the type `Verdict` differ only in case, so the two can't stand in one module:
 //! the function has this one.
 
-ghost use Rattle.std.specs.Prelude.{◌≡◌, ◌≤◌, ◌<◌, ◌+◌, ◌^◌, ◌++◌, ◌∷◌, [], ℕ, List, IfOk, OnOk, IfSome, IfNone, length};
-ghost use Rattle.mono_answer.specs.Items.{items_in};
+ghost use Rattle.std.specs.Prelude.{◌≡◌, ◌≤◌, ◌<◌, ◌+◌, ◌^◌, ◌++◌, ◌∷◌, [], ℕ, false, List, Option, None, IfOk, OnOk, IfSome, IfNone, length};
+ghost use Rattle.mono_text.specs.Text.{is_skipped, tokens_of};
+ghost use Rattle.mono_answer.specs.Items.{item_of};
 ghost use Rattle.mono_problem.specs.Instance.{Instance};
 ghost use Rattle.mono_check.specs.Checking.{later_by};
 ghost use Rattle.mono_check.specs.Judges.{IsKept, IsOneLine, IsSound, judging, size_of, so_far};
 ghost use Rattle.mono_check.specs.SoFar.{behind};
-ghost use Rattle.mono_check.specs.Verdicts.{IsOutcome, IsVerdict, outcome_of};
+ghost use Rattle.mono_check.specs.Verdicts.{IsOutcome, IsVerdict, ended_outcome, outcome_of};
 
 use crate::Verdict;
 use crate::said::Said;
 use memchr::memchr;
-use mono_answer::{ItemReader, ItemRefusal};
+use mono_answer::{ItemReader, ItemRefusal, is_version_line};
 use mono_problem::Problem;
 use mono_text::Line;
 use std::alloc::{AllocError, Global};
@@ -66,14 +67,35 @@ fn judge_line(
 ) -> Result<(), AllocError>
     requires { IsSound problem.now said.old }
     ensures sound { OnOk result (IsSound problem.now said.new) }
-    ensures behind { OnOk result ((ls : List (ℕ × List ℕ)) → behind problem.now (so_far said.new) (items_in ls) ≡ behind problem.now (so_far said.old) (items_in ((line.entry.number, line.entry.text.now) ∷ ls))) }
+    ensures behind { OnOk result ((ls : List (ℕ × List ℕ)) → behind problem.now (so_far said.new) ls ≡ behind problem.now (so_far said.old) ((line.entry.number, line.entry.text.now) ∷ ls)) }
 {
     match reader.read(&line) {
         Ok(None) => Ok(()),
         Ok(Some(item)) => said.add(alloc, reader, problem, line.number, Some(item)),
-        Err(ItemRefusal::BadLine) => said.add(alloc, reader, problem, line.number, None),
+        Err(ItemRefusal::BadLine) => judge_other(alloc, reader, said, problem, line),
         Err(ItemRefusal::Memory) => Err(AllocError),
     }
+}
+
+/// Judges a line that is no item: the version line where it comes first, and otherwise a line at fault.
+fn judge_other(
+    alloc: Global,
+    reader: &mut ItemReader,
+    said: &mut Said,
+    problem: &Problem,
+    line: Line<'_>,
+) -> Result<(), AllocError>
+    requires sound { IsSound problem.now said.old }
+    requires kept { is_skipped (tokens_of line.text.now) ≡ false }
+    requires other { item_of (tokens_of line.text.now) ≡ None }
+    ensures sound { OnOk result (IsSound problem.now said.new) }
+    ensures behind { OnOk result ((ls : List (ℕ × List ℕ)) → behind problem.now (so_far said.new) ls ≡ behind problem.now (so_far said.old) ((line.entry.number, line.entry.text.now) ∷ ls)) }
+{
+    if said.is_nothing() && is_version_line(&line) {
+        *said = Said::Version { line: line.number };
+        return Ok(());
+    }
+    said.add(alloc, reader, problem, line.number, None)
 }
 
 impl Judge {
@@ -158,5 +180,21 @@ impl Judge {
     {
         self.end_text(problem)?;
         self.said.verdict(self.alloc, problem)
+    }
+
+    /// The same, and the values that a model gives to the variables, in their order.
+    pub(crate) fn finish_with_values(
+        mut self,
+        problem: &Problem,
+    ) -> Result<(Verdict, Vec<bool>), AllocError>
+        requires kept { IsKept problem.now self }
+        requires few { size_of self < 2 ^ 63 }
+        ensures verdict { IfOk result (λ found. IsOutcome problem.now (later_by problem.now (judging self) []) found.0) }
+        ensures values { IfOk result (λ found. found.0 ≡ Verdict.Model → (end : Option ℕ) × (last : ℕ) × (later_by problem.now (judging self) [] ≡ ended_outcome problem.now end last found.1.items)) }
+    {
+        self.end_text(problem)?;
+        let verdict = self.said.verdict(self.alloc, problem)?;
+        let values = self.said.values(self.alloc, problem)?;
+        Ok((verdict, values))
     }
 }

@@ -1,6 +1,6 @@
 //! What verdicts show.
 
-ghost use Rattle.std.specs.Prelude.{◌≡◌, ◌↔◌, ℕ, Bool, List, IsTrue};
+ghost use Rattle.std.specs.Prelude.{◌≡◌, ◌↔◌, ◌<◌, ◌^◌, ℕ, Bool, List, IsTrue, length};
 ghost use Rattle.mono_base.specs.Literal.{value_in};
 ghost use Rattle.mono_problem.specs.Instance.{Instance};
 ghost use Rattle.mono_problem.specs.WellFormed.{IsInstance};
@@ -8,7 +8,12 @@ ghost use Rattle.mono_problem.specs.Holds.{HasNoModel, Satisfies};
 ghost use Rattle.mono_steps.specs.Steps.{are_justified, is_refutation};
 ghost use Rattle.mono_steps.specs.declared.step.Step.{Step};
 ghost use Rattle.mono_answer.specs.declared.kind.Kind.TheVariants as kind;
+ghost use Rattle.mono_answer.specs.declared.answer.Answer.{Answer};
+ghost use Rattle.mono_answer.specs.declared.version.Version.TheVariants as version;
+ghost use Rattle.mono_answer.specs.Versions.{answer_names_earlier};
+ghost use Rattle.mono_answer.specs.Printed.{answer_text_as};
 ghost use Rattle.mono_check.specs.Answers.{HasModel, HasSteps};
+ghost use Rattle.mono_check.specs.Migrations.{FitsMemory, MigratesTo, one_line_later};
 ghost use Rattle.mono_check.specs.StepLines.{chain_count};
 ghost use Rattle.mono_check.specs.Verdicts.{IsVerdict};
 ghost use Rattle.mono_check.specs.declared.verdict.Verdict.{Verdict};
@@ -21,13 +26,13 @@ pub fn one_verdict()
 
 /// The verdict is a refutation exactly where the text claims one, and its steps are one.
 pub fn accepted_refutations()
-    ensures { (p : Instance) (text : List ℕ) → IsVerdict p text verdict.Refutation ↔ ((steps : List Step) × HasSteps kind.Refutation text steps × IsTrue (is_refutation p steps)) }
+    ensures { (p : Instance) (text : List ℕ) → IsVerdict p text verdict.Refutation ↔ ((steps : List Step) × HasSteps (length p.clauses) kind.Refutation text steps × IsTrue (is_refutation p steps)) }
 {}
 
 /// The verdict is progress exactly where the text claims it, and its steps are justified. The number is that of the steps
 /// that are chains.
 pub fn accepted_progress()
-    ensures { (p : Instance) (text : List ℕ) (n : ℕ) → IsVerdict p text (verdict.Progress n) ↔ ((steps : List Step) × HasSteps kind.Progress text steps × IsTrue (are_justified p steps) × (n ≡ chain_count steps)) }
+    ensures { (p : Instance) (text : List ℕ) (n : ℕ) → IsVerdict p text (verdict.Progress n) ↔ ((steps : List Step) × HasSteps (length p.clauses) kind.Progress text steps × IsTrue (are_justified p steps) × (n ≡ chain_count steps)) }
 {}
 
 /// The verdict is a model exactly where the text gives values to the variables, and they satisfy the problem.
@@ -43,4 +48,18 @@ pub fn accepted_model_satisfies()
 /// Where a refutation is accepted, no assignment satisfies the problem.
 pub fn accepted_refutation_means_no_model()
     ensures { (p : Instance) (text : List ℕ) → IsInstance p → IsVerdict p text verdict.Refutation → HasNoModel p }
+{}
+
+/// An answer's texts in both versions have the same verdict, but that a rejection names a line further in version 2, where its
+/// chains name numbers from 1 to the one before their own. This is so of every answer that memory holds, also of one with
+/// numbers beyond the format's limits.
+pub fn versions_are_judged_alike()
+    ensures { (p : Instance) (a : Answer) (v : Verdict) → FitsMemory (length p.clauses) a → IsTrue (answer_names_earlier (length p.clauses) a)
+        → IsVerdict p (answer_text_as a version.One (length p.clauses)) v ↔ IsVerdict p (answer_text_as a version.Two (length p.clauses)) (one_line_later v) }
+{}
+
+/// An accepted answer of version 1 in its printed form, which is the text that it is migrated to in version 1, gives the same
+/// bytes again once it was migrated to version 2 and back. The text is no longer than any that memory holds.
+pub fn migrated_there_and_back()
+    ensures { (p : Instance) (text there back : List ℕ) → IsInstance p → length text < 2 ^ 63 → MigratesTo p text version.One text → MigratesTo p text version.Two there → MigratesTo p there version.One back → back ≡ text }
 {}

@@ -16,8 +16,14 @@ mod enabled;
 mod from_shelf;
 /// The verdict on an answer, line by line.
 pub mod judge;
+/// The steps that the text of an answer holds.
+mod held;
 /// What verdicts show.
 pub mod laws;
+/// Answers in the other version of the format.
+mod migration;
+/// What migrating an answer gives.
+mod migrated;
 /// Whether a predicate holds in a part.
 mod predicates;
 /// Predicates on walks, as they are asked of a search.
@@ -30,6 +36,8 @@ mod refusal;
 mod said;
 /// The lines of a refutation and of progress.
 mod step_lines;
+/// Chains whose numbers count backwards.
+mod turning;
 /// The lines of a model.
 mod values;
 /// What the checker says of an answer.
@@ -40,6 +48,8 @@ pub mod worked;
 pub use atoms::first_wrong_atom;
 pub use checker::{Checker, MOST_FED};
 pub use from_shelf::verdict_from;
+pub use migrated::Migrated;
+pub use migration::migrate;
 pub use reason::Reason;
 pub use refusal::CheckRefusal;
 pub use verdict::Verdict;

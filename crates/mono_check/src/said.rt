@@ -1,17 +1,19 @@
 //! What the lines of an answer so far have said.
 
-ghost use Rattle.std.specs.Prelude.{◌≡◌, ◌∷◌, [], ℕ, List, Option, Some, IfOk, OnOk, IsTrue};
+ghost use Rattle.std.specs.Prelude.{◌≡◌, ◌+◌, ◌∷◌, [], ℕ, List, Option, Some, IfOk, OnOk, IsTrue, length};
 ghost use Rattle.mono_problem.specs.Instance.{Instance};
 ghost use Rattle.mono_answer.specs.declared.item.Item.{Item};
 ghost use Rattle.mono_answer.specs.declared.item.Item.TheVariants as says;
-ghost use Rattle.mono_check.specs.Judges.{IsSound, so_far};
-ghost use Rattle.mono_check.specs.SoFar.{behind};
-ghost use Rattle.mono_check.specs.Verdicts.{IsOutcome, items_outcome};
+ghost use Rattle.mono_answer.specs.Versions.{items_by};
+ghost use Rattle.mono_check.specs.Judges.{IsBegun, IsSound, is_nothing, so_far};
+ghost use Rattle.mono_check.specs.SoFar.{behind, behind_items};
+ghost use Rattle.mono_check.specs.Verdicts.{IsOutcome, ended_outcome, items_outcome};
+ghost use Rattle.mono_check.specs.declared.verdict.Verdict.TheVariants as verdict;
 
 use crate::step_lines::StepLines;
 use crate::values::Values;
 use crate::{Reason, Verdict};
-use mono_answer::{Item, ItemReader, Kind};
+use mono_answer::{Item, ItemReader, Kind, Version};
 use mono_problem::Problem;
 use std::alloc::{AllocError, Global};
 
@@ -20,13 +22,18 @@ use std::alloc::{AllocError, Global};
 pub(crate) enum Said {
     /// There was no such line.
     Nothing,
+    /// The version line of version 2, by its number.
+    Version {
+        line: u64,
+    },
     /// The status line of a model, by its number, and values.
     Values {
         status: u64,
         values: Values,
     },
-    /// The status line of steps, which says whether they are to be a refutation, and steps.
+    /// The version, the status line of steps, which says whether they are to be a refutation, and steps.
     Steps {
+        version: Version,
         refutes: bool,
         status: u64,
         steps: StepLines,
@@ -38,10 +45,17 @@ pub(crate) enum Said {
     },
 }
 
-/// Behind a status line of this kind.
-fn begin(alloc: Global, problem: &Problem, number: u64, kind: Kind) -> Result<Said, AllocError>
+/// Behind a status line of this kind, in an answer of this version.
+fn begin(
+    alloc: Global,
+    problem: &Problem,
+    version: Version,
+    number: u64,
+    kind: Kind,
+) -> Result<Said, AllocError>
     ensures sound { IfOk result (IsSound problem.now) }
-    ensures behind { IfOk result (λ said. (ls : List (ℕ × Option Item)) → behind problem.now (so_far said) ls ≡ items_outcome problem.now ((number, Some (says.Status kind)) ∷ ls)) }
+    ensures behind { IfOk result (λ said. (n : ℕ) (ls : List (ℕ × Option Item)) → behind_items problem.now (so_far said) ls ≡ items_outcome problem.now n (items_by version (length problem.now.clauses + 1) ((number, Some (says.Status kind)) ∷ ls))) }
+    ensures begun { IfOk result IsBegun }
 {
     match kind {
         Kind::Model => Ok(Said::Values {
@@ -49,11 +63,13 @@ fn begin(alloc: Global, problem: &Problem, number: u64, kind: Kind) -> Result<Sa
             values: Values::new(alloc, problem)?,
         }),
         Kind::Refutation => Ok(Said::Steps {
+            version,
             refutes: true,
             status: number,
             steps: StepLines::new(alloc, problem)?,
         }),
         Kind::Progress => Ok(Said::Steps {
+            version,
             refutes: false,
             status: number,
             steps: StepLines::new(alloc, problem)?,
@@ -61,18 +77,20 @@ fn begin(alloc: Global, problem: &Problem, number: u64, kind: Kind) -> Result<Sa
     }
 }
 
-/// Behind the first line that is neither blank nor a comment. It is to be a status line.
+/// Behind the first line that is neither blank, a comment nor the version line. It is to be a status line.
 fn first_line(
     alloc: Global,
     problem: &Problem,
+    version: Version,
     number: u64,
     item: Option<Item>,
 ) -> Result<Said, AllocError>
     ensures sound { IfOk result (IsSound problem.now) }
-    ensures behind { IfOk result (λ said. (ls : List (ℕ × Option Item)) → behind problem.now (so_far said) ls ≡ items_outcome problem.now ((number, item) ∷ ls)) }
+    ensures behind { IfOk result (λ said. (n : ℕ) (ls : List (ℕ × Option Item)) → behind_items problem.now (so_far said) ls ≡ items_outcome problem.now n (items_by version (length problem.now.clauses + 1) ((number, item) ∷ ls))) }
+    ensures begun { IfOk result IsBegun }
 {
     match item {
-        Some(Item::Status(kind)) => begin(alloc, problem, number, kind),
+        Some(Item::Status(kind)) => begin(alloc, problem, version, number, kind),
         _ => Ok(Said::Fault {
             line: number,
             reason: Reason::NotAnswer,
@@ -83,7 +101,7 @@ fn first_line(
 impl Said {
     /// Whether a line was at fault.
     pub(crate) fn has_fault(&self) -> bool
-        ensures { IsTrue result → (ls : List (ℕ × Option Item)) (ks : List (ℕ × Option Item)) (p : Instance) → behind p (so_far self.now) ls ≡ behind p (so_far self.now) ks }
+        ensures { IsTrue result → (ls : List (ℕ × List ℕ)) (ks : List (ℕ × List ℕ)) (p : Instance) → behind p (so_far self.now) ls ≡ behind p (so_far self.now) ks }
     {
         match self {
             Said::Fault { line: _, reason: _ } => true,
@@ -91,7 +109,18 @@ impl Said {
         }
     }
 
-    /// Judges the next line that is neither blank nor a comment. Behind a line at fault nothing is judged.
+    /// Whether there was no line but blank ones and comments.
+    pub(crate) fn is_nothing(&self) -> bool
+        ensures { result ≡ is_nothing self.now }
+    {
+        match self {
+            Said::Nothing => true,
+            _ => false,
+        }
+    }
+
+    /// Judges the next line that is neither blank, a comment nor a version line that comes first. Behind a line at fault nothing
+    /// is judged.
     pub(crate) fn add(
         &mut self,
         alloc: Global,
@@ -102,19 +131,25 @@ impl Said {
     ) -> Result<(), AllocError>
         requires { IsSound problem.now self.old }
         ensures sound { OnOk result (IsSound problem.now self.new) }
-        ensures behind { OnOk result ((ls : List (ℕ × Option Item)) → behind problem.now (so_far self.new) ls ≡ behind problem.now (so_far self.old) ((number, item) ∷ ls)) }
+        ensures behind { OnOk result ((ls : List (ℕ × Option Item)) → behind_items problem.now (so_far self.new) ls ≡ behind_items problem.now (so_far self.old) ((number, item) ∷ ls)) }
+        ensures begun { OnOk result (IsBegun self.new) }
     {
         let fault = match self {
             Said::Nothing => {
-                *self = first_line(alloc, problem, number, item)?;
+                *self = first_line(alloc, problem, Version::One, number, item)?;
+                return Ok(());
+            }
+            Said::Version { line: _ } => {
+                *self = first_line(alloc, problem, Version::Two, number, item)?;
                 return Ok(());
             }
             Said::Values { status: _, values } => values.add(reader, problem, number, item),
             Said::Steps {
+                version,
                 refutes: _,
                 status: _,
                 steps,
-            } => steps.add(reader, problem, number, item)?,
+            } => steps.add(reader, problem, *version, number, item)?,
             Said::Fault { line: _, reason: _ } => return Ok(()),
         };
         if let Some(reason) = fault {
@@ -136,8 +171,13 @@ impl Said {
                 line: 1,
                 reason: Reason::NotAnswer,
             }),
+            Said::Version { line } => Ok(Verdict::Rejected {
+                line: *line,
+                reason: Reason::NotAnswer,
+            }),
             Said::Values { status, values } => values.verdict(alloc, problem, *status),
             Said::Steps {
+                version: _,
                 refutes,
                 status,
                 steps,
@@ -146,6 +186,17 @@ impl Said {
                 line: *line,
                 reason: *reason,
             }),
+        }
+    }
+
+    /// The values that a model's lines give to the variables, in their order; none where they are no model's.
+    pub(crate) fn values(&self, alloc: Global, problem: &Problem) -> Result<Vec<bool>, AllocError>
+        requires { IsSound problem.now self.now }
+        ensures { IfOk result (λ values. IsOutcome problem.now (behind problem.now (so_far self.now) []) verdict.Model → (end : Option ℕ) × (last : ℕ) × (behind problem.now (so_far self.now) [] ≡ ended_outcome problem.now end last values.items)) }
+    {
+        match self {
+            Said::Values { status: _, values } => values.model(alloc, problem),
+            _ => Ok(Vec::new(alloc)),
         }
     }
 }

@@ -7,10 +7,12 @@ ghost use Rattle.std.specs.Prelude.{◌≡◌, ◌≤◌, ℕ, Some, IfOk, IfNon
 ghost use Rattle.mono_answer.specs.declared.item.Item.TheVariants as says;
 ghost use Rattle.mono_check.specs.StepLines.{reason_of, step_line_fault};
 ghost use Rattle.mono_check.specs.Seen.{AreStepsKept, AreStepsAfter, steps_kept};
-ghost use Rattle.mono_check.specs.SoFar.{no_steps, steps_more, steps_so_far};
+ghost use Rattle.mono_answer.specs.Versions.{item_by, step_by};
+ghost use Rattle.mono_check.specs.SoFar.{next_number, no_steps, steps_more, steps_so_far};
 
+use crate::turning::named;
 use crate::{Reason, Verdict};
-use mono_answer::{Item, ItemReader};
+use mono_answer::{Item, ItemReader, Version};
 use mono_problem::Problem;
 use mono_steps::{Chain, Clause, Lemma, Step, StepChecker, StepFault};
 use std::alloc::{AllocError, Global};
@@ -105,21 +107,49 @@ impl StepLines {
         Ok(None)
     }
 
-    /// Judges a line, and adds what it says where it isn't at fault.
+    /// The number of the next step.
+    fn next_number(&self, problem: &Problem) -> u64
+        ensures { result ≡ next_number problem.now self.now.earlier.items }
+    {
+        u64::from(problem.clause_count()) + self.earlier.len() as u64 + 1
+    }
+
+    /// Judges a step, whose chain's numbers are those that are written in an answer of this version.
+    fn add_written(
+        &mut self,
+        reader: &mut ItemReader,
+        problem: &Problem,
+        version: Version,
+        number: u64,
+        step: Step,
+    ) -> Result<Option<Reason>, AllocError>
+        requires { AreStepsKept problem.now self.old }
+        ensures fault { IfOk result (λ reason. reason ≡ step_line_fault problem.now self.old.earlier.items (Some (says.Step (step_by version (next_number problem.now self.old.earlier.items) step)))) }
+        ensures kept { IfOk result (λ reason. IfNone reason (AreStepsKept problem.now self.new)) }
+        ensures more { IfOk result (λ reason. IfNone reason ((n : ℕ) → steps_kept n self.new ≡ steps_more number (Some (says.Step (step_by version (next_number problem.now self.old.earlier.items) step))) (steps_kept n self.old))) }
+    {
+        let own = self.next_number(problem);
+        let step = named(version, own, step);
+        self.add_step(reader, problem, number, step)
+    }
+
+    /// Judges a line, and adds what it says where it isn't at fault. A chain's numbers are those that are written in an answer of
+    /// this version.
     pub(crate) fn add(
         &mut self,
         reader: &mut ItemReader,
         problem: &Problem,
+        version: Version,
         number: u64,
         item: Option<Item>,
     ) -> Result<Option<Reason>, AllocError>
         requires { AreStepsKept problem.now self.old }
-        ensures fault { IfOk result (λ reason. reason ≡ step_line_fault problem.now self.old.earlier.items item) }
+        ensures fault { IfOk result (λ reason. reason ≡ step_line_fault problem.now self.old.earlier.items (item_by version (next_number problem.now self.old.earlier.items) item)) }
         ensures kept { IfOk result (λ reason. IfNone reason (AreStepsKept problem.now self.new)) }
-        ensures more { IfOk result (λ reason. IfNone reason ((n : ℕ) → steps_kept n self.new ≡ steps_more number item (steps_kept n self.old))) }
+        ensures more { IfOk result (λ reason. IfNone reason ((n : ℕ) → steps_kept n self.new ≡ steps_more number (item_by version (next_number problem.now self.old.earlier.items) item) (steps_kept n self.old))) }
     {
         match item {
-            Some(Item::Step(step)) => self.add_step(reader, problem, number, step),
+            Some(Item::Step(step)) => self.add_written(reader, problem, version, number, step),
             _ => Ok(Some(Reason::BadLine)),
         }
     }

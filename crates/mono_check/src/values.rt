@@ -188,6 +188,14 @@ impl Values {
         }
     }
 
+    /// The values of the variables, variable 1 first: those that are literals are true.
+    pub(crate) fn model(&self, alloc: Global, problem: &Problem) -> Result<Vec<bool>, AllocError>
+        requires { self.now.set.vars ≡ problem.now.vars }
+        ensures { IfOk result (λ values. values.items ≡ model_of problem.now self.now.set.members) }
+    {
+        model(alloc, problem, &self.set)
+    }
+
     /// The verdict behind the last line, where no line is at fault. `status` is the status line.
     pub(crate) fn verdict(
         &self,

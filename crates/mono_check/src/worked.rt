@@ -2,9 +2,14 @@
 //! from 1 to a number, and an answer by its text. Of a model the values are told, which the predicates decide on.
 
 ghost use Rattle.std.specs.Prelude.{◌≡◌, [], ◌∷◌, pos, negsuc, codes, true, false, None};
-ghost use Rattle.mono_check.specs.SoFar.{Nothing, OfModel, OfSteps, AtFault, no_steps};
-ghost use Rattle.mono_check.specs.Worked.{judged, left, reached};
+ghost use Rattle.mono_check.specs.SoFar.{Nothing, OfVersion, OfModel, OfSteps, AtFault, no_steps};
+ghost use Rattle.mono_check.specs.Worked.{alone, judged, left, reached};
+ghost use Rattle.mono_check.specs.Migrations.{IsMigrated, has_literals, one_line_later};
+ghost use Rattle.mono_steps.specs.declared.step.Step.TheVariants as step;
+ghost use Rattle.mono_steps.specs.declared.lemma.Witness.TheVariants as witness;
+ghost use Rattle.mono_check.specs.declared.migrated.Migrated.TheVariants as migrated;
 ghost use Rattle.mono_check.specs.Verdicts.{Decided, ValuesIn};
+ghost use Rattle.mono_answer.specs.declared.version.Version.TheVariants as version;
 ghost use Rattle.mono_check.specs.declared.reason.Reason.TheVariants as reason;
 ghost use Rattle.mono_check.specs.declared.verdict.Verdict.TheVariants as verdict;
 
@@ -105,11 +110,47 @@ pub fn worked_pieces()
     ensures number { left Nothing 4 (codes "b") (codes "ad\n") ≡ Decided (verdict.Rejected 5 reason.NotAnswer) }
     ensures returns { left Nothing 0 (codes "s UNKNOWN\r") (codes "\nchain 0 1 2") ≡ Decided (verdict.Progress 1) }
     ensures blank { left Nothing 0 (codes "s UNKNOWN") (codes "\n\n bad") ≡ Decided (verdict.Rejected 3 reason.BadLine) }
-    ensures token { left (OfSteps false (no_steps 1)) 1 (codes "chain 0 1") (codes "2\n") ≡ Decided (verdict.Rejected 2 reason.UnknownNumber) }
+    ensures token { left (OfSteps version.One false (no_steps 1)) 1 (codes "chain 0 1") (codes "2\n") ≡ Decided (verdict.Rejected 2 reason.UnknownNumber) }
     ensures values { left (OfModel (record { lits = pos 1 ∷ []; end = None; last = 2 })) 2 (codes "v") (codes " 0\n") ≡ Decided (verdict.Rejected 3 (reason.ClauseFalse 2)) }
     ensures twice { left (OfModel (record { lits = pos 1 ∷ []; end = None; last = 2 })) 2 (codes "v -1") (codes " 0") ≡ Decided (verdict.Rejected 3 reason.ModelVariables) }
     ensures no_end { left (OfModel (record { lits = pos 1 ∷ []; end = None; last = 2 })) 4 [] (codes "c 0") ≡ Decided (verdict.Rejected 2 reason.BadLine) }
-    ensures steps { left (OfSteps true (record { clauses = (pos 1 ∷ []) ∷ []; chains = 1; ends_empty = false; last = 2 })) 2 (codes "chain 0 ") (codes "3 2") ≡ Decided verdict.Refutation }
-    ensures no_empty_clause { left (OfSteps true (record { clauses = (pos 1 ∷ []) ∷ []; chains = 1; ends_empty = false; last = 2 })) 4 [] [] ≡ Decided (verdict.Rejected 2 reason.NoEmptyClause) }
+    ensures steps { left (OfSteps version.One true (record { clauses = (pos 1 ∷ []) ∷ []; chains = 1; ends_empty = false; last = 2 })) 2 (codes "chain 0 ") (codes "3 2") ≡ Decided verdict.Refutation }
+    ensures no_empty_clause { left (OfSteps version.One true (record { clauses = (pos 1 ∷ []) ∷ []; chains = 1; ends_empty = false; last = 2 })) 4 [] [] ≡ Decided (verdict.Rejected 2 reason.NoEmptyClause) }
     ensures fault { left (AtFault 2 reason.BadLine) 9 (codes "s ") (codes "UNKNOWN\n") ≡ Decided (verdict.Rejected 2 reason.BadLine) }
+{}
+
+/// Worked answers of version 2.
+pub fn worked_versions()
+    ensures refutation { reached (codes "version 2\ns UNSATISFIABLE\npath 1 -1 -2 3 0 1 2\nchain 0 1 4 3 2\n") ≡ Decided verdict.Refutation }
+    ensures forwards { reached (codes "s UNSATISFIABLE\npath 1 -1 -2 3 0 1 2\nchain 0 4 3 2 1\n") ≡ Decided verdict.Refutation }
+    ensures not_backwards { reached (codes "version 2\ns UNSATISFIABLE\npath 1 -1 -2 3 0 1 2\nchain 0 4 3 2 1\n") ≡ Decided (verdict.Rejected 4 reason.ChainStuck) }
+    ensures own_number { reached (codes "version 2\ns UNSATISFIABLE\npath 1 -1 -2 3 0 1 2\nchain 0 0\n") ≡ Decided (verdict.Rejected 4 reason.UnknownNumber) }
+    ensures number_before_the_first { reached (codes "version 2\ns UNSATISFIABLE\npath 1 -1 -2 3 0 1 2\nchain 0 5\n") ≡ Decided (verdict.Rejected 4 reason.UnknownNumber) }
+    ensures progress { judged 2 ((pos 1 ∷ pos 2 ∷ []) ∷ (negsuc 0 ∷ pos 2 ∷ []) ∷ []) (codes "version 2\ns UNKNOWN\nchain 2 0 1 2\nchain 2 0 1\n") ≡ Decided (verdict.Progress 2) }
+    ensures model { judged 2 ((pos 1 ∷ negsuc 1 ∷ []) ∷ []) (codes "version 2\ns SATISFIABLE\nv 1 -2 0\n") ≡ ValuesIn 3 (true ∷ false ∷ []) }
+    ensures version_alone { judged 1 [] (codes "c\nversion 2\n") ≡ Decided (verdict.Rejected 2 reason.NotAnswer) }
+    ensures version_three { judged 1 [] (codes "version 3\ns UNKNOWN\n") ≡ Decided (verdict.Rejected 1 reason.NotAnswer) }
+    ensures leading_zero { judged 1 [] (codes "version 02\ns UNKNOWN\n") ≡ Decided (verdict.Rejected 1 reason.NotAnswer) }
+    ensures twice { judged 1 [] (codes "version 2\nversion 2\ns UNKNOWN\n") ≡ Decided (verdict.Rejected 2 reason.NotAnswer) }
+    ensures too_late { judged 1 [] (codes "s UNKNOWN\nversion 2\n") ≡ Decided (verdict.Rejected 2 reason.BadLine) }
+    ensures pieces { left Nothing 0 (codes "vers") (codes "ion 2\ns UNSATISFIABLE\nchain 0 2 1") ≡ Decided verdict.Refutation }
+    ensures version_kept { left (OfVersion 1) 1 [] (codes "s UNSATISFIABLE\nchain 0 2 1") ≡ Decided verdict.Refutation }
+    ensures nothing_behind { left (OfVersion 3) 4 [] (codes "c\n") ≡ Decided (verdict.Rejected 3 reason.NotAnswer) }
+    ensures steps_kept { left (OfSteps version.Two true (record { clauses = (pos 1 ∷ []) ∷ []; chains = 1; ends_empty = false; last = 3 })) 3 (codes "chain 0 1 ") (codes "2") ≡ Decided verdict.Refutation }
+{}
+
+/// Worked migrations of answers to a problem without clauses or predicates over one variable, and what they don't give.
+pub fn worked_migrations()
+    ensures later { one_line_later (verdict.Rejected 2 reason.BadLine) ≡ verdict.Rejected 3 reason.BadLine }
+    ensures as_it_is { one_line_later (verdict.Progress 2) ≡ verdict.Progress 2 }
+    ensures rejected { IsMigrated (alone 1) (codes "s UNKNOWN\nx\n") version.Two (migrated.Rejected 2 reason.BadLine) }
+    ensures not_rejected { IsMigrated (alone 1) (codes "s UNKNOWN\n") version.Two (migrated.Rejected 1 reason.NotAnswer) → ⊥ }
+    ensures progress { IsMigrated (alone 1) (codes "c\ns UNKNOWN\n") version.Two (migrated.Text (codes "version 2\ns UNKNOWN\n")) }
+{}
+
+/// Worked steps whose chains' literals are literals of the format, and one whose aren't. Lemmas may have any.
+pub fn worked_steps_in_memory()
+    ensures literals { has_literals (step.Chain (record { clause = pos 1 ∷ negsuc 0 ∷ []; used = [] })) ≡ true }
+    ensures zero { has_literals (step.Chain (record { clause = pos 1 ∷ pos 0 ∷ []; used = 1 ∷ [] })) ≡ false }
+    ensures lemma { has_literals (step.Lemma (record { atom = 1; clause = pos 0 ∷ []; witness = witness.Path [] })) ≡ true }
 {}

@@ -1,10 +1,11 @@
 -- Over the same told texts one command comes to one ending, or to answers of `solve` that don't contradict each other.
-use Rattle.std.proofs.Common.{◌≡◌, ◌≢◌, ◌<◌, ◌≤◌, ◌⊎◌, ℕ, Bool, true, false, List, Option, Some, None, IsNone, IsTrue, IfSome, length, refl, sym, ap, subst, ◌∙◌, inl, inr, arith}
+use Rattle.std.proofs.Common.{◌≡◌, ◌≢◌, ◌<◌, ◌≤◌, ◌⊎◌, ℕ, Bool, true, false, List, Option, Some, None, IsNone, IsTrue, IfSome, length, refl, sym, ap, subst, ◌∙◌, inl, inr, arith, ℤ}
 use Rattle.std.specs.Prelude.{IsSomeAnd}
 use Rattle.mono_base.specs.declared.limits.TheConstants.{MAX_INPUT_BYTES, MAX_ANSWER_BYTES}
 use Rattle.mono_base.specs.Literal.{value_in}
 use Rattle.mono_problem.specs.Instance.{Instance}
 use Rattle.mono_problem.specs.WellFormed.{IsInstance}
+use Rattle.mono_problem.specs.Assuming.{assuming, HasRoom}
 use Rattle.mono_steps.proofs.StepTruth.{refutation_excludes}
 use Rattle.mono_gnf.proofs.WellFormedReading.{stands_well_formed}
 use Rattle.mono_answer.specs.declared.answer.Answer.{Answer}
@@ -15,17 +16,35 @@ use Rattle.mono_gnf.specs.Faults.{first_fault}
 use Rattle.mono_gnf.specs.Printed.{printed}
 use Rattle.mono_gnf.specs.Stands.{Stands}
 use Rattle.mono_gnf.specs.declared.fault.GnfFault.{GnfFault}
+use Rattle.mono_answer.specs.declared.version.Version.{Version}
+use Rattle.mono_check.specs.declared.reason.Reason.{Reason}
+use Rattle.mono_check.specs.declared.verdict.Verdict.{Verdict}
+use Rattle.mono_check.specs.declared.verdict.Verdict.TheVariants as verdict
+use Rattle.mono_check.specs.Migrations.{MigratesTo, is_accepted}
+use Rattle.mono_check.specs.Verdicts.{IsVerdict}
 use Rattle.mono_check.proofs.Accepted.{same_verdict}
+use Rattle.mono_check.proofs.Stands.{migrates_once}
+use Rattle.mono_best.specs.Asking.{predicate_of, HasBoundedAtom, HasRoomToAsk}
+use Rattle.mono_best.specs.Bounds.{IsBoundOf}
+use Rattle.mono_best.specs.declared.outcome.BestOutcome.{BestOutcome}
+use Rattle.mono_best.specs.declared.outcome.BestOutcome.TheVariants as bounded
+use Rattle.mono_core.specs.declared.outcome.CoreOutcome.{CoreOutcome}
+use Rattle.mono_core.specs.declared.outcome.CoreOutcome.TheVariants as outcome
 use Rattle.mono_io.specs.Reading.{IsRead, IsTooLong, IsNotRead}
 use Rattle.mono_io.specs.Shelf.{Texts, ShelfView, text_named, Lacks}
 use Rattle.mono_cmd.specs.declared.command.Command.{Command}
 use Rattle.mono_cmd.specs.declared.command.Command.TheVariants as command
-use Rattle.mono_cmd.specs.declared.command.TheConstants.{DEFAULT_BUDGET}
+use Rattle.mono_cmd.specs.declared.command.TheConstants.{DEFAULT_BUDGET, MAX_MIGRATED_BYTES}
 use Rattle.mono_cmd.specs.declared.summary.Summary.{Summary}
 use Rattle.mono_cmd.specs.declared.ending.Ending.{Ending}
 use Rattle.mono_cmd.specs.declared.ending.Ending.TheVariants as ending
-use Rattle.mono_cmd.specs.Runs.{EndsAtText, EndsAtFile, HasProblem, IsJudged, IsSolved, ComesTo, Ends, AreConsistent, AreAlike, IsGenerated, IsSolving}
+use Rattle.mono_cmd.specs.Runs.{EndsAtText, EndsAtFile, WithProblem, HasProblem, IsJudged, IsMigration, IsSolved, IsBeyond, IsNarrowed, IsJudgedWith, IsUnasked, IsBounded, IsAsked, ComesTo, Ends, AreConsistent, AreConsistentOutcomes, AreConsistentBounds, AreAlike, IsGenerated, IsSolving}
 use Rattle.mono_cmd.specs.Solved.{IsAnswer}
+use Rattle.mono_cmd.specs.Teams.{IsTeamed, IsTeamAnswer}
+use Rattle.mono_cmd.specs.declared.asking.AskRefusal.{AskRefusal}
+use Rattle.mono_cmd.specs.declared.asking.AskRefusal.TheVariants as refusal
+use Rattle.mono_cmd.proofs.Cores.{consistent_outcomes}
+use Rattle.mono_cmd.proofs.Bests.{consistent_bounds}
 use Rattle.mono_cmd.proofs.Sound.{same_problem}
 use Rattle.mono_cmd.proofs.Stages.{ends_else}
 
@@ -76,6 +95,9 @@ one_judged p text (ending.Judged v) ending.Memory a b = absurd b
 one_judged p text (ending.Judged v) (ending.Refused line fault) a b = absurd b
 one_judged p text (ending.Judged v) (ending.Solved s) a b = absurd b
 one_judged p text (ending.Judged v) (ending.Printed t) a b = absurd b
+one_judged p text (ending.Judged v) (ending.Narrowed o) a b = absurd b
+one_judged p text (ending.Judged v) (ending.Bounded o) a b = absurd b
+one_judged p text (ending.Judged v) (ending.Unasked r) a b = absurd b
 one_judged p text (ending.Judged v) (ending.Summed s) a b = absurd b
 one_judged p text ending.Words e' a b = absurd a
 one_judged p text ending.ReadFault e' a b = absurd a
@@ -84,7 +106,66 @@ one_judged p text ending.Memory e' a b = absurd a
 one_judged p text (ending.Refused line fault) e' a b = absurd a
 one_judged p text (ending.Solved s) e' a b = absurd a
 one_judged p text (ending.Printed t) e' a b = absurd a
+one_judged p text (ending.Narrowed o) e' a b = absurd a
+one_judged p text (ending.Bounded o) e' a b = absurd a
+one_judged p text (ending.Unasked r) e' a b = absurd a
 one_judged p text (ending.Summed s) e' a b = absurd a
+
+-- ---- migrated answers
+
+never_both : (p : Instance) (text : List ℕ) (v : Version) (other : List ℕ) (n : ℕ) (r : Reason) → MigratesTo p text v other → IsVerdict p text (verdict.Rejected n r) → ⊥
+never_both p text v other n r m is = by_verdict m.verdict (same_verdict p text m.verdict (verdict.Rejected n r) m.judged is) m.accepted
+  where
+    by_verdict : (w : Verdict) → w ≡ verdict.Rejected n r → IsTrue (is_accepted w) → ⊥
+    by_verdict verdict.Model e h = absurd cc
+    by_verdict verdict.Refutation e h = absurd cc
+    by_verdict (verdict.Progress k) e h = absurd cc
+    by_verdict (verdict.Rejected k s) e h = absurd cc
+
+one_migrated : (p : Instance) (text : List ℕ) (v : Version) (e e' : Ending) → IsMigration p text v e → IsMigration p text v e' → e ≡ e'
+one_migrated p text v (ending.Printed s) (ending.Printed t) a b = ap ending.Printed (migrates_once p text v s t a b)
+one_migrated p text v (ending.Printed s) (ending.Judged (verdict.Rejected n r)) a b = absurd (never_both p text v s n r a b)
+one_migrated p text v (ending.Judged (verdict.Rejected n r)) (ending.Printed t) a b = absurd (never_both p text v t n r b a)
+one_migrated p text v (ending.Judged (verdict.Rejected n r)) (ending.Judged (verdict.Rejected m s)) a b = ap ending.Judged (same_verdict p text (verdict.Rejected n r) (verdict.Rejected m s) a b)
+one_migrated p text v (ending.Printed s) ending.Words a b = absurd b
+one_migrated p text v (ending.Printed s) ending.ReadFault a b = absurd b
+one_migrated p text v (ending.Printed s) ending.TooLong a b = absurd b
+one_migrated p text v (ending.Printed s) ending.Memory a b = absurd b
+one_migrated p text v (ending.Printed s) (ending.Refused line fault) a b = absurd b
+one_migrated p text v (ending.Printed s) (ending.Solved reply) a b = absurd b
+one_migrated p text v (ending.Printed s) (ending.Summed sum) a b = absurd b
+one_migrated p text v (ending.Printed s) (ending.Narrowed o) a b = absurd b
+one_migrated p text v (ending.Printed s) (ending.Bounded o) a b = absurd b
+one_migrated p text v (ending.Printed s) (ending.Unasked r) a b = absurd b
+one_migrated p text v (ending.Printed s) (ending.Judged verdict.Model) a b = absurd b
+one_migrated p text v (ending.Printed s) (ending.Judged verdict.Refutation) a b = absurd b
+one_migrated p text v (ending.Printed s) (ending.Judged (verdict.Progress k)) a b = absurd b
+one_migrated p text v (ending.Judged (verdict.Rejected n r)) ending.Words a b = absurd b
+one_migrated p text v (ending.Judged (verdict.Rejected n r)) ending.ReadFault a b = absurd b
+one_migrated p text v (ending.Judged (verdict.Rejected n r)) ending.TooLong a b = absurd b
+one_migrated p text v (ending.Judged (verdict.Rejected n r)) ending.Memory a b = absurd b
+one_migrated p text v (ending.Judged (verdict.Rejected n r)) (ending.Refused line fault) a b = absurd b
+one_migrated p text v (ending.Judged (verdict.Rejected n r)) (ending.Solved reply) a b = absurd b
+one_migrated p text v (ending.Judged (verdict.Rejected n r)) (ending.Summed sum) a b = absurd b
+one_migrated p text v (ending.Judged (verdict.Rejected n r)) (ending.Narrowed o) a b = absurd b
+one_migrated p text v (ending.Judged (verdict.Rejected n r)) (ending.Bounded o) a b = absurd b
+one_migrated p text v (ending.Judged (verdict.Rejected n r)) (ending.Unasked s) a b = absurd b
+one_migrated p text v (ending.Judged (verdict.Rejected n r)) (ending.Judged verdict.Model) a b = absurd b
+one_migrated p text v (ending.Judged (verdict.Rejected n r)) (ending.Judged verdict.Refutation) a b = absurd b
+one_migrated p text v (ending.Judged (verdict.Rejected n r)) (ending.Judged (verdict.Progress k)) a b = absurd b
+one_migrated p text v ending.Words e' a b = absurd a
+one_migrated p text v ending.ReadFault e' a b = absurd a
+one_migrated p text v ending.TooLong e' a b = absurd a
+one_migrated p text v ending.Memory e' a b = absurd a
+one_migrated p text v (ending.Refused line fault) e' a b = absurd a
+one_migrated p text v (ending.Solved reply) e' a b = absurd a
+one_migrated p text v (ending.Summed sum) e' a b = absurd a
+one_migrated p text v (ending.Narrowed o) e' a b = absurd a
+one_migrated p text v (ending.Bounded o) e' a b = absurd a
+one_migrated p text v (ending.Unasked r) e' a b = absurd a
+one_migrated p text v (ending.Judged verdict.Model) e' a b = absurd a
+one_migrated p text v (ending.Judged verdict.Refutation) e' a b = absurd a
+one_migrated p text v (ending.Judged (verdict.Progress k)) e' a b = absurd a
 
 -- ---- answers of `solve`
 
@@ -97,6 +178,17 @@ same_alike e e' same = subst (AreAlike e) same (itself e)
     by_answer (answer.Refutation steps) = tt
     by_answer (answer.Progress steps) = tt
 
+    by_outcome : (a : CoreOutcome) → AreConsistentOutcomes a a
+    by_outcome (outcome.Model values) = tt
+    by_outcome (outcome.Core lits steps needs) = tt
+    by_outcome (outcome.Unknown steps) = tt
+
+    by_bound : (a : BestOutcome) → AreConsistentBounds a a
+    by_bound (bounded.Best b model steps) = refl
+    by_bound (bounded.Never steps) = tt
+    by_bound (bounded.Beyond model) = tt
+    by_bound (bounded.Unknown b steps) = tt
+
     itself : (d : Ending) → AreAlike d d
     itself ending.Words = refl
     itself ending.ReadFault = refl
@@ -107,6 +199,9 @@ same_alike e e' same = subst (AreAlike e) same (itself e)
     itself (ending.Judged v) = refl
     itself (ending.Printed text) = refl
     itself (ending.Summed s) = by_answer s.answer
+    itself (ending.Narrowed o) = by_outcome o
+    itself (ending.Bounded o) = by_bound o
+    itself (ending.Unasked r) = refl
 
 -- a problem that has a refutation has no model
 consistent : (p : Instance) (budget : ℕ) (a b : Answer) → IsInstance p → IsAnswer p budget a → IsAnswer p budget b → AreConsistent a b
@@ -127,6 +222,9 @@ one_solved p budget (ending.Solved s) ending.TooLong ok a b = absurd b
 one_solved p budget (ending.Solved s) (ending.Refused line fault) ok a b = absurd b
 one_solved p budget (ending.Solved s) (ending.Judged v) ok a b = absurd b
 one_solved p budget (ending.Solved s) (ending.Printed t) ok a b = absurd b
+one_solved p budget (ending.Solved s) (ending.Narrowed o) ok a b = absurd b
+one_solved p budget (ending.Solved s) (ending.Bounded o) ok a b = absurd b
+one_solved p budget (ending.Solved s) (ending.Unasked r) ok a b = absurd b
 one_solved p budget (ending.Solved s) (ending.Summed t) ok a b = absurd b
 one_solved p budget ending.Words e' ok a b = absurd a
 one_solved p budget ending.ReadFault e' ok a b = absurd a
@@ -135,7 +233,164 @@ one_solved p budget ending.TooLong e' ok a b = absurd a
 one_solved p budget (ending.Refused line fault) e' ok a b = absurd a
 one_solved p budget (ending.Judged v) e' ok a b = absurd a
 one_solved p budget (ending.Printed t) e' ok a b = absurd a
+one_solved p budget (ending.Narrowed o) e' ok a b = absurd a
+one_solved p budget (ending.Bounded o) e' ok a b = absurd a
+one_solved p budget (ending.Unasked r) e' ok a b = absurd a
 one_solved p budget (ending.Summed t) e' ok a b = absurd a
+
+-- ---- what is found under assumptions
+
+narrowed_room : (p : Instance) (lits : List ℤ) (e : Ending) → IsNarrowed p lits e → HasRoom p lits
+narrowed_room p lits (ending.Narrowed o) h = h.0
+narrowed_room p lits ending.Words h = absurd h
+narrowed_room p lits ending.ReadFault h = absurd h
+narrowed_room p lits ending.Memory h = absurd h
+narrowed_room p lits ending.TooLong h = absurd h
+narrowed_room p lits (ending.Refused line fault) h = absurd h
+narrowed_room p lits (ending.Solved s) h = absurd h
+narrowed_room p lits (ending.Judged v) h = absurd h
+narrowed_room p lits (ending.Printed t) h = absurd h
+narrowed_room p lits (ending.Summed t) h = absurd h
+narrowed_room p lits (ending.Bounded o) h = absurd h
+narrowed_room p lits (ending.Unasked r) h = absurd h
+
+both_narrowed : (p : Instance) (lits : List ℤ) (e e' : Ending) → IsInstance p → IsNarrowed p lits e → IsNarrowed p lits e' → AreAlike e e'
+both_narrowed p lits (ending.Narrowed o) (ending.Narrowed o') ok a b = consistent_outcomes p DEFAULT_BUDGET lits o o' ok a.0 a.1 b.1
+both_narrowed p lits (ending.Narrowed o) ending.Words ok a b = absurd b
+both_narrowed p lits (ending.Narrowed o) ending.ReadFault ok a b = absurd b
+both_narrowed p lits (ending.Narrowed o) ending.Memory ok a b = absurd b
+both_narrowed p lits (ending.Narrowed o) ending.TooLong ok a b = absurd b
+both_narrowed p lits (ending.Narrowed o) (ending.Refused line fault) ok a b = absurd b
+both_narrowed p lits (ending.Narrowed o) (ending.Solved s) ok a b = absurd b
+both_narrowed p lits (ending.Narrowed o) (ending.Judged v) ok a b = absurd b
+both_narrowed p lits (ending.Narrowed o) (ending.Printed t) ok a b = absurd b
+both_narrowed p lits (ending.Narrowed o) (ending.Summed t) ok a b = absurd b
+both_narrowed p lits (ending.Narrowed o) (ending.Bounded o') ok a b = absurd b
+both_narrowed p lits (ending.Narrowed o) (ending.Unasked r) ok a b = absurd b
+both_narrowed p lits (ending.Bounded o) e' ok a b = absurd a
+both_narrowed p lits (ending.Unasked r) e' ok a b = absurd a
+both_narrowed p lits ending.Words e' ok a b = absurd a
+both_narrowed p lits ending.ReadFault e' ok a b = absurd a
+both_narrowed p lits ending.Memory e' ok a b = absurd a
+both_narrowed p lits ending.TooLong e' ok a b = absurd a
+both_narrowed p lits (ending.Refused line fault) e' ok a b = absurd a
+both_narrowed p lits (ending.Solved s) e' ok a b = absurd a
+both_narrowed p lits (ending.Judged v) e' ok a b = absurd a
+both_narrowed p lits (ending.Printed t) e' ok a b = absurd a
+both_narrowed p lits (ending.Summed t) e' ok a b = absurd a
+
+one_narrowed : (p : Instance) (lits : List ℤ) (e e' : Ending) → IsInstance p → (IsBeyond p lits e ⊎ IsNarrowed p lits e) → (IsBeyond p lits e' ⊎ IsNarrowed p lits e') → AreAlike e e'
+one_narrowed p lits e e' ok (inl a) (inl b) = same_alike e e' (a.1 ∙ sym b.1)
+one_narrowed p lits e e' ok (inl a) (inr b) = absurd (a.0 (narrowed_room p lits e' b))
+one_narrowed p lits e e' ok (inr a) (inl b) = absurd (b.0 (narrowed_room p lits e a))
+one_narrowed p lits e e' ok (inr a) (inr b) = both_narrowed p lits e e' ok a b
+
+-- ---- bounds
+
+-- the first reason that applies is one
+one_refusal : (p : Instance) (n : ℕ) (Fits : Type 0) (r r' : AskRefusal) → IsUnasked p n Fits r → IsUnasked p n Fits r' → r ≡ r'
+one_refusal p n Fits refusal.BadAtom refusal.BadAtom a b = refl
+one_refusal p n Fits refusal.BadAtom refusal.BadBound a b = absurd (a b.0)
+one_refusal p n Fits refusal.BadAtom refusal.TooMany a b = absurd (a b.0)
+one_refusal p n Fits refusal.BadBound refusal.BadAtom a b = absurd (b a.0)
+one_refusal p n Fits refusal.BadBound refusal.BadBound a b = refl
+one_refusal p n Fits refusal.BadBound refusal.TooMany a b = absurd (a.1 b.1)
+one_refusal p n Fits refusal.TooMany refusal.BadAtom a b = absurd (b a.0)
+one_refusal p n Fits refusal.TooMany refusal.BadBound a b = absurd (b.1 a.1)
+one_refusal p n Fits refusal.TooMany refusal.TooMany a b = refl
+
+-- and none where nothing stands against asking
+not_unasked : (p : Instance) (n : ℕ) (Fits : Type 0) (r : AskRefusal) → IsUnasked p n Fits r → HasBoundedAtom p n → Fits → HasRoomToAsk p → ⊥
+not_unasked p n Fits refusal.BadAtom h atom fits room = h atom
+not_unasked p n Fits refusal.BadBound h atom fits room = h.1 fits
+not_unasked p n Fits refusal.TooMany h atom fits room = h.2 room
+
+one_bounded : (p : Instance) (n : ℕ) (e e' : Ending) → IsInstance p → IsBounded p n e → IsBounded p n e' → AreAlike e e'
+one_bounded p n (ending.Bounded o) (ending.Bounded o') ok a b = consistent_bounds p DEFAULT_BUDGET n o o' ok a.0 a.1 a.2.right b.2.right
+one_bounded p n (ending.Bounded o) (ending.Unasked r) ok a b = absurd (not_unasked p n (Unit {0}) r b a.0 tt a.1)
+one_bounded p n (ending.Unasked r) (ending.Bounded o) ok a b = absurd (not_unasked p n (Unit {0}) r a b.0 tt b.1)
+one_bounded p n (ending.Unasked r) (ending.Unasked r') ok a b = ap ending.Unasked (one_refusal p n (Unit {0}) r r' a b)
+one_bounded p n (ending.Bounded o) ending.Words ok a b = absurd b
+one_bounded p n (ending.Bounded o) ending.ReadFault ok a b = absurd b
+one_bounded p n (ending.Bounded o) ending.Memory ok a b = absurd b
+one_bounded p n (ending.Bounded o) ending.TooLong ok a b = absurd b
+one_bounded p n (ending.Bounded o) (ending.Refused line fault) ok a b = absurd b
+one_bounded p n (ending.Bounded o) (ending.Solved s) ok a b = absurd b
+one_bounded p n (ending.Bounded o) (ending.Judged v) ok a b = absurd b
+one_bounded p n (ending.Bounded o) (ending.Printed t) ok a b = absurd b
+one_bounded p n (ending.Bounded o) (ending.Summed t) ok a b = absurd b
+one_bounded p n (ending.Bounded o) (ending.Narrowed found) ok a b = absurd b
+one_bounded p n (ending.Unasked r) ending.Words ok a b = absurd b
+one_bounded p n (ending.Unasked r) ending.ReadFault ok a b = absurd b
+one_bounded p n (ending.Unasked r) ending.Memory ok a b = absurd b
+one_bounded p n (ending.Unasked r) ending.TooLong ok a b = absurd b
+one_bounded p n (ending.Unasked r) (ending.Refused line fault) ok a b = absurd b
+one_bounded p n (ending.Unasked r) (ending.Solved s) ok a b = absurd b
+one_bounded p n (ending.Unasked r) (ending.Judged v) ok a b = absurd b
+one_bounded p n (ending.Unasked r) (ending.Printed t) ok a b = absurd b
+one_bounded p n (ending.Unasked r) (ending.Summed t) ok a b = absurd b
+one_bounded p n (ending.Unasked r) (ending.Narrowed found) ok a b = absurd b
+one_bounded p n ending.Words e' ok a b = absurd a
+one_bounded p n ending.ReadFault e' ok a b = absurd a
+one_bounded p n ending.Memory e' ok a b = absurd a
+one_bounded p n ending.TooLong e' ok a b = absurd a
+one_bounded p n (ending.Refused line fault) e' ok a b = absurd a
+one_bounded p n (ending.Solved s) e' ok a b = absurd a
+one_bounded p n (ending.Judged v) e' ok a b = absurd a
+one_bounded p n (ending.Printed t) e' ok a b = absurd a
+one_bounded p n (ending.Summed t) e' ok a b = absurd a
+one_bounded p n (ending.Narrowed found) e' ok a b = absurd a
+
+one_asked : (p : Instance) (n : ℕ) (c : ℤ) (e e' : Ending) → IsAsked p n c e → IsAsked p n c e' → AreAlike e e'
+one_asked p n c (ending.Printed t) (ending.Printed t') a b = ap ending.Printed (a.3 ∙ sym b.3)
+one_asked p n c (ending.Printed t) (ending.Unasked r) a b = absurd (not_unasked p n (IsBoundOf (predicate_of p n) c) r b a.0 a.1 a.2)
+one_asked p n c (ending.Unasked r) (ending.Printed t) a b = absurd (not_unasked p n (IsBoundOf (predicate_of p n) c) r a b.0 b.1 b.2)
+one_asked p n c (ending.Unasked r) (ending.Unasked r') a b = ap ending.Unasked (one_refusal p n (IsBoundOf (predicate_of p n) c) r r' a b)
+one_asked p n c (ending.Printed t) ending.Words a b = absurd b
+one_asked p n c (ending.Printed t) ending.ReadFault a b = absurd b
+one_asked p n c (ending.Printed t) ending.Memory a b = absurd b
+one_asked p n c (ending.Printed t) ending.TooLong a b = absurd b
+one_asked p n c (ending.Printed t) (ending.Refused line fault) a b = absurd b
+one_asked p n c (ending.Printed t) (ending.Solved s) a b = absurd b
+one_asked p n c (ending.Printed t) (ending.Judged v) a b = absurd b
+one_asked p n c (ending.Printed t) (ending.Summed s) a b = absurd b
+one_asked p n c (ending.Printed t) (ending.Narrowed found) a b = absurd b
+one_asked p n c (ending.Printed t) (ending.Bounded o) a b = absurd b
+one_asked p n c (ending.Unasked r) ending.Words a b = absurd b
+one_asked p n c (ending.Unasked r) ending.ReadFault a b = absurd b
+one_asked p n c (ending.Unasked r) ending.Memory a b = absurd b
+one_asked p n c (ending.Unasked r) ending.TooLong a b = absurd b
+one_asked p n c (ending.Unasked r) (ending.Refused line fault) a b = absurd b
+one_asked p n c (ending.Unasked r) (ending.Solved s) a b = absurd b
+one_asked p n c (ending.Unasked r) (ending.Judged v) a b = absurd b
+one_asked p n c (ending.Unasked r) (ending.Summed s) a b = absurd b
+one_asked p n c (ending.Unasked r) (ending.Narrowed found) a b = absurd b
+one_asked p n c (ending.Unasked r) (ending.Bounded o) a b = absurd b
+one_asked p n c ending.Words e' a b = absurd a
+one_asked p n c ending.ReadFault e' a b = absurd a
+one_asked p n c ending.Memory e' a b = absurd a
+one_asked p n c ending.TooLong e' a b = absurd a
+one_asked p n c (ending.Refused line fault) e' a b = absurd a
+one_asked p n c (ending.Solved s) e' a b = absurd a
+one_asked p n c (ending.Judged v) e' a b = absurd a
+one_asked p n c (ending.Summed t) e' a b = absurd a
+one_asked p n c (ending.Narrowed found) e' a b = absurd a
+one_asked p n c (ending.Bounded o) e' a b = absurd a
+
+-- ---- answers of `team`
+
+consistent_teams : (p : Instance) (workers rounds : ℕ) (a b : Answer) → IsInstance p → IsTeamAnswer p workers rounds a → IsTeamAnswer p workers rounds b → AreConsistent a b
+consistent_teams p workers rounds (answer.Model values) (answer.Model values') ok x y = tt
+consistent_teams p workers rounds (answer.Model values) (answer.Refutation steps) ok x y = refutation_excludes p steps ok y.refutes (value_in values) x.satisfies
+consistent_teams p workers rounds (answer.Model values) (answer.Progress steps) ok x y = tt
+consistent_teams p workers rounds (answer.Refutation steps) (answer.Model values) ok x y = refutation_excludes p steps ok x.refutes (value_in values) y.satisfies
+consistent_teams p workers rounds (answer.Refutation steps) (answer.Refutation steps') ok x y = tt
+consistent_teams p workers rounds (answer.Refutation steps) (answer.Progress steps') ok x y = tt
+consistent_teams p workers rounds (answer.Progress steps) b ok x y = tt
+
+one_teamed : (p : Instance) (workers rounds : ℕ) (e e' : Ending) → IsInstance p → IsTeamed p workers rounds e → IsTeamed p workers rounds e' → AreAlike e e'
+one_teamed p workers rounds e e' ok a b =
+    subst (λ (d : Ending). AreAlike d e') (sym a.is) (subst (λ (d : Ending). AreAlike (ending.Solved a.answer) d) (sym b.is) (consistent_teams p workers rounds a.answer b.answer ok a.right.right b.right.right))
 
 -- ---- generated inputs
 
@@ -222,6 +477,9 @@ module _ (held : Texts) where
   at_text file limit old new (ending.Summed s) else over ends = absurd ends
   at_text file limit old new (ending.Solved reply) else over ends = absurd ends
   at_text file limit old new (ending.Printed text) else over ends = absurd ends
+  at_text file limit old new (ending.Narrowed o) else over ends = absurd ends
+  at_text file limit old new (ending.Bounded o) else over ends = absurd ends
+  at_text file limit old new (ending.Unasked r) else over ends = absurd ends
 
   at_file : (file : List ℕ) (old new : ShelfView) (e : Ending) → e ≢ ending.Memory → IsOver old e → EndsAtFile file old new e → AtFile (text_named file held) e
   at_file file old new (ending.Refused line fault) else over ends =
@@ -234,33 +492,38 @@ module _ (held : Texts) where
   at_file file old new (ending.Summed s) else over ends = absurd ends
   at_file file old new (ending.Solved reply) else over ends = absurd ends
   at_file file old new (ending.Printed text) else over ends = absurd ends
+  at_file file old new (ending.Narrowed o) else over ends = absurd ends
+  at_file file old new (ending.Bounded o) else over ends = absurd ends
+  at_file file old new (ending.Unasked r) else over ends = absurd ends
 
   -- behind FILE the same texts are told, and a steady shelf is steady
   over_next : (file : List ℕ) (old read : ShelfView) (p : Instance) (e : Ending) → IsOver old e → HasProblem file old read p → IsOver read e
   over_next file old read p e over has = record { texts = has.read.once.texts ∙ over.texts; sure = λ same. has.read.once.steady (over.sure same) }
 
+  -- a command that reads FILE alone comes to one ending, where it comes to one for each problem
+  file_once : (file : List ℕ) (old new old' new' : ShelfView) (e e' : Ending) (End : Instance → Ending → Type 0) → e ≢ ending.Memory → e' ≢ ending.Memory → IsOver old e → IsOver old' e'
+      → ((p : Instance) → IsInstance p → End p e → End p e' → AreAlike e e')
+      → WithProblem file old new e (λ p shelf. End p e × (new ≡ shelf)) → WithProblem file old' new' e' (λ p shelf. End p e' × (new' ≡ shelf)) → AreAlike e e'
+  file_once file old new old' new' e e' End else else' over over' one (inl a) (inl b) =
+      same_alike e e' (file_file (text_named file held) e e' (at_file file old new e else over a) (at_file file old' new' e' else' over' b))
+  file_once file old new old' new' e e' End else else' over over' one (inl a) (inr (q, shelf', has', end')) =
+      absurd (file_problem (text_named file held) e q (at_file file old new e else over a) (stands_for file old' shelf' q over'.texts has'))
+  file_once file old new old' new' e e' End else else' over over' one (inr (p, shelf, has, end)) (inl b) =
+      absurd (file_problem (text_named file held) e' p (at_file file old' new' e' else' over' b) (stands_for file old shelf p over.texts has))
+  file_once file old new old' new' e e' End else else' over over' one (inr (p, shelf, has, end)) (inr (q, shelf', has', end')) =
+      let same = one_problem (text_named file held) p q (stands_for file old shelf p over.texts has) (stands_for file old' shelf' q over'.texts has') in
+      one q (stands_well_formed has'.text q has'.stands) (subst (λ (r : Instance). End r e) same end.0) end'.0
+
   comes_once : (found : Option Command) (old new old' new' : ShelfView) (e e' : Ending) → e ≢ ending.Memory → e' ≢ ending.Memory → IsOver old e → IsOver old' e'
       → ComesTo found old new e → ComesTo found old' new' e' → AreAlike e e'
   comes_once None old new old' new' e e' else else' over over' a b = same_alike e e' (a.0 ∙ sym b.0)
-  comes_once (Some (command.Solve file budget)) old new old' new' e e' else else' over over' (inl a) (inl b) =
-      same_alike e e' (file_file (text_named file held) e e' (at_file file old new e else over a) (at_file file old' new' e' else' over' b))
-  comes_once (Some (command.Solve file budget)) old new old' new' e e' else else' over over' (inl a) (inr (q, shelf', has', end')) =
-      absurd (file_problem (text_named file held) e q (at_file file old new e else over a) (stands_for file old' shelf' q over'.texts has'))
-  comes_once (Some (command.Solve file budget)) old new old' new' e e' else else' over over' (inr (p, shelf, has, end)) (inl b) =
-      absurd (file_problem (text_named file held) e' p (at_file file old' new' e' else' over' b) (stands_for file old shelf p over.texts has))
-  comes_once (Some (command.Solve file budget)) old new old' new' e e' else else' over over' (inr (p, shelf, has, end)) (inr (q, shelf', has', end')) =
-      let same = one_problem (text_named file held) p q (stands_for file old shelf p over.texts has) (stands_for file old' shelf' q over'.texts has') in
-      one_solved q budget e e' (stands_well_formed has'.text q has'.stands) (subst (λ (r : Instance). IsSolved r budget e) same end.0) end'.0
+  comes_once (Some (command.Solve file budget)) old new old' new' e e' else else' over over' a b =
+      file_once file old new old' new' e e' (λ p d. IsSolved p budget d) else else' over over' (λ p ok x y. one_solved p budget e e' ok x y) a b
   comes_once (Some (command.Gen k size seed solve)) old new old' new' e e' else else' over over' a b = one_generated k size seed solve e e' a.0 b.0
-  comes_once (Some (command.Print file)) old new old' new' e e' else else' over over' (inl a) (inl b) =
-      same_alike e e' (file_file (text_named file held) e e' (at_file file old new e else over a) (at_file file old' new' e' else' over' b))
-  comes_once (Some (command.Print file)) old new old' new' e e' else else' over over' (inl a) (inr (q, shelf', has', end')) =
-      absurd (file_problem (text_named file held) e q (at_file file old new e else over a) (stands_for file old' shelf' q over'.texts has'))
-  comes_once (Some (command.Print file)) old new old' new' e e' else else' over over' (inr (p, shelf, has, end)) (inl b) =
-      absurd (file_problem (text_named file held) e' p (at_file file old' new' e' else' over' b) (stands_for file old shelf p over.texts has))
-  comes_once (Some (command.Print file)) old new old' new' e e' else else' over over' (inr (p, shelf, has, end)) (inr (q, shelf', has', end')) =
-      let same = one_problem (text_named file held) p q (stands_for file old shelf p over.texts has) (stands_for file old' shelf' q over'.texts has') in
-      same_alike e e' (end.0 ∙ ap (λ (r : Instance). ending.Printed (printed r)) same ∙ sym end'.0)
+  comes_once (Some (command.Print file)) old new old' new' e e' else else' over over' a b =
+      file_once file old new old' new' e e' (λ p d. d ≡ ending.Printed (printed p)) else else' over over' (λ p ok x y. same_alike e e' (x ∙ sym y)) a b
+  comes_once (Some (command.Team file workers rounds)) old new old' new' e e' else else' over over' a b =
+      file_once file old new old' new' e e' (λ p d. IsTeamed p workers rounds d) else else' over over' (λ p ok x y. one_teamed p workers rounds e e' ok x y) a b
   comes_once (Some (command.Check file answer)) old new old' new' e e' else else' over over' (inl a) (inl b) =
       same_alike e e' (file_file (text_named file held) e e' (at_file file old new e else over a) (at_file file old' new' e' else' over' b))
   comes_once (Some (command.Check file answer)) old new old' new' e e' else else' over over' (inl a) (inr (q, read', has', rest')) =
@@ -291,6 +554,78 @@ module _ (held : Texts) where
       by_rest (inr (text, shelf, given, end)) (inr (text', shelf', given', end')) =
           let texts = same_text (text_named answer held) MAX_ANSWER_BYTES text text' (was_read answer MAX_ANSWER_BYTES read shelf text next.texts given) (was_read answer MAX_ANSWER_BYTES read' shelf' text' next'.texts given') in
           one_judged q text' e e' (subst (λ (t : List ℕ). IsJudged q t e) texts (subst (λ (r : Instance). IsJudged r text e) same end.0)) end'.0
+  comes_once (Some (command.Migrate file answer v)) old new old' new' e e' else else' over over' (inl a) (inl b) =
+      same_alike e e' (file_file (text_named file held) e e' (at_file file old new e else over a) (at_file file old' new' e' else' over' b))
+  comes_once (Some (command.Migrate file answer v)) old new old' new' e e' else else' over over' (inl a) (inr (q, read', has', rest')) =
+      absurd (file_problem (text_named file held) e q (at_file file old new e else over a) (stands_for file old' read' q over'.texts has'))
+  comes_once (Some (command.Migrate file answer v)) old new old' new' e e' else else' over over' (inr (p, read, has, rest)) (inl b) =
+      absurd (file_problem (text_named file held) e' p (at_file file old' new' e' else' over' b) (stands_for file old read p over.texts has))
+  comes_once (Some (command.Migrate file answer v)) old new old' new' e e' else else' over over' (inr (p, read, has, rest)) (inr (q, read', has', rest')) =
+      same_alike e e' (by_rest rest rest')
+    where
+      same : p ≡ q
+      same = one_problem (text_named file held) p q (stands_for file old read p over.texts has) (stands_for file old' read' q over'.texts has')
+
+      next : IsOver read e
+      next = over_next file old read p e over has
+
+      next' : IsOver read' e'
+      next' = over_next file old' read' q e' over' has'
+
+      by_rest : (EndsAtText answer MAX_MIGRATED_BYTES read new e ⊎ ((text : List ℕ) × (shelf : ShelfView) × IsRead answer MAX_MIGRATED_BYTES read shelf text × (IsMigration p text v e × (new ≡ shelf))))
+          → (EndsAtText answer MAX_MIGRATED_BYTES read' new' e' ⊎ ((text : List ℕ) × (shelf : ShelfView) × IsRead answer MAX_MIGRATED_BYTES read' shelf text × (IsMigration q text v e' × (new' ≡ shelf))))
+          → e ≡ e'
+      by_rest (inl a) (inl b) =
+          text_text (text_named answer held) MAX_MIGRATED_BYTES e e' (at_text answer MAX_MIGRATED_BYTES read new e else next a) (at_text answer MAX_MIGRATED_BYTES read' new' e' else' next' b)
+      by_rest (inl a) (inr (text', shelf', given', end')) =
+          absurd (text_read (text_named answer held) MAX_MIGRATED_BYTES e text' (at_text answer MAX_MIGRATED_BYTES read new e else next a) (was_read answer MAX_MIGRATED_BYTES read' shelf' text' next'.texts given'))
+      by_rest (inr (text, shelf, given, end)) (inl b) =
+          absurd (text_read (text_named answer held) MAX_MIGRATED_BYTES e' text (at_text answer MAX_MIGRATED_BYTES read' new' e' else' next' b) (was_read answer MAX_MIGRATED_BYTES read shelf text next.texts given))
+      by_rest (inr (text, shelf, given, end)) (inr (text', shelf', given', end')) =
+          let texts = same_text (text_named answer held) MAX_MIGRATED_BYTES text text' (was_read answer MAX_MIGRATED_BYTES read shelf text next.texts given) (was_read answer MAX_MIGRATED_BYTES read' shelf' text' next'.texts given') in
+          one_migrated q text' v e e' (subst (λ (t : List ℕ). IsMigration q t v e) texts (subst (λ (r : Instance). IsMigration r text v e) same end.0)) end'.0
+  comes_once (Some (command.Core file lits)) old new old' new' e e' else else' over over' a b =
+      file_once file old new old' new' e e' (λ p d. IsBeyond p lits d ⊎ IsNarrowed p lits d) else else' over over' (λ p ok x y. one_narrowed p lits e e' ok x y) a b
+  comes_once (Some (command.Best file n)) old new old' new' e e' else else' over over' a b =
+      file_once file old new old' new' e e' (λ p d. IsBounded p n d) else else' over over' (λ p ok x y. one_bounded p n e e' ok x y) a b
+  comes_once (Some (command.Ask file n c)) old new old' new' e e' else else' over over' a b =
+      file_once file old new old' new' e e' (λ p d. IsAsked p n c d) else else' over over' (λ p ok x y. one_asked p n c e e' x y) a b
+  comes_once (Some (command.CheckWith file answer lits)) old new old' new' e e' else else' over over' (inl a) (inl b) =
+      same_alike e e' (file_file (text_named file held) e e' (at_file file old new e else over a) (at_file file old' new' e' else' over' b))
+  comes_once (Some (command.CheckWith file answer lits)) old new old' new' e e' else else' over over' (inl a) (inr (q, read', has', rest')) =
+      absurd (file_problem (text_named file held) e q (at_file file old new e else over a) (stands_for file old' read' q over'.texts has'))
+  comes_once (Some (command.CheckWith file answer lits)) old new old' new' e e' else else' over over' (inr (p, read, has, rest)) (inl b) =
+      absurd (file_problem (text_named file held) e' p (at_file file old' new' e' else' over' b) (stands_for file old read p over.texts has))
+  comes_once (Some (command.CheckWith file answer lits)) old new old' new' e e' else else' over over' (inr (p, read, has, rest)) (inr (q, read', has', rest')) =
+      same_alike e e' (by_room rest rest')
+    where
+      same : p ≡ q
+      same = one_problem (text_named file held) p q (stands_for file old read p over.texts has) (stands_for file old' read' q over'.texts has')
+
+      next : IsOver read e
+      next = over_next file old read p e over has
+
+      next' : IsOver read' e'
+      next' = over_next file old' read' q e' over' has'
+
+      by_rest : (EndsAtText answer MAX_ANSWER_BYTES read new e ⊎ ((text : List ℕ) × (shelf : ShelfView) × IsRead answer MAX_ANSWER_BYTES read shelf text × (IsJudged (assuming p lits) text e × (new ≡ shelf))))
+          → (EndsAtText answer MAX_ANSWER_BYTES read' new' e' ⊎ ((text : List ℕ) × (shelf : ShelfView) × IsRead answer MAX_ANSWER_BYTES read' shelf text × (IsJudged (assuming q lits) text e' × (new' ≡ shelf))))
+          → e ≡ e'
+      by_rest (inl a) (inl b) =
+          text_text (text_named answer held) MAX_ANSWER_BYTES e e' (at_text answer MAX_ANSWER_BYTES read new e else next a) (at_text answer MAX_ANSWER_BYTES read' new' e' else' next' b)
+      by_rest (inl a) (inr (text', shelf', given', end')) =
+          absurd (text_read (text_named answer held) MAX_ANSWER_BYTES e text' (at_text answer MAX_ANSWER_BYTES read new e else next a) (was_read answer MAX_ANSWER_BYTES read' shelf' text' next'.texts given'))
+      by_rest (inr (text, shelf, given, end)) (inl b) =
+          absurd (text_read (text_named answer held) MAX_ANSWER_BYTES e' text (at_text answer MAX_ANSWER_BYTES read' new' e' else' next' b) (was_read answer MAX_ANSWER_BYTES read shelf text next.texts given))
+      by_rest (inr (text, shelf, given, end)) (inr (text', shelf', given', end')) =
+          let texts = same_text (text_named answer held) MAX_ANSWER_BYTES text text' (was_read answer MAX_ANSWER_BYTES read shelf text next.texts given) (was_read answer MAX_ANSWER_BYTES read' shelf' text' next'.texts given') in
+          one_judged (assuming q lits) text' e e' (subst (λ (t : List ℕ). IsJudged (assuming q lits) t e) texts (subst (λ (r : Instance). IsJudged (assuming r lits) text e) same end.0)) end'.0
+
+      by_room : ((IsBeyond p lits e × (new ≡ read)) ⊎ IsJudgedWith p lits answer read new e) → ((IsBeyond q lits e' × (new' ≡ read')) ⊎ IsJudgedWith q lits answer read' new' e') → e ≡ e'
+      by_room (inl a) (inl b) = a.0.1 ∙ sym b.0.1
+      by_room (inl a) (inr b) = absurd (a.0.0 (subst (λ (r : Instance). HasRoom r lits) (sym same) b.1))
+      by_room (inr a) (inl b) = absurd (b.0.0 (subst (λ (r : Instance). HasRoom r lits) same a.1))
+      by_room (inr a) (inr b) = by_rest a.2 b.2
 
   pub alike : (found : Option Command) (old new old' new' : ShelfView) (e e' : Ending) → old.texts ≡ Some held → old'.texts ≡ Some held
       → (e ≡ ending.ReadFault → IsTrue old.steady) → (e' ≡ ending.ReadFault → IsTrue old'.steady)
@@ -306,9 +641,21 @@ module _ (held : Texts) where
   only_solving (Some (command.Gen k size seed true)) old new a other comes = other tt
   only_solving (Some (command.Print file)) old new a other (inl ends) = ends
   only_solving (Some (command.Print file)) old new a other (inr (p, shelf, has, end)) = absurd (cc end.0)
+  only_solving (Some (command.Team file workers rounds)) old new a other comes = other tt
   only_solving (Some (command.Check file answer)) old new a other (inl ends) = ends
   only_solving (Some (command.Check file answer)) old new a other (inr (p, read, has, inl ends)) = ends
   only_solving (Some (command.Check file answer)) old new a other (inr (p, read, has, inr (text, shelf, given, end))) = end.0
+  only_solving (Some (command.Migrate file answer v)) old new a other (inl ends) = ends
+  only_solving (Some (command.Migrate file answer v)) old new a other (inr (p, read, has, inl ends)) = ends
+  only_solving (Some (command.Migrate file answer v)) old new a other (inr (p, read, has, inr (text, shelf, given, end))) = end.0
+  only_solving (Some (command.Core file lits)) old new a other comes = other tt
+  only_solving (Some (command.Best file n)) old new a other comes = other tt
+  only_solving (Some (command.Ask file n c)) old new a other (inl ends) = ends
+  only_solving (Some (command.Ask file n c)) old new a other (inr (p, shelf, has, end)) = end.0
+  only_solving (Some (command.CheckWith file answer lits)) old new a other (inl ends) = ends
+  only_solving (Some (command.CheckWith file answer lits)) old new a other (inr (p, read, has, inl beyond)) = absurd (cc beyond.0.1)
+  only_solving (Some (command.CheckWith file answer lits)) old new a other (inr (p, read, has, inr (within, room, inl ends))) = ends
+  only_solving (Some (command.CheckWith file answer lits)) old new a other (inr (p, read, has, inr (within, room, inr (text, shelf, given, end)))) = end.0
 
   only_summing : (found : Option Command) (old new : ShelfView) (s : Summary) → ¬ IsSolving found → ComesTo found old new (ending.Summed s) → ⊥
   only_summing None old new s other comes = absurd (cc comes.0)
@@ -317,23 +664,84 @@ module _ (held : Texts) where
   only_summing (Some (command.Gen k size seed true)) old new s other comes = other tt
   only_summing (Some (command.Print file)) old new s other (inl ends) = ends
   only_summing (Some (command.Print file)) old new s other (inr (p, shelf, has, end)) = absurd (cc end.0)
+  only_summing (Some (command.Team file workers rounds)) old new s other comes = other tt
   only_summing (Some (command.Check file answer)) old new s other (inl ends) = ends
   only_summing (Some (command.Check file answer)) old new s other (inr (p, read, has, inl ends)) = ends
   only_summing (Some (command.Check file answer)) old new s other (inr (p, read, has, inr (text, shelf, given, end))) = end.0
+  only_summing (Some (command.Migrate file answer v)) old new s other (inl ends) = ends
+  only_summing (Some (command.Migrate file answer v)) old new s other (inr (p, read, has, inl ends)) = ends
+  only_summing (Some (command.Migrate file answer v)) old new s other (inr (p, read, has, inr (text, shelf, given, end))) = end.0
+  only_summing (Some (command.Core file lits)) old new s other comes = other tt
+  only_summing (Some (command.Best file n)) old new s other comes = other tt
+  only_summing (Some (command.Ask file n c)) old new s other (inl ends) = ends
+  only_summing (Some (command.Ask file n c)) old new s other (inr (p, shelf, has, end)) = end.0
+  only_summing (Some (command.CheckWith file answer lits)) old new s other (inl ends) = ends
+  only_summing (Some (command.CheckWith file answer lits)) old new s other (inr (p, read, has, inl beyond)) = absurd (cc beyond.0.1)
+  only_summing (Some (command.CheckWith file answer lits)) old new s other (inr (p, read, has, inr (within, room, inl ends))) = ends
+  only_summing (Some (command.CheckWith file answer lits)) old new s other (inr (p, read, has, inr (within, room, inr (text, shelf, given, end)))) = end.0
 
-  alike_same : (e e' : Ending) → ((a : Answer) → e ≡ ending.Solved a → ⊥) → ((s : Summary) → e ≡ ending.Summed s → ⊥) → AreAlike e e' → e ≡ e'
-  alike_same ending.Words e' other sums is = is
-  alike_same ending.ReadFault e' other sums is = is
-  alike_same ending.Memory e' other sums is = is
-  alike_same ending.TooLong e' other sums is = is
-  alike_same (ending.Refused line fault) e' other sums is = is
-  alike_same (ending.Solved a) e' other sums is = absurd (other a refl)
-  alike_same (ending.Summed s) e' other sums is = absurd (sums s refl)
-  alike_same (ending.Judged v) e' other sums is = is
-  alike_same (ending.Printed text) e' other sums is = is
+  only_narrowing : (found : Option Command) (old new : ShelfView) (o : CoreOutcome) → ¬ IsSolving found → ComesTo found old new (ending.Narrowed o) → ⊥
+  only_narrowing None old new o other comes = absurd (cc comes.0)
+  only_narrowing (Some (command.Solve file budget)) old new o other comes = other tt
+  only_narrowing (Some (command.Gen k size seed false)) old new o other comes = absurd (cc comes.0)
+  only_narrowing (Some (command.Gen k size seed true)) old new o other comes = other tt
+  only_narrowing (Some (command.Print file)) old new o other (inl ends) = ends
+  only_narrowing (Some (command.Print file)) old new o other (inr (p, shelf, has, end)) = absurd (cc end.0)
+  only_narrowing (Some (command.Team file workers rounds)) old new o other comes = other tt
+  only_narrowing (Some (command.Check file answer)) old new o other (inl ends) = ends
+  only_narrowing (Some (command.Check file answer)) old new o other (inr (p, read, has, inl ends)) = ends
+  only_narrowing (Some (command.Check file answer)) old new o other (inr (p, read, has, inr (text, shelf, given, end))) = end.0
+  only_narrowing (Some (command.Migrate file answer v)) old new o other (inl ends) = ends
+  only_narrowing (Some (command.Migrate file answer v)) old new o other (inr (p, read, has, inl ends)) = ends
+  only_narrowing (Some (command.Migrate file answer v)) old new o other (inr (p, read, has, inr (text, shelf, given, end))) = end.0
+  only_narrowing (Some (command.Core file lits)) old new o other comes = other tt
+  only_narrowing (Some (command.Best file n)) old new o other comes = other tt
+  only_narrowing (Some (command.Ask file n c)) old new o other (inl ends) = ends
+  only_narrowing (Some (command.Ask file n c)) old new o other (inr (p, shelf, has, end)) = end.0
+  only_narrowing (Some (command.CheckWith file answer lits)) old new o other (inl ends) = ends
+  only_narrowing (Some (command.CheckWith file answer lits)) old new o other (inr (p, read, has, inl beyond)) = absurd (cc beyond.0.1)
+  only_narrowing (Some (command.CheckWith file answer lits)) old new o other (inr (p, read, has, inr (within, room, inl ends))) = ends
+  only_narrowing (Some (command.CheckWith file answer lits)) old new o other (inr (p, read, has, inr (within, room, inr (text, shelf, given, end)))) = end.0
+
+  only_bounding : (found : Option Command) (old new : ShelfView) (o : BestOutcome) → ¬ IsSolving found → ComesTo found old new (ending.Bounded o) → ⊥
+  only_bounding None old new o other comes = absurd (cc comes.0)
+  only_bounding (Some (command.Solve file budget)) old new o other comes = other tt
+  only_bounding (Some (command.Gen k size seed false)) old new o other comes = absurd (cc comes.0)
+  only_bounding (Some (command.Gen k size seed true)) old new o other comes = other tt
+  only_bounding (Some (command.Print file)) old new o other (inl ends) = ends
+  only_bounding (Some (command.Print file)) old new o other (inr (p, shelf, has, end)) = absurd (cc end.0)
+  only_bounding (Some (command.Team file workers rounds)) old new o other comes = other tt
+  only_bounding (Some (command.Check file answer)) old new o other (inl ends) = ends
+  only_bounding (Some (command.Check file answer)) old new o other (inr (p, read, has, inl ends)) = ends
+  only_bounding (Some (command.Check file answer)) old new o other (inr (p, read, has, inr (text, shelf, given, end))) = end.0
+  only_bounding (Some (command.Migrate file answer v)) old new o other (inl ends) = ends
+  only_bounding (Some (command.Migrate file answer v)) old new o other (inr (p, read, has, inl ends)) = ends
+  only_bounding (Some (command.Migrate file answer v)) old new o other (inr (p, read, has, inr (text, shelf, given, end))) = end.0
+  only_bounding (Some (command.Core file lits)) old new o other comes = other tt
+  only_bounding (Some (command.Best file n)) old new o other comes = other tt
+  only_bounding (Some (command.Ask file n c)) old new o other (inl ends) = ends
+  only_bounding (Some (command.Ask file n c)) old new o other (inr (p, shelf, has, end)) = end.0
+  only_bounding (Some (command.CheckWith file answer lits)) old new o other (inl ends) = ends
+  only_bounding (Some (command.CheckWith file answer lits)) old new o other (inr (p, read, has, inl beyond)) = absurd (cc beyond.0.1)
+  only_bounding (Some (command.CheckWith file answer lits)) old new o other (inr (p, read, has, inr (within, room, inl ends))) = ends
+  only_bounding (Some (command.CheckWith file answer lits)) old new o other (inr (p, read, has, inr (within, room, inr (text, shelf, given, end)))) = end.0
+
+  alike_same : (e e' : Ending) → ((a : Answer) → e ≡ ending.Solved a → ⊥) → ((s : Summary) → e ≡ ending.Summed s → ⊥) → ((o : CoreOutcome) → e ≡ ending.Narrowed o → ⊥) → ((o : BestOutcome) → e ≡ ending.Bounded o → ⊥) → AreAlike e e' → e ≡ e'
+  alike_same ending.Words e' other sums narrows bounds is = is
+  alike_same ending.ReadFault e' other sums narrows bounds is = is
+  alike_same ending.Memory e' other sums narrows bounds is = is
+  alike_same ending.TooLong e' other sums narrows bounds is = is
+  alike_same (ending.Refused line fault) e' other sums narrows bounds is = is
+  alike_same (ending.Solved a) e' other sums narrows bounds is = absurd (other a refl)
+  alike_same (ending.Summed s) e' other sums narrows bounds is = absurd (sums s refl)
+  alike_same (ending.Judged v) e' other sums narrows bounds is = is
+  alike_same (ending.Printed text) e' other sums narrows bounds is = is
+  alike_same (ending.Narrowed o) e' other sums narrows bounds is = absurd (narrows o refl)
+  alike_same (ending.Bounded o) e' other sums narrows bounds is = absurd (bounds o refl)
+  alike_same (ending.Unasked r) e' other sums narrows bounds is = is
 
   pub same : (found : Option Command) (old new old' new' : ShelfView) (e e' : Ending) → ¬ IsSolving found → old.texts ≡ Some held → old'.texts ≡ Some held
       → (e ≡ ending.ReadFault → IsTrue old.steady) → (e' ≡ ending.ReadFault → IsTrue old'.steady)
       → Ends found old new e → Ends found old' new' e' → e ≢ ending.Memory → e' ≢ ending.Memory → e ≡ e'
   same found old new old' new' e e' other told told' sure sure' a b else else' =
-      alike_same e e' (λ s is. only_solving found old new s other (subst (Ends found old new) is a)) (λ s is. only_summing found old new s other (subst (Ends found old new) is a)) (alike found old new old' new' e e' told told' sure sure' a b else else')
+      alike_same e e' (λ s is. only_solving found old new s other (subst (Ends found old new) is a)) (λ s is. only_summing found old new s other (subst (Ends found old new) is a)) (λ o is. only_narrowing found old new o other (subst (Ends found old new) is a)) (λ o is. only_bounding found old new o other (subst (Ends found old new) is a)) (alike found old new old' new' e e' told told' sure sure' a b else else')

@@ -22,18 +22,19 @@ use Rattle.mono_check.specs.StepLines.{chain_count as count_of_chains}
 use Rattle.mono_check.specs.Answers.{step_item, HasSteps, HasModel}
 use Rattle.mono_check.proofs.Accepted.{refutation_iff, progress_iff, model_iff}
 use Rattle.mono_search.specs.Outcomes.{HasModel as HasModelOf}
-use Rattle.mono_cmd.specs.Solved.{IsTrimRefutation, IsProgress, IsSolution}
+use Rattle.mono_search.specs.Solving.{IsTrimRefutation, IsProgress}
+use Rattle.mono_cmd.specs.Solved.{IsSolution}
 use Rattle.mono_cmd.proofs.Values.{one_each_there, model_is}
 use Rattle.mono_cmd.proofs.Format.{steps_within}
 
 -- ---- models
 
-printed_model : (p : Instance) (values : List Bool) → IsInstance p → length values ≡ p.vars → HasModel p (answer_text (answer.Model values)) values
+pub printed_model : (p : Instance) (values : List Bool) → IsInstance p → length values ≡ p.vars → HasModel p (answer_text (answer.Model values)) values
 printed_model p values ok len = record {
   lines = lines;
   rows = with_zero (literals_from 1 values) ∷ [];
   lits = literals_from 1 values;
-  behind = (1, printed_is_read (answer.Model values) (le-leb (length values) MAX_VARS (omega (arith, len, ok.vars))));
+  behind = (1, printed_is_read (length p.clauses) (answer.Model values) (le-leb (length values) MAX_VARS (omega (arith, len, ok.vars))));
   alone = refl;
   numbers = append-nil (with_zero (literals_from 1 values));
   one_each = one_each_there p values len;
@@ -59,17 +60,17 @@ step_items : (steps : List Step) → map Some (map says.Step steps) ≡ map step
 step_items [] = refl
 step_items (s ∷ ss) = ap (λ (is : List (Option Item)). step_item s ∷ is) (step_items ss)
 
-printed_steps : (k : Kind) (a : Answer) (steps : List Step) → answer_items a ≡ says.Status k ∷ map says.Step steps → IsTrue (is_within_format a) → HasSteps k (answer_text a) steps
-printed_steps k a steps is within =
-    (enumerate_from 2 (map Some (map says.Step steps)), (1, printed_is_read a within ∙ ap in_lines is), seconds 2 (map Some (map says.Step steps)) ∙ step_items steps)
+pub printed_steps : (c : ℕ) (k : Kind) (a : Answer) (steps : List Step) → answer_items a ≡ says.Status k ∷ map says.Step steps → IsTrue (is_within_format a) → HasSteps c k (answer_text a) steps
+printed_steps c k a steps is within =
+    (enumerate_from 2 (map Some (map says.Step steps)), (1, printed_is_read c a within ∙ ap in_lines is), seconds 2 (map Some (map says.Step steps)) ∙ step_items steps)
 
-same_count : (steps : List Step) → chain_count steps ≡ count_of_chains steps
+pub same_count : (steps : List Step) → chain_count steps ≡ count_of_chains steps
 same_count [] = refl
 same_count (step.Lemma l ∷ ss) = same_count ss
 same_count (step.Chain c ∷ ss) = ap (λ (n : ℕ). suc n) (same_count ss)
 
 -- so many steps have clause numbers that the format can write
-few_steps : (p : Instance) (steps : List Step) → IsInstance p → length steps < 2 ^ 63 → length p.clauses + length steps < 2 ^ 64
+pub few_steps : (p : Instance) (steps : List Step) → IsInstance p → length steps < 2 ^ 63 → length p.clauses + length steps < 2 ^ 64
 few_steps p steps ok few = omega (arith, few, ok.few_clauses)
 
 pub refutation_solves : (p : Instance) (budget : ℕ) (steps : List Step) → IsInstance p → length steps < 2 ^ 63 → IsTrimRefutation p steps → IsSolution p budget (answer.Refutation steps)
@@ -78,7 +79,7 @@ refutation_solves p budget steps ok few h =
     let within = steps_within p p.clauses steps ok (few_steps p steps ok few) justified in
     record {
       right = h;
-      accepted = (refutation_iff p (answer_text (answer.Refutation steps))).1 (steps, printed_steps kind.Refutation (answer.Refutation steps) steps refl within, h.refutes);
+      accepted = (refutation_iff p (answer_text (answer.Refutation steps))).1 (steps, printed_steps (length p.clauses) kind.Refutation (answer.Refutation steps) steps refl within, h.refutes);
     }
 
 pub progress_solves : (p : Instance) (budget : ℕ) (steps : List Step) → IsInstance p → length steps < 2 ^ 63 → IsProgress p budget steps → IsSolution p budget (answer.Progress steps)
@@ -86,5 +87,5 @@ progress_solves p budget steps ok few h =
     let within = steps_within p p.clauses steps ok (few_steps p steps ok few) h.justified in
     record {
       right = h;
-      accepted = (progress_iff p (answer_text (answer.Progress steps)) (chain_count steps)).1 (steps, printed_steps kind.Progress (answer.Progress steps) steps refl within, h.justified, same_count steps);
+      accepted = (progress_iff p (answer_text (answer.Progress steps)) (chain_count steps)).1 (steps, printed_steps (length p.clauses) kind.Progress (answer.Progress steps) steps refl within, h.justified, same_count steps);
     }

@@ -13,6 +13,8 @@ use Rattle.mono_answer.specs.Printed.{answer_text}
 use Rattle.mono_check.specs.declared.verdict.Verdict.{Verdict}
 use Rattle.mono_check.specs.declared.verdict.Verdict.TheVariants as verdict
 use Rattle.mono_check.specs.Verdicts.{IsVerdict}
+use Rattle.mono_best.specs.declared.outcome.BestOutcome.{BestOutcome}
+use Rattle.mono_core.specs.declared.outcome.CoreOutcome.{CoreOutcome}
 use Rattle.mono_io.specs.Shelf.{ShelfView}
 use Rattle.mono_cmd.specs.declared.command.Command.{Command}
 use Rattle.mono_cmd.specs.declared.command.Command.TheVariants as command
@@ -37,13 +39,16 @@ is_answer_status s = false
 pub not_answered : (s t : Status) → s ≡ t → IsTrue (is_answer_status s) → is_answer_status t ≡ false → ⊥
 not_answered s t is able none = absurd (let h = sym able ∙ ap is_answer_status is ∙ none in cc)
 
--- only an answer has such a status, or a summary of one
-abbrev HasReply : Ending → Type 0
-HasReply e = ((a : Answer) × (e ≡ ending.Solved a)) ⊎ ((t : Summary) × (e ≡ ending.Summed t))
+-- only an answer has such a status, a summary of one, what was found under assumptions, or what was found of a bound
+abbrev pub HasReply : Ending → Type 0
+HasReply e = ((a : Answer) × (e ≡ ending.Solved a)) ⊎ ((t : Summary) × (e ≡ ending.Summed t)) ⊎ ((o : CoreOutcome) × (e ≡ ending.Narrowed o)) ⊎ ((o : BestOutcome) × (e ≡ ending.Bounded o))
 
-answered : (e : Ending) (s : Status) → s ≡ status_of e → IsTrue (is_answer_status s) → HasReply e
+pub answered : (e : Ending) (s : Status) → s ≡ status_of e → IsTrue (is_answer_status s) → HasReply e
 answered (ending.Solved a) s is able = inl (a, refl)
-answered (ending.Summed t) s is able = inr (t, refl)
+answered (ending.Summed t) s is able = inr (inl (t, refl))
+answered (ending.Narrowed o) s is able = inr (inr (inl (o, refl)))
+answered (ending.Bounded o) s is able = inr (inr (inr (o, refl)))
+answered (ending.Unasked r) s is able = absurd (not_answered s status.Refused is able refl)
 answered ending.Words s is able = absurd (not_answered s status.Words is able refl)
 answered ending.ReadFault s is able = absurd (not_answered s status.ReadFault is able refl)
 answered ending.Memory s is able = absurd (not_answered s status.Memory is able refl)
@@ -73,6 +78,14 @@ never_summed : (file : List ℕ) (budget : ℕ) (old new : ShelfView) (t : Summa
 never_summed file budget old new t (inl ends) = ends
 never_summed file budget old new t (inr (q, read, has, end)) = end.0
 
+never_narrowed : (file : List ℕ) (budget : ℕ) (old new : ShelfView) (o : CoreOutcome) → ComesTo (Some (command.Solve file budget)) old new (ending.Narrowed o) → ⊥
+never_narrowed file budget old new o (inl ends) = ends
+never_narrowed file budget old new o (inr (q, read, has, end)) = end.0
+
+never_bounded : (file : List ℕ) (budget : ℕ) (old new : ShelfView) (o : BestOutcome) → ComesTo (Some (command.Solve file budget)) old new (ending.Bounded o) → ⊥
+never_bounded file budget old new o (inl ends) = ends
+never_bounded file budget old new o (inr (q, read, has, end)) = end.0
+
 -- what a run of `solve` over a told FILE ended with
 record HasAnswer (p : Instance) (budget : ℕ) (s : Status) (before now : Option (List ℕ)) : Type 0 where
   answer : Answer
@@ -82,13 +95,19 @@ record HasAnswer (p : Instance) (budget : ℕ) (s : Status) (before now : Option
 
 its_answer : (found : Option Command) (old new : ShelfView) (s : Status) (before now : Option (List ℕ)) (p : Instance) (budget : ℕ) (e : Ending) → Ends found old new e → s ≡ status_of e → now ≡ append_known before (text_of e)
     → IsTrue (is_answer_status s) → Solves found old.texts p budget → HasAnswer p budget s before now
-its_answer found old new s before now p budget e ends is wrote able solves = elim (answered e s is able) [ inl a ↦ by_answer a.0 a.1 | inr t ↦ absurd (by_summary t.0 t.1) ]
+its_answer found old new s before now p budget e ends is wrote able solves = elim (answered e s is able) [ inl a ↦ by_answer a.0 a.1 | inr other ↦ elim other [ inl t ↦ absurd (by_summary t.0 t.1) | inr found ↦ elim found [ inl o ↦ absurd (by_outcome o.0 o.1) | inr o ↦ absurd (by_bound o.0 o.1) ] ] ]
   where
     its_end : (d : Ending) → e ≡ d → Ends (Some (command.Solve solves.file budget)) old new d
     its_end d same = subst (λ (c : Option Command). Ends c old new d) solves.is (subst (λ (x : Ending). Ends found old new x) same ends)
 
     by_summary : (t : Summary) → e ≡ ending.Summed t → ⊥
     by_summary t same = never_summed solves.file budget old new t (its_end (ending.Summed t) same)
+
+    by_outcome : (o : CoreOutcome) → e ≡ ending.Narrowed o → ⊥
+    by_outcome o same = never_narrowed solves.file budget old new o (its_end (ending.Narrowed o) same)
+
+    by_bound : (o : BestOutcome) → e ≡ ending.Bounded o → ⊥
+    by_bound o same = never_bounded solves.file budget old new o (its_end (ending.Bounded o) same)
 
     by_answer : (a : Answer) → e ≡ ending.Solved a → HasAnswer p budget s before now
     by_answer a same =

@@ -14,6 +14,12 @@ use Rattle.mono_answer.specs.declared.answer.Answer.{Answer}
 use Rattle.mono_check.specs.declared.verdict.Verdict.{Verdict}
 use Rattle.mono_check.specs.declared.verdict.Verdict.TheVariants as verdict
 use Rattle.mono_check.specs.Verdicts.{IsVerdict}
+use Rattle.mono_best.specs.declared.outcome.BestOutcome.{BestOutcome}
+use Rattle.mono_best.specs.declared.outcome.BestOutcome.TheVariants as bounded
+use Rattle.mono_cmd.specs.declared.asking.AskRefusal.{AskRefusal}
+use Rattle.mono_cmd.specs.declared.asking.AskRefusal.TheVariants as refusal
+use Rattle.mono_cmd.specs.BestTexts.{best_text, refusal_text}
+use Rattle.mono_core.specs.declared.outcome.CoreOutcome.{CoreOutcome}
 use Rattle.mono_check.proofs.Accepted.{refutation_has_no_model, model_satisfies}
 use Rattle.mono_io.specs.Shelf.{Texts, ShelfView, text_named, told_text}
 use Rattle.mono_cmd.specs.declared.command.Command.{Command}
@@ -44,7 +50,7 @@ appended before now there written t held wrote is =
     append_cancel_left there t written (let same : Some (there ++ t) ≡ Some (there ++ written) = sym (is ∙ ap (λ (o : Option (List ℕ)). append_known o t) held) ∙ wrote in cc)
 
 -- a text that was written behind another is the front of the text that is due
-front_written : (e : Ending) (s : Status) (before now : Option (List ℕ)) (there written : List ℕ) → 0 < length written → Writes e s before now
+pub front_written : (e : Ending) (s : Status) (before now : Option (List ℕ)) (there written : List ℕ) → 0 < length written → Writes e s before now
     → before ≡ Some there → now ≡ Some (there ++ written) → (count : ℕ) × (take count (text_of e) ≡ written)
 front_written e s before now there written some writes held wrote = by_status s writes
   where
@@ -72,19 +78,19 @@ front_written e s before now there written some writes held wrote = by_status s 
 
 -- ---- which verdict it was
 
-abbrev refutation_text : List ℕ
+abbrev pub refutation_text : List ℕ
 refutation_text = codes "accepted refutation\n"
 
-abbrev model_text : List ℕ
+abbrev pub model_text : List ℕ
 model_text = codes "accepted model\n"
 
-only_refutation : (v : Verdict) (count : ℕ) → take count (verdict_text v) ≡ refutation_text → v ≡ verdict.Refutation
+pub only_refutation : (v : Verdict) (count : ℕ) → take count (verdict_text v) ≡ refutation_text → v ≡ verdict.Refutation
 only_refutation verdict.Model count is = absurd (differs (verdict_text verdict.Model) refutation_text count 9 109 114 is (omega arith) refl refl refl)
 only_refutation verdict.Refutation count is = refl
 only_refutation (verdict.Progress n) count is = absurd (differs (verdict_text (verdict.Progress n)) refutation_text count 9 112 114 is (omega arith) refl refl refl)
 only_refutation (verdict.Rejected line r) count is = absurd (differs (verdict_text (verdict.Rejected line r)) refutation_text count 0 114 97 is (omega arith) refl refl refl)
 
-only_model : (v : Verdict) (count : ℕ) → take count (verdict_text v) ≡ model_text → v ≡ verdict.Model
+pub only_model : (v : Verdict) (count : ℕ) → take count (verdict_text v) ≡ model_text → v ≡ verdict.Model
 only_model verdict.Model count is = refl
 only_model verdict.Refutation count is = absurd (differs (verdict_text verdict.Refutation) model_text count 9 114 109 is (omega arith) refl refl refl)
 only_model (verdict.Progress n) count is = absurd (differs (verdict_text (verdict.Progress n)) model_text count 9 112 109 is (omega arith) refl refl refl)
@@ -117,18 +123,38 @@ never_summed file answer old new s (inl ends) = ends
 never_summed file answer old new s (inr (p, read, has, inl ends)) = ends
 never_summed file answer old new s (inr (p, read, has, inr (t, shelf, given, end))) = end.0
 
--- `check` writes a text that begins with `accepted` for a verdict alone
-only_verdicts : (e : Ending) (file answer : List ℕ) (old new : ShelfView) (front : List ℕ) (count : ℕ) → Ends (Some (command.Check file answer)) old new e → take count (text_of e) ≡ front → 0 < length front → slice_index front 0 ≡ 97
-    → (v : Verdict) × (e ≡ ending.Judged v) × ComesTo (Some (command.Check file answer)) old new (ending.Judged v)
-only_verdicts ending.Words file answer old new front count ends is some a = absurd (differs (text_of ending.Words) front count 0 117 97 is some refl a refl)
-only_verdicts ending.ReadFault file answer old new front count ends is some a = absurd (differs (text_of ending.ReadFault) front count 0 114 97 is some refl a refl)
-only_verdicts ending.Memory file answer old new front count ends is some a = absurd (differs (text_of ending.Memory) front count 0 0 97 is some refl a refl)
-only_verdicts ending.TooLong file answer old new front count ends is some a = absurd (differs (text_of ending.TooLong) front count 0 116 97 is some refl a refl)
-only_verdicts (ending.Refused line fault) file answer old new front count ends is some a = absurd (differs (text_of (ending.Refused line fault)) front count 0 114 97 is some refl a refl)
-only_verdicts (ending.Solved reply) file answer old new front count ends is some a = absurd (never_solved file answer old new reply ends)
-only_verdicts (ending.Printed text) file answer old new front count ends is some a = absurd (never_printed file answer old new text ends)
-only_verdicts (ending.Summed s) file answer old new front count ends is some a = absurd (never_summed file answer old new s ends)
-only_verdicts (ending.Judged v) file answer old new front count ends is some a = (v, refl, ends)
+never_narrowed : (file answer : List ℕ) (old new : ShelfView) (o : CoreOutcome) → ComesTo (Some (command.Check file answer)) old new (ending.Narrowed o) → ⊥
+never_narrowed file answer old new o (inl ends) = ends
+never_narrowed file answer old new o (inr (p, read, has, inl ends)) = ends
+never_narrowed file answer old new o (inr (p, read, has, inr (t, shelf, given, end))) = end.0
+
+outcome_byte : (o : BestOutcome) → slice_index (best_text o) 0 ≡ 99
+outcome_byte (bounded.Best b model steps) = refl
+outcome_byte (bounded.Never steps) = refl
+outcome_byte (bounded.Beyond model) = refl
+outcome_byte (bounded.Unknown b steps) = refl
+
+refusal_byte : (r : AskRefusal) → slice_index (refusal_text r) 0 ≡ 114
+refusal_byte refusal.BadAtom = refl
+refusal_byte refusal.BadBound = refl
+refusal_byte refusal.TooMany = refl
+
+-- a run that comes to no answer, summary, core or printed text writes a text that begins with `accepted` for a verdict alone
+pub only_verdicts : (found : Option Command) (old new : ShelfView) → ((a : Answer) → ComesTo found old new (ending.Solved a) → ⊥) → ((text : List ℕ) → ComesTo found old new (ending.Printed text) → ⊥)
+    → ((s : Summary) → ComesTo found old new (ending.Summed s) → ⊥) → ((o : CoreOutcome) → ComesTo found old new (ending.Narrowed o) → ⊥)
+    → (e : Ending) (front : List ℕ) (count : ℕ) → Ends found old new e → take count (text_of e) ≡ front → 0 < length front → slice_index front 0 ≡ 97 → (v : Verdict) × (e ≡ ending.Judged v) × ComesTo found old new (ending.Judged v)
+only_verdicts found old new solved printed summed narrowed ending.Words front count ends is some a = absurd (differs (text_of ending.Words) front count 0 117 97 is some refl a refl)
+only_verdicts found old new solved printed summed narrowed ending.ReadFault front count ends is some a = absurd (differs (text_of ending.ReadFault) front count 0 114 97 is some refl a refl)
+only_verdicts found old new solved printed summed narrowed ending.Memory front count ends is some a = absurd (differs (text_of ending.Memory) front count 0 0 97 is some refl a refl)
+only_verdicts found old new solved printed summed narrowed ending.TooLong front count ends is some a = absurd (differs (text_of ending.TooLong) front count 0 116 97 is some refl a refl)
+only_verdicts found old new solved printed summed narrowed (ending.Refused line fault) front count ends is some a = absurd (differs (text_of (ending.Refused line fault)) front count 0 114 97 is some refl a refl)
+only_verdicts found old new solved printed summed narrowed (ending.Solved reply) front count ends is some a = absurd (solved reply ends)
+only_verdicts found old new solved printed summed narrowed (ending.Printed text) front count ends is some a = absurd (printed text ends)
+only_verdicts found old new solved printed summed narrowed (ending.Summed s) front count ends is some a = absurd (summed s ends)
+only_verdicts found old new solved printed summed narrowed (ending.Narrowed o) front count ends is some a = absurd (narrowed o ends)
+only_verdicts found old new solved printed summed narrowed (ending.Bounded o) front count ends is some a = absurd (differs (best_text o) front count 0 99 97 is some (outcome_byte o) a refl)
+only_verdicts found old new solved printed summed narrowed (ending.Unasked r) front count ends is some a = absurd (differs (refusal_text r) front count 0 114 97 is some (refusal_byte r) a refl)
+only_verdicts found old new solved printed summed narrowed (ending.Judged v) front count ends is some a = (v, refl, ends)
 
 -- ---- the problem that FILE stands for
 
@@ -153,7 +179,8 @@ verdict_written : (found : Option Command) (old new : ShelfView) (s : Status) (b
 verdict_written found old new s before now p written some a runs wrote =
     let ends : Ends (Some (command.Check wrote.file wrote.answer)) old new runs.ending = subst (λ (c : Option Command). Ends c old new runs.ending) wrote.is runs.ends in
     let front = front_written runs.ending s before now wrote.there written some runs.writes wrote.held wrote.wrote in
-    let only = only_verdicts runs.ending wrote.file wrote.answer old new written front.0 ends front.1 some a in
+    let only = only_verdicts (Some (command.Check wrote.file wrote.answer)) old new (never_solved wrote.file wrote.answer old new) (never_printed wrote.file wrote.answer old new)
+    (never_summed wrote.file wrote.answer old new) (never_narrowed wrote.file wrote.answer old new) runs.ending written front.0 ends front.1 some a in
     let j = judged wrote.file wrote.answer old new only.0 only.2 in
     let same = its_problem wrote.file wrote.text old j.1.read p j.0 wrote.told wrote.stands j.1.has in
     (only.0, j.1.answer, subst (λ (q : Instance). IsVerdict q j.1.answer only.0) same j.1.is, (front.0, subst (λ (e : Ending). take front.0 (text_of e) ≡ written) only.1 front.1))

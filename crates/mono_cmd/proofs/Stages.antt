@@ -3,6 +3,7 @@ use Rattle.std.proofs.Common.{◌≡◌, ◌≢◌, ℕ, ◌≤◌, ◌⊎◌, L
 use Rattle.mono_base.specs.declared.limits.TheConstants.{MAX_ANSWER_BYTES}
 use Rattle.mono_io.specs.Faults.{counted}
 use Rattle.mono_io.specs.Shelf.{ShelfView}
+use Rattle.mono_cmd.specs.declared.command.TheConstants.{MAX_MIGRATED_BYTES}
 use Rattle.mono_cmd.specs.declared.command.Command.{Command}
 use Rattle.mono_cmd.specs.declared.command.Command.TheVariants as command
 use Rattle.mono_cmd.specs.declared.ending.Ending.{Ending}
@@ -21,6 +22,9 @@ ends_cases found old new (ending.Judged v) ends = inr ends
 ends_cases found old new (ending.Summed s) ends = inr ends
 ends_cases found old new (ending.Solved reply) ends = inr ends
 ends_cases found old new (ending.Printed text) ends = inr ends
+ends_cases found old new (ending.Narrowed o) ends = inr ends
+ends_cases found old new (ending.Bounded o) ends = inr ends
+ends_cases found old new (ending.Unasked r) ends = inr ends
 
 pub ends_else : (found : Option Command) (old new : ShelfView) (e : Ending) → e ≢ ending.Memory → Ends found old new e → ComesTo found old new e
 ends_else found old new ending.Words else ends = ends
@@ -32,6 +36,9 @@ ends_else found old new (ending.Judged v) else ends = ends
 ends_else found old new (ending.Summed s) else ends = ends
 ends_else found old new (ending.Solved reply) else ends = ends
 ends_else found old new (ending.Printed text) else ends = ends
+ends_else found old new (ending.Narrowed o) else ends = ends
+ends_else found old new (ending.Bounded o) else ends = ends
+ends_else found old new (ending.Unasked r) else ends = ends
 
 -- ---- want of memory
 
@@ -44,10 +51,24 @@ out_begun (Some (command.Solve file budget)) old new (inl same) = omega (arith, 
 out_begun (Some (command.Solve file budget)) old new (inr given) = omega (arith, given.once.begun)
 out_begun (Some (command.Print file)) old new (inl same) = omega (arith, ap (λ (shelf : ShelfView). shelf.begun) same)
 out_begun (Some (command.Print file)) old new (inr given) = omega (arith, given.once.begun)
+out_begun (Some (command.Team file workers rounds)) old new (inl same) = omega (arith, ap (λ (shelf : ShelfView). shelf.begun) same)
+out_begun (Some (command.Team file workers rounds)) old new (inr given) = omega (arith, given.once.begun)
 out_begun (Some (command.Gen k size seed solve)) old new same = omega (arith, ap (λ (shelf : ShelfView). shelf.begun) same)
 out_begun (Some (command.Check file answer)) old new (inl (inl same)) = omega (arith, ap (λ (shelf : ShelfView). shelf.begun) same)
 out_begun (Some (command.Check file answer)) old new (inl (inr given)) = at_most_once old.begun new.begun given.once.begun
 out_begun (Some (command.Check file answer)) old new (inr (p, read, has, given)) = omega (arith, given.once.begun ∙ ap counted has.read.once.begun)
+out_begun (Some (command.Migrate file answer v)) old new (inl (inl same)) = omega (arith, ap (λ (shelf : ShelfView). shelf.begun) same)
+out_begun (Some (command.Migrate file answer v)) old new (inl (inr given)) = at_most_once old.begun new.begun given.once.begun
+out_begun (Some (command.Migrate file answer v)) old new (inr (p, read, has, given)) = omega (arith, given.once.begun ∙ ap counted has.read.once.begun)
+out_begun (Some (command.Core file lits)) old new (inl same) = omega (arith, ap (λ (shelf : ShelfView). shelf.begun) same)
+out_begun (Some (command.Core file lits)) old new (inr given) = omega (arith, given.once.begun)
+out_begun (Some (command.Best file n)) old new (inl same) = omega (arith, ap (λ (shelf : ShelfView). shelf.begun) same)
+out_begun (Some (command.Best file n)) old new (inr given) = omega (arith, given.once.begun)
+out_begun (Some (command.Ask file n b)) old new (inl same) = omega (arith, ap (λ (shelf : ShelfView). shelf.begun) same)
+out_begun (Some (command.Ask file n b)) old new (inr given) = omega (arith, given.once.begun)
+out_begun (Some (command.CheckWith file answer lits)) old new (inl (inl same)) = omega (arith, ap (λ (shelf : ShelfView). shelf.begun) same)
+out_begun (Some (command.CheckWith file answer lits)) old new (inl (inr given)) = at_most_once old.begun new.begun given.once.begun
+out_begun (Some (command.CheckWith file answer lits)) old new (inr (p, read, has, room, given)) = omega (arith, given.once.begun ∙ ap counted has.read.once.begun)
 
 out_faults : (found : Option Command) (old new : ShelfView) → IsOutOfMemory found old new → new.faults ≡ old.faults
 out_faults None old new out = absurd out
@@ -55,10 +76,24 @@ out_faults (Some (command.Solve file budget)) old new (inl same) = ap (λ (shelf
 out_faults (Some (command.Solve file budget)) old new (inr given) = given.faults
 out_faults (Some (command.Print file)) old new (inl same) = ap (λ (shelf : ShelfView). shelf.faults) same
 out_faults (Some (command.Print file)) old new (inr given) = given.faults
+out_faults (Some (command.Team file workers rounds)) old new (inl same) = ap (λ (shelf : ShelfView). shelf.faults) same
+out_faults (Some (command.Team file workers rounds)) old new (inr given) = given.faults
 out_faults (Some (command.Gen k size seed solve)) old new same = ap (λ (shelf : ShelfView). shelf.faults) same
 out_faults (Some (command.Check file answer)) old new (inl (inl same)) = ap (λ (shelf : ShelfView). shelf.faults) same
 out_faults (Some (command.Check file answer)) old new (inl (inr given)) = given.faults
 out_faults (Some (command.Check file answer)) old new (inr (p, read, has, given)) = given.faults ∙ has.read.faults
+out_faults (Some (command.Migrate file answer v)) old new (inl (inl same)) = ap (λ (shelf : ShelfView). shelf.faults) same
+out_faults (Some (command.Migrate file answer v)) old new (inl (inr given)) = given.faults
+out_faults (Some (command.Migrate file answer v)) old new (inr (p, read, has, given)) = given.faults ∙ has.read.faults
+out_faults (Some (command.Core file lits)) old new (inl same) = ap (λ (shelf : ShelfView). shelf.faults) same
+out_faults (Some (command.Core file lits)) old new (inr given) = given.faults
+out_faults (Some (command.Best file n)) old new (inl same) = ap (λ (shelf : ShelfView). shelf.faults) same
+out_faults (Some (command.Best file n)) old new (inr given) = given.faults
+out_faults (Some (command.Ask file n b)) old new (inl same) = ap (λ (shelf : ShelfView). shelf.faults) same
+out_faults (Some (command.Ask file n b)) old new (inr given) = given.faults
+out_faults (Some (command.CheckWith file answer lits)) old new (inl (inl same)) = ap (λ (shelf : ShelfView). shelf.faults) same
+out_faults (Some (command.CheckWith file answer lits)) old new (inl (inr given)) = given.faults
+out_faults (Some (command.CheckWith file answer lits)) old new (inr (p, read, has, room, given)) = given.faults ∙ has.read.faults
 
 -- ---- one file
 
@@ -72,6 +107,9 @@ text_begun file limit old new (ending.Judged v) ends = absurd ends
 text_begun file limit old new (ending.Summed s) ends = absurd ends
 text_begun file limit old new (ending.Solved reply) ends = absurd ends
 text_begun file limit old new (ending.Printed text) ends = absurd ends
+text_begun file limit old new (ending.Narrowed o) ends = absurd ends
+text_begun file limit old new (ending.Bounded o) ends = absurd ends
+text_begun file limit old new (ending.Unasked r) ends = absurd ends
 
 text_faults : (file : List ℕ) (limit : ℕ) (old new : ShelfView) (e : Ending) → e ≢ ending.ReadFault → EndsAtText file limit old new e → new.faults ≡ old.faults
 text_faults file limit old new ending.ReadFault else ends = absurd (else refl)
@@ -83,6 +121,9 @@ text_faults file limit old new (ending.Judged v) else ends = absurd ends
 text_faults file limit old new (ending.Summed s) else ends = absurd ends
 text_faults file limit old new (ending.Solved reply) else ends = absurd ends
 text_faults file limit old new (ending.Printed text) else ends = absurd ends
+text_faults file limit old new (ending.Narrowed o) else ends = absurd ends
+text_faults file limit old new (ending.Bounded o) else ends = absurd ends
+text_faults file limit old new (ending.Unasked r) else ends = absurd ends
 
 -- ---- FILE
 
@@ -97,6 +138,9 @@ file_begun file old new (ending.Judged v) ends = absurd ends
 file_begun file old new (ending.Summed s) ends = absurd ends
 file_begun file old new (ending.Solved reply) ends = absurd ends
 file_begun file old new (ending.Printed text) ends = absurd ends
+file_begun file old new (ending.Narrowed o) ends = absurd ends
+file_begun file old new (ending.Bounded o) ends = absurd ends
+file_begun file old new (ending.Unasked r) ends = absurd ends
 
 file_faults : (file : List ℕ) (old new : ShelfView) (e : Ending) → e ≢ ending.ReadFault → EndsAtFile file old new e → new.faults ≡ old.faults
 file_faults file old new ending.ReadFault else ends = absurd (else refl)
@@ -108,6 +152,9 @@ file_faults file old new (ending.Judged v) else ends = absurd ends
 file_faults file old new (ending.Summed s) else ends = absurd ends
 file_faults file old new (ending.Solved reply) else ends = absurd ends
 file_faults file old new (ending.Printed text) else ends = absurd ends
+file_faults file old new (ending.Narrowed o) else ends = absurd ends
+file_faults file old new (ending.Bounded o) else ends = absurd ends
+file_faults file old new (ending.Unasked r) else ends = absurd ends
 
 -- ---- commands
 
@@ -120,10 +167,34 @@ comes_begun (Some (command.Gen k size seed solve)) old new e comes = omega (arit
 comes_begun (Some (command.Print file)) old new e (inl ends) = omega (arith, file_begun file old new e ends)
 comes_begun (Some (command.Print file)) old new e (inr (p, shelf, has, printed)) =
     omega (arith, has.read.once.begun, ap (λ (s : ShelfView). s.begun) printed.1)
+comes_begun (Some (command.Team file workers rounds)) old new e (inl ends) = omega (arith, file_begun file old new e ends)
+comes_begun (Some (command.Team file workers rounds)) old new e (inr (p, shelf, has, teamed)) =
+    omega (arith, has.read.once.begun, ap (λ (s : ShelfView). s.begun) teamed.1)
 comes_begun (Some (command.Check file answer)) old new e (inl ends) = at_most_once old.begun new.begun (file_begun file old new e ends)
 comes_begun (Some (command.Check file answer)) old new e (inr (p, read, has, inl ends)) =
     omega (arith, text_begun answer MAX_ANSWER_BYTES read new e ends ∙ ap counted has.read.once.begun)
 comes_begun (Some (command.Check file answer)) old new e (inr (p, read, has, inr (text, shelf, given, judged))) =
+    omega (arith, ap (λ (s : ShelfView). s.begun) judged.1 ∙ given.once.begun ∙ ap counted has.read.once.begun)
+comes_begun (Some (command.Migrate file answer v)) old new e (inl ends) = at_most_once old.begun new.begun (file_begun file old new e ends)
+comes_begun (Some (command.Migrate file answer v)) old new e (inr (p, read, has, inl ends)) =
+    omega (arith, text_begun answer MAX_MIGRATED_BYTES read new e ends ∙ ap counted has.read.once.begun)
+comes_begun (Some (command.Migrate file answer v)) old new e (inr (p, read, has, inr (text, shelf, given, judged))) =
+    omega (arith, ap (λ (s : ShelfView). s.begun) judged.1 ∙ given.once.begun ∙ ap counted has.read.once.begun)
+comes_begun (Some (command.Core file lits)) old new e (inl ends) = omega (arith, file_begun file old new e ends)
+comes_begun (Some (command.Core file lits)) old new e (inr (p, shelf, has, found)) =
+    omega (arith, has.read.once.begun, ap (λ (s : ShelfView). s.begun) found.1)
+comes_begun (Some (command.Best file n)) old new e (inl ends) = omega (arith, file_begun file old new e ends)
+comes_begun (Some (command.Best file n)) old new e (inr (p, shelf, has, found)) =
+    omega (arith, has.read.once.begun, ap (λ (s : ShelfView). s.begun) found.1)
+comes_begun (Some (command.Ask file n b)) old new e (inl ends) = omega (arith, file_begun file old new e ends)
+comes_begun (Some (command.Ask file n b)) old new e (inr (p, shelf, has, found)) =
+    omega (arith, has.read.once.begun, ap (λ (s : ShelfView). s.begun) found.1)
+comes_begun (Some (command.CheckWith file answer lits)) old new e (inl ends) = at_most_once old.begun new.begun (file_begun file old new e ends)
+comes_begun (Some (command.CheckWith file answer lits)) old new e (inr (p, read, has, inl beyond)) =
+    at_most_once old.begun new.begun (ap (λ (s : ShelfView). s.begun) beyond.1 ∙ has.read.once.begun)
+comes_begun (Some (command.CheckWith file answer lits)) old new e (inr (p, read, has, inr (within, room, inl ends))) =
+    omega (arith, text_begun answer MAX_ANSWER_BYTES read new e ends ∙ ap counted has.read.once.begun)
+comes_begun (Some (command.CheckWith file answer lits)) old new e (inr (p, read, has, inr (within, room, inr (text, shelf, given, judged)))) =
     omega (arith, ap (λ (s : ShelfView). s.begun) judged.1 ∙ given.once.begun ∙ ap counted has.read.once.begun)
 
 comes_faults : (found : Option Command) (old new : ShelfView) (e : Ending) → e ≢ ending.ReadFault → ComesTo found old new e → new.faults ≡ old.faults
@@ -135,10 +206,34 @@ comes_faults (Some (command.Gen k size seed solve)) old new e else comes = ap (�
 comes_faults (Some (command.Print file)) old new e else (inl ends) = file_faults file old new e else ends
 comes_faults (Some (command.Print file)) old new e else (inr (p, shelf, has, printed)) =
     ap (λ (s : ShelfView). s.faults) printed.1 ∙ has.read.faults
+comes_faults (Some (command.Team file workers rounds)) old new e else (inl ends) = file_faults file old new e else ends
+comes_faults (Some (command.Team file workers rounds)) old new e else (inr (p, shelf, has, teamed)) =
+    ap (λ (s : ShelfView). s.faults) teamed.1 ∙ has.read.faults
 comes_faults (Some (command.Check file answer)) old new e else (inl ends) = file_faults file old new e else ends
 comes_faults (Some (command.Check file answer)) old new e else (inr (p, read, has, inl ends)) =
     text_faults answer MAX_ANSWER_BYTES read new e else ends ∙ has.read.faults
 comes_faults (Some (command.Check file answer)) old new e else (inr (p, read, has, inr (text, shelf, given, judged))) =
+    ap (λ (s : ShelfView). s.faults) judged.1 ∙ given.faults ∙ has.read.faults
+comes_faults (Some (command.Migrate file answer v)) old new e else (inl ends) = file_faults file old new e else ends
+comes_faults (Some (command.Migrate file answer v)) old new e else (inr (p, read, has, inl ends)) =
+    text_faults answer MAX_MIGRATED_BYTES read new e else ends ∙ has.read.faults
+comes_faults (Some (command.Migrate file answer v)) old new e else (inr (p, read, has, inr (text, shelf, given, judged))) =
+    ap (λ (s : ShelfView). s.faults) judged.1 ∙ given.faults ∙ has.read.faults
+comes_faults (Some (command.Core file lits)) old new e else (inl ends) = file_faults file old new e else ends
+comes_faults (Some (command.Core file lits)) old new e else (inr (p, shelf, has, found)) =
+    ap (λ (s : ShelfView). s.faults) found.1 ∙ has.read.faults
+comes_faults (Some (command.Best file n)) old new e else (inl ends) = file_faults file old new e else ends
+comes_faults (Some (command.Best file n)) old new e else (inr (p, shelf, has, found)) =
+    ap (λ (s : ShelfView). s.faults) found.1 ∙ has.read.faults
+comes_faults (Some (command.Ask file n b)) old new e else (inl ends) = file_faults file old new e else ends
+comes_faults (Some (command.Ask file n b)) old new e else (inr (p, shelf, has, found)) =
+    ap (λ (s : ShelfView). s.faults) found.1 ∙ has.read.faults
+comes_faults (Some (command.CheckWith file answer lits)) old new e else (inl ends) = file_faults file old new e else ends
+comes_faults (Some (command.CheckWith file answer lits)) old new e else (inr (p, read, has, inl beyond)) =
+    ap (λ (s : ShelfView). s.faults) beyond.1 ∙ has.read.faults
+comes_faults (Some (command.CheckWith file answer lits)) old new e else (inr (p, read, has, inr (within, room, inl ends))) =
+    text_faults answer MAX_ANSWER_BYTES read new e else ends ∙ has.read.faults
+comes_faults (Some (command.CheckWith file answer lits)) old new e else (inr (p, read, has, inr (within, room, inr (text, shelf, given, judged)))) =
     ap (λ (s : ShelfView). s.faults) judged.1 ∙ given.faults ∙ has.read.faults
 
 pub ends_begun : (found : Option Command) (old new : ShelfView) (e : Ending) → Ends found old new e → new.begun ≤ begun_for (files_of found) old.begun

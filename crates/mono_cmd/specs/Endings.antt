@@ -16,6 +16,12 @@ use Rattle.mono_check.specs.declared.reason.Reason.{Reason}
 use Rattle.mono_check.specs.declared.reason.Reason.TheVariants as reason
 use Rattle.mono_check.specs.declared.verdict.Verdict.{Verdict}
 use Rattle.mono_check.specs.declared.verdict.Verdict.TheVariants as verdict
+use Rattle.mono_core.specs.declared.outcome.CoreOutcome.{CoreOutcome}
+use Rattle.mono_core.specs.declared.outcome.CoreOutcome.TheVariants as outcome
+use Rattle.mono_cmd.specs.CoreTexts.{outcome_text}
+use Rattle.mono_best.specs.declared.outcome.BestOutcome.{BestOutcome}
+use Rattle.mono_best.specs.declared.outcome.BestOutcome.TheVariants as bounded
+use Rattle.mono_cmd.specs.BestTexts.{best_text, refusal_text}
 use Rattle.mono_cmd.specs.declared.status.Status.{Status}
 use Rattle.mono_cmd.specs.declared.status.Status.TheVariants as status
 use Rattle.mono_cmd.specs.declared.summary.Summary.{Summary}
@@ -33,6 +39,17 @@ verdict_status verdict.Refutation = status.Accepted
 verdict_status (verdict.Progress n) = status.Accepted
 verdict_status (verdict.Rejected line r) = status.Rejected
 
+abbrev pub outcome_status : CoreOutcome → Status
+outcome_status (outcome.Model values) = status.Satisfiable
+outcome_status (outcome.Core lits steps needs) = status.Unsatisfiable
+outcome_status (outcome.Unknown steps) = status.Unknown
+
+abbrev pub best_status : BestOutcome → Status
+best_status (bounded.Best b model steps) = status.Satisfiable
+best_status (bounded.Never steps) = status.Unsatisfiable
+best_status (bounded.Beyond model) = status.Satisfiable
+best_status (bounded.Unknown b steps) = status.Unknown
+
 abbrev pub status_of : Ending → Status
 status_of ending.Words = status.Words
 status_of ending.ReadFault = status.ReadFault
@@ -43,6 +60,9 @@ status_of (ending.Solved a) = answer_status a
 status_of (ending.Judged v) = verdict_status v
 status_of (ending.Summed s) = answer_status s.answer
 status_of (ending.Printed text) = status.Printed
+status_of (ending.Narrowed o) = outcome_status o
+status_of (ending.Bounded o) = best_status o
+status_of (ending.Unasked r) = status.Refused
 
 -- the name of a reason, and the number that it carries, if it carries one
 abbrev pub reason_words : Reason → List (List ℕ)
@@ -81,7 +101,7 @@ abbrev pub summary_text : Summary → List ℕ
 summary_text s = summary_lines s.vars s.clauses s.edges s.predicates (result_word s.answer) (verdict_text s.verdict) ++ s.progress
 
 abbrev pub text_of : Ending → List ℕ
-text_of ending.Words = codes "usage: solve FILE [--conflicts N] | check FILE ANSWER | print FILE | gen KIND SIZE SEED [--solve]\n"
+text_of ending.Words = codes "usage: solve FILE [--conflicts N] | check FILE ANSWER | print FILE | gen KIND SIZE SEED [--solve] | migrate FILE ANSWER VERSION | core FILE LIT.. | check-with FILE ANSWER LIT.. | best FILE ATOM | ask FILE ATOM B | team FILE K R\n"
 text_of ending.ReadFault = codes "read fault\n"
 text_of ending.Memory = []
 text_of ending.TooLong = codes "too long\n"
@@ -90,6 +110,9 @@ text_of (ending.Solved a) = answer_text a
 text_of (ending.Judged v) = verdict_text v
 text_of (ending.Summed s) = summary_text s
 text_of (ending.Printed text) = text
+text_of (ending.Narrowed o) = outcome_text o
+text_of (ending.Bounded o) = best_text o
+text_of (ending.Unasked r) = refusal_text r
 
 -- Memory may be wanting for the text of this ending, or was wanting on the way to it. A text of constants takes none, and
 -- neither does one that is there already.
@@ -98,6 +121,7 @@ TakesMemory ending.Words = ⊥
 TakesMemory ending.ReadFault = ⊥
 TakesMemory ending.TooLong = ⊥
 TakesMemory (ending.Printed text) = ⊥
+TakesMemory (ending.Unasked r) = ⊥
 TakesMemory (ending.Judged verdict.Model) = ⊥
 TakesMemory (ending.Judged verdict.Refutation) = ⊥
 TakesMemory e = Unit {0}

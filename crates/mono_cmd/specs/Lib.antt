@@ -1,6 +1,9 @@
 pub mod Commands
+pub mod CoreTexts
+pub mod BestTexts
 pub mod Statuses
 pub mod Solved
+pub mod Teams
 pub mod Endings
 pub mod Runs
 pub mod Worked

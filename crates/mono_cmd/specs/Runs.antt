@@ -1,7 +1,8 @@
 -- What a run comes to, by its command and by what contracts see of the shelf as it begins (`old`) and as it ends (`new`).
-use Rattle.std.specs.Prelude.{◌≡◌, ◌≢◌, ℕ, ◌≤◌, ◌⊎◌, Bool, true, false, List, [], ◌∷◌, ◌++◌, length, codes, Option, Some, None, IsSome, IsSomeAnd}
+use Rattle.std.specs.Prelude.{◌≡◌, ℕ, ◌+◌, ℤ, pos, ◌≤◌, ◌⊎◌, Bool, true, false, List, [], ◌∷◌, ◌++◌, length, codes, Option, Some, None, IsSome, IsSomeAnd, All}
 use Rattle.std.specs.Io.KnownBytes.{append_known}
-use Rattle.mono_base.specs.declared.limits.TheConstants.{MAX_INPUT_BYTES, MAX_ANSWER_BYTES}
+use Rattle.mono_base.specs.declared.limits.TheConstants.{MAX_INPUT_BYTES, MAX_ANSWER_BYTES, MAX_VARS}
+use Rattle.mono_base.specs.Literal.{IsLitWithin}
 use Rattle.mono_io.specs.Faults.{counted}
 use Rattle.mono_io.specs.Reading.{IsRead, IsTooLong, IsNotRead, IsGivenUp}
 use Rattle.mono_io.specs.Shelf.{Texts, ShelfView, told_text}
@@ -19,6 +20,8 @@ use Rattle.mono_answer.specs.declared.answer.Answer.{Answer}
 use Rattle.mono_answer.specs.declared.answer.Answer.TheVariants as answer
 use Rattle.mono_check.specs.declared.verdict.Verdict.TheVariants as verdict
 use Rattle.mono_check.specs.Verdicts.{IsVerdict}
+use Rattle.mono_check.specs.Migrations.{MigratesTo}
+use Rattle.mono_answer.specs.declared.version.Version.{Version}
 use Rattle.mono_cmd.specs.declared.command.Command.{Command}
 use Rattle.mono_cmd.specs.declared.command.Command.TheVariants as command
 use Rattle.mono_cmd.specs.declared.status.Status.{Status}
@@ -26,11 +29,30 @@ use Rattle.mono_cmd.specs.declared.status.Status.TheVariants as status
 use Rattle.mono_cmd.specs.declared.summary.Summary.{Summary}
 use Rattle.mono_cmd.specs.declared.ending.Ending.{Ending}
 use Rattle.mono_cmd.specs.declared.ending.Ending.TheVariants as ending
-use Rattle.mono_cmd.specs.Commands.{command_of, files_of}
+use Rattle.mono_cmd.specs.Commands.{command_of}
 use Rattle.mono_cmd.specs.Statuses.{code_of}
-use Rattle.mono_cmd.specs.declared.command.TheConstants.{DEFAULT_BUDGET}
+use Rattle.mono_cmd.specs.declared.command.TheConstants.{DEFAULT_BUDGET, MAX_MIGRATED_BYTES}
 use Rattle.mono_cmd.specs.Endings.{status_of, text_of, TakesMemory, summary_lines, verdict_text}
-use Rattle.mono_cmd.specs.Solved.{IsSolution, IsProgress, IsSummary}
+use Rattle.mono_search.specs.Solving.{IsProgress}
+use Rattle.mono_problem.specs.Assuming.{assuming, HasRoom}
+use Rattle.mono_gnf.specs.declared.fault.GnfFault.TheVariants as fault
+use Rattle.mono_core.specs.declared.outcome.CoreOutcome.{CoreOutcome}
+use Rattle.mono_core.specs.declared.outcome.CoreOutcome.TheVariants as outcome
+use Rattle.mono_core.specs.declared.outcome.Need.{Need}
+use Rattle.mono_core.specs.Cores.{IsCore}
+use Rattle.mono_base.specs.declared.limits.TheConstants.{MAX_BOUND}
+use Rattle.mono_best.specs.declared.outcome.BestOutcome.{BestOutcome}
+use Rattle.mono_best.specs.declared.outcome.BestOutcome.TheVariants as bounded
+use Rattle.mono_best.specs.Asking.{asking, predicate_of, HasBoundedAtom, HasRoomToAsk}
+use Rattle.mono_best.specs.Bounds.{beyond, weakest, IsBoundOf}
+use Rattle.mono_best.specs.Best.{IsBest, IsOpen, IsBeyond as IsBeyondBounds}
+use Rattle.mono_best.specs.Optimum.{IsOptimum, IsNeverMet}
+use Rattle.mono_cmd.specs.declared.asking.AskRefusal.{AskRefusal}
+use Rattle.mono_cmd.specs.declared.asking.AskRefusal.TheVariants as refusal
+use Rattle.mono_cmd.specs.BestTexts.{best_text}
+use Rattle.mono_cmd.specs.CoreTexts.{outcome_text}
+use Rattle.mono_cmd.specs.Solved.{IsSolution, IsSummary, IsNarrowing, IsBounding}
+use Rattle.mono_cmd.specs.Teams.{IsTeamed}
 
 -- ---- a file on the way
 
@@ -73,6 +95,12 @@ abbrev pub IsJudged : Instance → List ℕ → Ending → Type 0
 IsJudged p text (ending.Judged v) = IsVerdict p text v
 IsJudged p text e = ⊥
 
+-- ANSWER's text in the version, or the verdict that rejects it
+abbrev pub IsMigration : Instance → List ℕ → Version → Ending → Type 0
+IsMigration p text v (ending.Printed other) = MigratesTo p text v other
+IsMigration p text v (ending.Judged (verdict.Rejected n r)) = IsVerdict p text (verdict.Rejected n r)
+IsMigration p text v e = ⊥
+
 -- an answer to FILE's problem
 abbrev pub IsSolved : Instance → ℕ → Ending → Type 0
 IsSolved p budget (ending.Solved a) = IsSolution p budget a
@@ -93,6 +121,43 @@ abbrev pub IsGenerated : GenKind → ℕ → ℕ → Bool → Ending → Type 0
 IsGenerated k size seed false e = e ≡ ending.Printed (generated k size seed)
 IsGenerated k size seed true e = SumsUp k size seed e
 
+-- ---- assumptions
+
+-- there is no room for one more clause of each assumption
+abbrev pub IsBeyond : Instance → List ℤ → Ending → Type 0
+IsBeyond p lits e = (¬ HasRoom p lits) × (e ≡ ending.Refused 0 fault.TooMany)
+
+-- what was found of FILE's problem under the assumptions
+abbrev pub IsNarrowed : Instance → List ℤ → Ending → Type 0
+IsNarrowed p lits (ending.Narrowed o) = HasRoom p lits × IsNarrowing p DEFAULT_BUDGET lits o
+IsNarrowed p lits e = ⊥
+
+-- the verdict on ANSWER for FILE's problem under the assumptions, which are literals
+abbrev pub IsJudgedWith : Instance → List ℤ → List ℕ → ShelfView → ShelfView → Ending → Type 0
+IsJudgedWith p lits answer read new e =
+    All (IsLitWithin MAX_VARS) lits × HasRoom p lits × WithText answer MAX_ANSWER_BYTES read new e (λ text shelf. IsJudged (assuming p lits) text e × (new ≡ shelf))
+
+-- ---- bounds
+
+-- Why a bound of the predicate can't be asked for, the first that applies: the input lacks such a predicate, the bound doesn't
+-- fit, or there is no room.
+abbrev pub IsUnasked : Instance → ℕ → Type 0 → AskRefusal → Type 0
+IsUnasked p n Fits refusal.BadAtom = ¬ HasBoundedAtom p n
+IsUnasked p n Fits refusal.BadBound = HasBoundedAtom p n × ¬ Fits
+IsUnasked p n Fits refusal.TooMany = HasBoundedAtom p n × Fits × ¬ HasRoomToAsk p
+
+-- what was found of the bound of a predicate of FILE's problem. Each bound is one that `best` asks for itself, so it fits
+abbrev pub IsBounded : Instance → ℕ → Ending → Type 0
+IsBounded p n (ending.Bounded o) = HasBoundedAtom p n × HasRoomToAsk p × IsBounding p DEFAULT_BUDGET n o
+IsBounded p n (ending.Unasked r) = IsUnasked p n (Unit {0}) r
+IsBounded p n e = ⊥
+
+-- the printed form of the problem that asks for the bound
+abbrev pub IsAsked : Instance → ℕ → ℤ → Ending → Type 0
+IsAsked p n b (ending.Printed text) = HasBoundedAtom p n × IsBoundOf (predicate_of p n) b × HasRoomToAsk p × (text ≡ printed (asking p n b))
+IsAsked p n b (ending.Unasked r) = IsUnasked p n (IsBoundOf (predicate_of p n) b) r
+IsAsked p n b e = ⊥
+
 -- ---- commands
 
 -- What a run with this command comes to, where memory is found.
@@ -106,6 +171,19 @@ ComesTo (Some (command.Gen k size seed solve)) old new e = IsGenerated k size se
 ComesTo (Some (command.Check file answer)) old new e =
     WithProblem file old new e (λ p read.
     WithText answer MAX_ANSWER_BYTES read new e (λ text shelf. IsJudged p text e × (new ≡ shelf)))
+ComesTo (Some (command.Migrate file answer v)) old new e =
+    WithProblem file old new e (λ p read.
+    WithText answer MAX_MIGRATED_BYTES read new e (λ text shelf. IsMigration p text v e × (new ≡ shelf)))
+ComesTo (Some (command.Core file lits)) old new e =
+    WithProblem file old new e (λ p shelf. (IsBeyond p lits e ⊎ IsNarrowed p lits e) × (new ≡ shelf))
+ComesTo (Some (command.Best file n)) old new e =
+    WithProblem file old new e (λ p shelf. IsBounded p n e × (new ≡ shelf))
+ComesTo (Some (command.Ask file n b)) old new e =
+    WithProblem file old new e (λ p shelf. IsAsked p n b e × (new ≡ shelf))
+ComesTo (Some (command.CheckWith file answer lits)) old new e =
+    WithProblem file old new e (λ p read. (IsBeyond p lits e × (new ≡ read)) ⊎ IsJudgedWith p lits answer read new e)
+ComesTo (Some (command.Team file workers rounds)) old new e =
+    WithProblem file old new e (λ p shelf. IsTeamed p workers rounds e × (new ≡ shelf))
 
 -- the count after each of these files was begun once more
 abbrev pub begun_for : List (List ℕ) → ℕ → ℕ
@@ -121,6 +199,14 @@ IsOutOfMemory (Some (command.Print file)) old new = (new ≡ old) ⊎ IsGivenUp 
 IsOutOfMemory (Some (command.Gen k size seed solve)) old new = new ≡ old
 IsOutOfMemory (Some (command.Check file answer)) old new =
     ((new ≡ old) ⊎ IsGivenUp MAX_INPUT_BYTES old new) ⊎ ((p : Instance) × (read : ShelfView) × HasProblem file old read p × IsGivenUp MAX_ANSWER_BYTES read new)
+IsOutOfMemory (Some (command.Migrate file answer v)) old new =
+    ((new ≡ old) ⊎ IsGivenUp MAX_INPUT_BYTES old new) ⊎ ((p : Instance) × (read : ShelfView) × HasProblem file old read p × IsGivenUp MAX_MIGRATED_BYTES read new)
+IsOutOfMemory (Some (command.Core file lits)) old new = (new ≡ old) ⊎ IsGivenUp MAX_INPUT_BYTES old new
+IsOutOfMemory (Some (command.Best file n)) old new = (new ≡ old) ⊎ IsGivenUp MAX_INPUT_BYTES old new
+IsOutOfMemory (Some (command.Ask file n b)) old new = (new ≡ old) ⊎ IsGivenUp MAX_INPUT_BYTES old new
+IsOutOfMemory (Some (command.CheckWith file answer lits)) old new =
+    ((new ≡ old) ⊎ IsGivenUp MAX_INPUT_BYTES old new) ⊎ ((p : Instance) × (read : ShelfView) × HasProblem file old read p × HasRoom p lits × IsGivenUp MAX_ANSWER_BYTES read new)
+IsOutOfMemory (Some (command.Team file workers rounds)) old new = (new ≡ old) ⊎ IsGivenUp MAX_INPUT_BYTES old new
 
 -- What a run comes to.
 abbrev pub Ends : Option Command → ShelfView → ShelfView → Ending → Type 0
@@ -165,6 +251,51 @@ pub record Solves (found : Option Command) (texts : Option Texts) (p : Instance)
   pub told : told_text texts file ≡ Some text
   pub stands : Stands text p
 
+-- `core` runs with these assumptions, and FILE is told and stands for the problem
+pub record Narrows (found : Option Command) (texts : Option Texts) (p : Instance) (lits : List ℤ) : Type 0 where
+  pub file : List ℕ
+  pub is : found ≡ Some (command.Core file lits)
+  pub text : List ℕ
+  pub told : told_text texts file ≡ Some text
+  pub stands : Stands text p
+
+-- what `core` writes with this status: with a model or progress what `check-with` accepts under all assumptions, and else the text of a core and what it accepts under that
+abbrev pub IsCoreBy : Status → Instance → List ℤ → List ℕ → Type 0
+IsCoreBy status.Satisfiable p lits text = IsVerdict (assuming p lits) text verdict.Model
+IsCoreBy status.Unsatisfiable p lits text =
+    (some : List ℤ) × (needs : List Need) × (steps : List Step) × IsCore p DEFAULT_BUDGET lits some steps needs × (text ≡ outcome_text (outcome.Core some steps needs)) × IsVerdict (assuming p some) text verdict.Refutation
+IsCoreBy status.Unknown p lits text = IsVerdict (assuming p lits) text (verdict.Progress DEFAULT_BUDGET)
+IsCoreBy s p lits text = Unit {0}
+
+-- `best` runs, and FILE is told and stands for the problem
+pub record Bounds (found : Option Command) (texts : Option Texts) (p : Instance) (n : ℕ) : Type 0 where
+  pub file : List ℕ
+  pub is : found ≡ Some (command.Best file n)
+  pub text : List ℕ
+  pub told : told_text texts file ≡ Some text
+  pub stands : Stands text p
+
+-- What `best` writes with this status: the best bound over all assignments that satisfy the problem, a flow beyond every bound,
+-- that no bound is met, or the bound on which the budget was spent. `check` accepts it of the problem that asks for the bound past
+-- the best one, for the greatest flow, for the weakest bound, or for that bound.
+abbrev pub IsBestBy : Status → Instance → ℕ → List ℕ → Type 0
+IsBestBy status.Satisfiable p n text =
+    ((b : ℤ) × (model : List Bool) × (steps : List Step) × IsBest p n b model steps × IsOptimum p n b × (text ≡ best_text (bounded.Best b model steps)) × IsVerdict (asking p n (beyond (predicate_of p n) b)) text verdict.Refutation)
+    ⊎ ((model : List Bool) × IsBeyondBounds p n model × (text ≡ best_text (bounded.Beyond model)) × IsVerdict (asking p n (pos (MAX_BOUND + 1))) text verdict.Model)
+IsBestBy status.Unsatisfiable p n text =
+    (steps : List Step) × IsNeverMet p n × (text ≡ best_text (bounded.Never steps)) × IsVerdict (asking p n (weakest (predicate_of p n))) text verdict.Refutation
+IsBestBy status.Unknown p n text =
+    (b : ℤ) × (steps : List Step) × IsOpen p n DEFAULT_BUDGET b steps × (text ≡ best_text (bounded.Unknown b steps)) × IsVerdict (asking p n b) text (verdict.Progress DEFAULT_BUDGET)
+IsBestBy s p n text = Unit {0}
+
+-- `ask` runs, and FILE is told and stands for the problem
+pub record Asks (found : Option Command) (texts : Option Texts) (p : Instance) (n : ℕ) (b : ℤ) : Type 0 where
+  pub file : List ℕ
+  pub is : found ≡ Some (command.Ask file n b)
+  pub text : List ℕ
+  pub told : told_text texts file ≡ Some text
+  pub stands : Stands text p
+
 -- the verdict of `check` on a text that was written with this status
 abbrev pub IsVerdictBy : Status → Instance → ℕ → List ℕ → Type 0
 IsVerdictBy status.Satisfiable p budget text = IsVerdict p text verdict.Model
@@ -204,6 +335,18 @@ pub record CheckWrote (found : Option Command) (texts : Option Texts) (before no
   pub held : before ≡ Some there
   pub wrote : now ≡ Some (there ++ written)
 
+-- `check-with` wrote this behind what was there, and FILE is told and stands for the problem
+pub record CheckWithWrote (found : Option Command) (texts : Option Texts) (before now : Option (List ℕ)) (p : Instance) (lits : List ℤ) (written : List ℕ) : Type 0 where
+  pub file : List ℕ
+  pub answer : List ℕ
+  pub is : found ≡ Some (command.CheckWith file answer lits)
+  pub text : List ℕ
+  pub told : told_text texts file ≡ Some text
+  pub stands : Stands text p
+  pub there : List ℕ
+  pub held : before ≡ Some there
+  pub wrote : now ≡ Some (there ++ written)
+
 -- ---- what a command needs
 
 -- the shelf tells its texts and holds that file
@@ -218,20 +361,36 @@ IsHeldWithin texts file limit = IsSomeAnd (told_text texts file) (λ text. lengt
 abbrev pub HasNoFault : Option Texts → List ℕ → Type 0
 HasNoFault texts file = IsSomeAnd (told_text texts file) (λ text. (length text ≤ MAX_INPUT_BYTES) × (first_fault text ≡ None))
 
+-- and there is room for the assumptions
+abbrev pub HasNoFaultWith : Option Texts → List ℕ → List ℤ → Type 0
+HasNoFaultWith texts file lits = IsSomeAnd (told_text texts file) (λ text. (length text ≤ MAX_INPUT_BYTES) × ((p : Instance) × Stands text p × HasRoom p lits))
+
 -- each file that the command comes to meets the condition, by its limit: ANSWER only where FILE has no fault
 abbrev pub EachReached : (List ℕ → ℕ → Type 0) → Option Texts → Command → Type 0
 EachReached Holds texts (command.Check file answer) = Holds file MAX_INPUT_BYTES × (HasNoFault texts file → Holds answer MAX_ANSWER_BYTES)
+EachReached Holds texts (command.Migrate file answer v) = Holds file MAX_INPUT_BYTES × (HasNoFault texts file → Holds answer MAX_MIGRATED_BYTES)
 EachReached Holds texts (command.Print file) = Holds file MAX_INPUT_BYTES
 EachReached Holds texts (command.Solve file budget) = Holds file MAX_INPUT_BYTES
 EachReached Holds texts (command.Gen k size seed solve) = Unit {0}
+EachReached Holds texts (command.Core file lits) = Holds file MAX_INPUT_BYTES
+EachReached Holds texts (command.Best file n) = Holds file MAX_INPUT_BYTES
+EachReached Holds texts (command.Ask file n b) = Holds file MAX_INPUT_BYTES
+EachReached Holds texts (command.CheckWith file answer lits) = Holds file MAX_INPUT_BYTES × (HasNoFaultWith texts file lits → Holds answer MAX_ANSWER_BYTES)
+EachReached Holds texts (command.Team file workers rounds) = Holds file MAX_INPUT_BYTES
 
 -- how a command ends that is carried out
 abbrev pub IsCarriedOut : Command → Status → Type 0
 IsCarriedOut (command.Solve file budget) s = (s ≡ status.Satisfiable) ⊎ (s ≡ status.Unsatisfiable) ⊎ (s ≡ status.Unknown) ⊎ (s ≡ status.Refused)
 IsCarriedOut (command.Check file answer) s = (s ≡ status.Accepted) ⊎ (s ≡ status.Rejected) ⊎ (s ≡ status.Refused)
+IsCarriedOut (command.Migrate file answer v) s = (s ≡ status.Printed) ⊎ (s ≡ status.Rejected) ⊎ (s ≡ status.Refused)
 IsCarriedOut (command.Print file) s = (s ≡ status.Printed) ⊎ (s ≡ status.Refused)
 IsCarriedOut (command.Gen k size seed false) s = s ≡ status.Printed
 IsCarriedOut (command.Gen k size seed true) s = (s ≡ status.Satisfiable) ⊎ (s ≡ status.Unsatisfiable) ⊎ (s ≡ status.Unknown)
+IsCarriedOut (command.Core file lits) s = (s ≡ status.Satisfiable) ⊎ (s ≡ status.Unsatisfiable) ⊎ (s ≡ status.Unknown) ⊎ (s ≡ status.Refused)
+IsCarriedOut (command.Best file n) s = (s ≡ status.Satisfiable) ⊎ (s ≡ status.Unsatisfiable) ⊎ (s ≡ status.Unknown) ⊎ (s ≡ status.Refused)
+IsCarriedOut (command.Ask file n b) s = (s ≡ status.Printed) ⊎ (s ≡ status.Refused)
+IsCarriedOut (command.CheckWith file answer lits) s = (s ≡ status.Accepted) ⊎ (s ≡ status.Rejected) ⊎ (s ≡ status.Refused)
+IsCarriedOut (command.Team file workers rounds) s = (s ≡ status.Satisfiable) ⊎ (s ≡ status.Unsatisfiable) ⊎ (s ≡ status.Unknown) ⊎ (s ≡ status.Refused)
 
 -- ---- two runs
 
@@ -239,6 +398,9 @@ IsCarriedOut (command.Gen k size seed true) s = (s ≡ status.Satisfiable) ⊎ (
 abbrev pub IsSolving : Option Command → Type 0
 IsSolving (Some (command.Solve file budget)) = Unit {0}
 IsSolving (Some (command.Gen k size seed true)) = Unit {0}
+IsSolving (Some (command.Core file lits)) = Unit {0}
+IsSolving (Some (command.Best file n)) = Unit {0}
+IsSolving (Some (command.Team file workers rounds)) = Unit {0}
 IsSolving found = ⊥
 
 -- two answers don't contradict each other: not one a model and the other a refutation
@@ -247,8 +409,28 @@ AreConsistent (answer.Model values) (answer.Refutation steps) = ⊥
 AreConsistent (answer.Refutation steps) (answer.Model values) = ⊥
 AreConsistent a b = Unit {0}
 
+-- and so for what was found under assumptions: not a model under all of them and a core
+abbrev pub AreConsistentOutcomes : CoreOutcome → CoreOutcome → Type 0
+AreConsistentOutcomes (outcome.Model values) (outcome.Core lits steps needs) = ⊥
+AreConsistentOutcomes (outcome.Core lits steps needs) (outcome.Model values) = ⊥
+AreConsistentOutcomes a b = Unit {0}
+
+-- And so for what was found of a bound: two best bounds are one, and otherwise only a spent budget stands beside the other. Which
+-- values meet it isn't fixed.
+abbrev pub AreConsistentBounds : BestOutcome → BestOutcome → Type 0
+AreConsistentBounds (bounded.Best b model steps) (bounded.Best c other later) = b ≡ c
+AreConsistentBounds (bounded.Best b model steps) (bounded.Never later) = ⊥
+AreConsistentBounds (bounded.Best b model steps) (bounded.Beyond other) = ⊥
+AreConsistentBounds (bounded.Never steps) (bounded.Best c other later) = ⊥
+AreConsistentBounds (bounded.Never steps) (bounded.Beyond other) = ⊥
+AreConsistentBounds (bounded.Beyond model) (bounded.Best c other later) = ⊥
+AreConsistentBounds (bounded.Beyond model) (bounded.Never later) = ⊥
+AreConsistentBounds a b = Unit {0}
+
 -- the same ending, or two answers that don't contradict each other
 abbrev pub AreAlike : Ending → Ending → Type 0
 AreAlike (ending.Solved a) (ending.Solved b) = AreConsistent a b
 AreAlike (ending.Summed s) (ending.Summed t) = AreConsistent s.answer t.answer
+AreAlike (ending.Narrowed a) (ending.Narrowed b) = AreConsistentOutcomes a b
+AreAlike (ending.Bounded a) (ending.Bounded b) = AreConsistentBounds a b
 AreAlike e e' = e ≡ e'

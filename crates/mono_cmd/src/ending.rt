@@ -6,21 +6,26 @@ ghost use Rattle.std.specs.Prelude.{◌≡◌, ◌∷◌, [], IfOk, OnErr, codes
 ghost use Rattle.std.specs.Cow.{cow_slice_items};
 ghost use Rattle.mono_text.specs.Text.{spaced};
 ghost use Rattle.mono_check.specs.Names.{reason_name};
-ghost use Rattle.mono_cmd.specs.Endings.{status_of, text_of, TakesMemory, unread_ending, unjudged_ending, refused_ending, answer_status as status_of_answer, verdict_status as status_of_verdict, verdict_text as text_of_verdict};
+ghost use Rattle.mono_cmd.specs.Endings.{status_of, text_of, TakesMemory, unread_ending, unjudged_ending, refused_ending, answer_status as status_of_answer, best_status as status_of_best, outcome_status as status_of_outcome, verdict_status as status_of_verdict, verdict_text as text_of_verdict};
 ghost use Rattle.mono_cmd.specs.declared.ending.Ending.TheVariants.{Memory};
 
+use crate::asking::AskRefusal;
+use crate::best_text::print_best;
+use crate::core_text::print_outcome;
 use crate::status::Status;
 use crate::summary::Summary;
 use mono_answer::{Answer, print_answer};
 use mono_base::Row;
+use mono_best::BestOutcome;
 use mono_check::{CheckRefusal, Reason, Verdict};
+use mono_core::CoreOutcome;
 use mono_gnf::{GnfFault, GnfRefusal};
 use mono_io::ReadRefusal;
 use std::alloc::{AllocError, Global};
 use std::borrow::CowSlice;
 
 const USAGE: &[u8] =
-    b"usage: solve FILE [--conflicts N] | check FILE ANSWER | print FILE | gen KIND SIZE SEED [--solve]\n";
+    b"usage: solve FILE [--conflicts N] | check FILE ANSWER | print FILE | gen KIND SIZE SEED [--solve] | migrate FILE ANSWER VERSION | core FILE LIT.. | check-with FILE ANSWER LIT.. | best FILE ATOM | ask FILE ATOM B | team FILE K R\n";
 
 /// What a run comes to.
 #[derive(Drop)]
@@ -41,8 +46,14 @@ pub enum Ending {
     Judged(Verdict),
     /// A generated input that was solved, summed up.
     Summed(Summary),
-    /// The printed form of the input, or a generated input.
+    /// The printed form of the input, a generated input, or a migrated answer.
     Printed(Row<u8>),
+    /// What was found of the input under assumptions.
+    Narrowed(CoreOutcome),
+    /// What was found of the bound of one of the input's predicates.
+    Bounded(BestOutcome),
+    /// The bound of the predicate can't be asked for.
+    Unasked(AskRefusal),
 }
 
 impl From<AllocError> for Ending {
@@ -103,6 +114,9 @@ impl Ending {
             Ending::Judged(verdict) => verdict_status(*verdict),
             Ending::Summed(summary) => answer_status(&summary.answer),
             Ending::Printed(_) => Status::Printed,
+            Ending::Narrowed(outcome) => outcome_status(outcome),
+            Ending::Bounded(outcome) => best_status(outcome),
+            Ending::Unasked(_) => Status::Refused,
         }
     }
 
@@ -121,6 +135,9 @@ impl Ending {
             Ending::Judged(verdict) => return Ok(verdict_text(alloc, verdict)?),
             Ending::Summed(summary) => summary.text(alloc)?,
             Ending::Printed(text) => text.into_vec(),
+            Ending::Narrowed(outcome) => print_outcome(alloc, &outcome)?,
+            Ending::Bounded(outcome) => print_best(alloc, &outcome)?,
+            Ending::Unasked(refusal) => return Ok(fixed(refusal.text())),
         };
         Ok(CowSlice::Owned(text))
     }
@@ -139,6 +156,35 @@ fn answer_status(answer: &Answer) -> Status
         Answer::Model(_) => Status::Satisfiable,
         Answer::Refutation(_) => Status::Unsatisfiable,
         Answer::Progress(_) => Status::Unknown,
+    }
+}
+
+fn outcome_status(outcome: &CoreOutcome) -> Status
+    ensures { result ≡ status_of_outcome outcome.now }
+{
+    match outcome {
+        CoreOutcome::Model(_) => Status::Satisfiable,
+        CoreOutcome::Core {
+            lits: _,
+            steps: _,
+            needs: _,
+        } => Status::Unsatisfiable,
+        CoreOutcome::Unknown(_) => Status::Unknown,
+    }
+}
+
+fn best_status(outcome: &BestOutcome) -> Status
+    ensures { result ≡ status_of_best outcome.now }
+{
+    match outcome {
+        BestOutcome::Best {
+            bound: _,
+            model: _,
+            steps: _,
+        } => Status::Satisfiable,
+        BestOutcome::Never(_) => Status::Unsatisfiable,
+        BestOutcome::Beyond(_) => Status::Satisfiable,
+        BestOutcome::Unknown { bound: _, steps: _ } => Status::Unknown,
     }
 }
 

@@ -6,8 +6,14 @@ ghost use Rattle.std.specs.Prelude.{map, string_bytes};
 ghost use Rattle.mono_cmd.specs.Commands.{command_of};
 ghost use Rattle.mono_cmd.specs.Runs.{Exits};
 
+/// The forms `best` and `ask` behind their FILE.
+pub mod asking;
+/// What `best` writes.
+mod best_text;
 /// Commands.
 pub mod command;
+/// What `core` writes.
+mod core_text;
 /// What a run comes to, and the text that it writes.
 pub mod ending;
 /// What the process exits with.
@@ -22,6 +28,8 @@ pub mod solving;
 pub mod status;
 /// Summaries of generated inputs.
 pub mod summary;
+/// Answers of workers that search in turn.
+pub mod teaming;
 #[cfg(test)]
 mod tests;
 /// The words of a command line.
@@ -30,6 +38,10 @@ pub mod words;
 pub mod worked;
 /// What `solve` may answer, worked by hand.
 pub mod worked_answers;
+/// Bounds, and why they can't be asked for, worked by hand.
+pub mod worked_bounds;
+/// Assumptions, and what is found under them, worked by hand.
+pub mod worked_cores;
 
 use exit::Exit;
 use mono_io::{FileShelf, Shelf, Sink, StdSink, SystemFiles};

@@ -6,29 +6,41 @@
 //!
 //! Each step answers what the next one needs, or the ending of the run: `?` ends it there. So a form is a few lines.
 
-ghost use Rattle.std.specs.Prelude.{◌≡◌, ◌≢◌, ◌≤◌, ◌+◌, ◌++◌, ◌^◌, ◌<◌, ◌⊎◌, ℕ, Bool, List, Option, Some, None, IsTrue, IsSomeAnd, MatchResult, codes, map, string_bytes};
+ghost use Rattle.std.specs.Prelude.{◌≡◌, ◌≢◌, ◌≤◌, ◌+◌, ◌++◌, ◌^◌, ◌<◌, ◌⊎◌, ℕ, ℤ, Bool, List, Option, Some, None, All, IsTrue, IsSomeAnd, MatchResult, codes, map, string_bytes};
+ghost use Rattle.mono_base.specs.declared.limits.TheConstants.{MAX_VARS};
+ghost use Rattle.mono_base.specs.Literal.{IsLitWithin};
 ghost use Rattle.mono_io.specs.Faults.{counted};
+ghost use Rattle.mono_best.specs.Asking.{asking};
+ghost use Rattle.mono_best.specs.Optimum.{IsNeverMet};
+ghost use Rattle.mono_problem.specs.Assuming.{assuming};
 ghost use Rattle.mono_problem.specs.Instance.{Instance};
+ghost use Rattle.mono_portfolio.specs.Outcomes.{IsBoardOfRounds};
+ghost use Rattle.mono_steps.specs.declared.step.Step.{Step};
 ghost use Rattle.mono_problem.specs.Holds.{HasNoModel, Satisfies};
 ghost use Rattle.mono_gnf.specs.Faults.{first_fault};
 ghost use Rattle.mono_gnf.specs.Stands.{Stands};
-ghost use Rattle.mono_cmd.specs.declared.command.TheConstants.{DEFAULT_BUDGET};
+ghost use Rattle.mono_cmd.specs.declared.command.TheConstants.{DEFAULT_BUDGET, MAX_MIGRATED_BYTES, MAX_ROUNDS, MAX_WORKERS};
 ghost use Rattle.mono_cmd.specs.declared.summary.Summary.{Summary as SummaryOf};
 ghost use Rattle.mono_cmd.specs.Solved.{IsSummary};
 ghost use Rattle.mono_cmd.specs.Commands.{command_of, files_of};
-ghost use Rattle.mono_cmd.specs.Runs.{Ends, IsOutOfMemory, EndsAtFile, IsGenerated, SolvesGenerated, IsSummaryBy, HasProblem, Runs, Writes, Solves, IsVerdictBy, CheckWrote, IsCarriedOut, EachReached, IsHeld, IsHeldWithin, begun_for};
+ghost use Rattle.mono_cmd.specs.Runs.{Ends, IsOutOfMemory, EndsAtFile, IsGenerated, SolvesGenerated, IsSummaryBy, HasProblem, IsBestBy, Bounds, Asks, IsCoreBy, Narrows, Runs, Writes, Solves, IsVerdictBy, CheckWrote, CheckWithWrote, IsCarriedOut, EachReached, IsHeld, IsHeldWithin, begun_for};
+ghost use Rattle.mono_cmd.specs.Teams.{PlaysTeam, IsTeamTextBy};
 
-use crate::command::Command;
+use crate::asking::{ask_ending, best_ending};
+use crate::command::{Command, MAX_MIGRATED_BYTES};
 use crate::ending::Ending;
-use crate::solving::answer_to;
+use crate::solving::{answer_to, core_of};
 use crate::status::Status;
 use crate::summary::sum_up;
+use crate::teaming::team_answer;
 use crate::words::command;
-use mono_base::Row;
+use mono_answer::Version;
 use mono_base::limits::{MAX_ANSWER_BYTES, MAX_INPUT_BYTES};
-use mono_check::verdict_from;
+use mono_base::{Lit, Row};
+use mono_check::{Migrated, Verdict, migrate, verdict_from};
+use mono_core::{has_room, with_lits};
 use mono_gen::{GenKind, generate};
-use mono_gnf::{GnfRefusal, print_gnf, read_gnf};
+use mono_gnf::{GnfFault, GnfRefusal, print_gnf, read_gnf};
 use mono_io::{Shelf, Sink, read_whole, write_whole};
 use mono_problem::Problem;
 use std::alloc::{AllocError, Global};
@@ -39,9 +51,10 @@ use std::alloc::{AllocError, Global};
 /// - `Refused` comes exactly where FILE was read whole and has a first fault; its line and name are written.
 /// - `Satisfiable` comes only with the text of a satisfying model, `Unsatisfiable` only with that of a justified refutation,
 ///   `Unknown` only with that of justified progress: exactly as many nonempty learned clauses as the budget, each new, and
-///   only where the budget is below 3^V, V being the number of variables.
+///   only where the budget is below 3^V, V being the number of variables. So it is of `team`, whose `Unknown` comes with the
+///   board of all rounds.
 /// - `Accepted` and `Rejected` come by the verdict on ANSWER for the problem that FILE stands for, `Printed` with its
-///   printed form, or with the generated input of a kind, a size and a seed.
+///   printed form, with an accepted ANSWER's text in a version, or with the generated input of a kind, a size and a seed.
 /// - `gen` with `--solve` ends as `solve` does on the generated input, with the six lines of its summary. The last one is
 ///   the checker's verdict on the answer; with `Unknown` the progress follows.
 /// - `ReadFault` comes only where exactly one call of the shelf failed, at FILE, or at ANSWER where FILE has no fault. Over a
@@ -64,7 +77,7 @@ pub fn run<S: Shelf, K: Sink>(alloc: Global, words: &[String], shelf: &mut S, ou
 
     // Each file is begun once at most.
     ensures begun { (S.seen shelf.new).begun ≤ begun_for (files_of (command_of (map string_bytes words.now))) (S.seen shelf.old).begun }
-    ensures too_long { result ≡ Status.TooLong → ((S.seen shelf.new).place ≡ Some (MAX_INPUT_BYTES + 1)) ⊎ ((S.seen shelf.new).place ≡ Some (MAX_ANSWER_BYTES + 1)) }
+    ensures too_long { result ≡ Status.TooLong → ((S.seen shelf.new).place ≡ Some (MAX_INPUT_BYTES + 1)) ⊎ ((S.seen shelf.new).place ≡ Some (MAX_ANSWER_BYTES + 1)) ⊎ ((S.seen shelf.new).place ≡ Some (MAX_MIGRATED_BYTES + 1)) }
 
     // Over a steady shelf that holds the files that the command comes to, no read fault is answered. Where they are within
     // their limits too, no write failed and memory was found, the command is carried out.
@@ -84,9 +97,35 @@ pub fn run<S: Shelf, K: Sink>(alloc: Global, words: &[String], shelf: &mut S, ou
     ensures gen_unknown { (p : Instance) → SolvesGenerated (command_of (map string_bytes words.now)) p → result ≡ Status.Unknown → DEFAULT_BUDGET < 3 ^ p.vars }
     ensures summary { (p : Instance) (there written : List ℕ) → SolvesGenerated (command_of (map string_bytes words.now)) p → K.written out.old ≡ Some there → K.written out.new ≡ Some (there ++ written) → IsSummaryBy result p written }
 
+    // `core`: an assignment satisfies the problem under all assumptions; none does; what was written, and the verdict that
+    // `check-with` gives it.
+    ensures core_satisfiable { (p : Instance) (lits : List ℤ) → Narrows (command_of (map string_bytes words.now)) (S.seen shelf.old).texts p lits → result ≡ Status.Satisfiable → (a : ℕ → Bool) × Satisfies (assuming p lits) a }
+    ensures core_unsatisfiable { (p : Instance) (lits : List ℤ) → Narrows (command_of (map string_bytes words.now)) (S.seen shelf.old).texts p lits → result ≡ Status.Unsatisfiable → HasNoModel (assuming p lits) }
+    ensures core { (p : Instance) (lits : List ℤ) (there written : List ℕ) → Narrows (command_of (map string_bytes words.now)) (S.seen shelf.old).texts p lits → K.written out.old ≡ Some there → K.written out.new ≡ Some (there ++ written) → IsCoreBy result p lits written }
+
+    // `best`: what was written, and the verdict that `check` gives it of the problem that asks for the next bound; no satisfying
+    // assignment meets any bound; the budget is below 3 to the number of variables of a problem that asks.
+    ensures best_bound { (p : Instance) (n : ℕ) (there written : List ℕ) → Bounds (command_of (map string_bytes words.now)) (S.seen shelf.old).texts p n → K.written out.old ≡ Some there → K.written out.new ≡ Some (there ++ written) → IsBestBy result p n written }
+    ensures best_is_never_met { (p : Instance) (n : ℕ) → Bounds (command_of (map string_bytes words.now)) (S.seen shelf.old).texts p n → result ≡ Status.Unsatisfiable → IsNeverMet p n }
+    ensures best_unknown { (p : Instance) (n : ℕ) → Bounds (command_of (map string_bytes words.now)) (S.seen shelf.old).texts p n → result ≡ Status.Unknown → DEFAULT_BUDGET < 3 ^ (p.vars + 1) }
+
+    // `ask`: what was written stands for the problem that asks for the bound.
+    ensures asked { (p : Instance) (n : ℕ) (b : ℤ) (there written : List ℕ) → Asks (command_of (map string_bytes words.now)) (S.seen shelf.old).texts p n b → result ≡ Status.Printed → K.written out.old ≡ Some there → K.written out.new ≡ Some (there ++ written) → Stands written (asking p n b) }
+
+    // `team`: an assignment satisfies the problem that FILE stands for; none does; all rounds were played. What was written, and
+    // the verdict that `check` gives it.
+    ensures team_satisfiable { (p : Instance) (workers rounds : ℕ) → PlaysTeam (command_of (map string_bytes words.now)) (S.seen shelf.old).texts p workers rounds → result ≡ Status.Satisfiable → (a : ℕ → Bool) × Satisfies p a }
+    ensures team_unsatisfiable { (p : Instance) (workers rounds : ℕ) → PlaysTeam (command_of (map string_bytes words.now)) (S.seen shelf.old).texts p workers rounds → result ≡ Status.Unsatisfiable → HasNoModel p }
+    ensures team_unknown { (p : Instance) (workers rounds : ℕ) → PlaysTeam (command_of (map string_bytes words.now)) (S.seen shelf.old).texts p workers rounds → result ≡ Status.Unknown → (board : List Step) × IsBoardOfRounds p workers rounds board }
+    ensures team { (p : Instance) (workers rounds : ℕ) (there written : List ℕ) → PlaysTeam (command_of (map string_bytes words.now)) (S.seen shelf.old).texts p workers rounds → K.written out.old ≡ Some there → K.written out.new ≡ Some (there ++ written) → IsTeamTextBy result p workers rounds written }
+
     // With this text written, no assignment satisfies the problem that FILE stands for; with the other one, some does.
     ensures refutes { (p : Instance) → CheckWrote (command_of (map string_bytes words.now)) (S.seen shelf.old).texts (K.written out.old) (K.written out.new) p (codes "accepted refutation\n") → HasNoModel p }
     ensures models { (p : Instance) → CheckWrote (command_of (map string_bytes words.now)) (S.seen shelf.old).texts (K.written out.old) (K.written out.new) p (codes "accepted model\n") → (a : ℕ → Bool) × Satisfies p a }
+
+    // The same of the problem under the assumptions of `check-with`.
+    ensures refutes_with { (p : Instance) (lits : List ℤ) → CheckWithWrote (command_of (map string_bytes words.now)) (S.seen shelf.old).texts (K.written out.old) (K.written out.new) p lits (codes "accepted refutation\n") → HasNoModel (assuming p lits) }
+    ensures models_with { (p : Instance) (lits : List ℤ) → CheckWithWrote (command_of (map string_bytes words.now)) (S.seen shelf.old).texts (K.written out.old) (K.written out.new) p lits (codes "accepted model\n") → (a : ℕ → Bool) × Satisfies (assuming p lits) a }
 {
     let ending = ending_of(alloc, words, shelf);
     write_ending(alloc, ending, out)
@@ -111,6 +150,13 @@ fn carry_out<S: Shelf>(alloc: Global, words: &[String], shelf: &mut S) -> Result
         Some(Command::Check { file, answer }) => {
             check(alloc, shelf, file.as_str(), answer.as_str())
         }
+        Some(
+            Command::Migrate {
+                file,
+                answer,
+                version,
+            },
+        ) => migration(alloc, shelf, file.as_str(), answer.as_str(), version),
         Some(Command::Print { file }) => print(alloc, shelf, file.as_str()),
         Some(
             Command::Gen {
@@ -120,6 +166,25 @@ fn carry_out<S: Shelf>(alloc: Global, words: &[String], shelf: &mut S) -> Result
                 solve,
             },
         ) => generated(alloc, kind, size, seed, solve),
+        Some(Command::Core { file, lits }) => narrow(alloc, shelf, file.as_str(), lits.as_slice()),
+        Some(Command::Best { file, atom }) => best(alloc, shelf, file.as_str(), atom),
+        Some(Command::Ask { file, atom, bound }) => asked(alloc, shelf, file.as_str(), atom, bound),
+        Some(Command::CheckWith { file, answer, lits }) => {
+            check_with(
+                alloc,
+                shelf,
+                file.as_str(),
+                answer.as_str(),
+                lits.as_slice(),
+            )
+        }
+        Some(
+            Command::Team {
+                file,
+                workers,
+                rounds,
+            },
+        ) => team(alloc, shelf, file.as_str(), workers, rounds),
     }
 }
 
@@ -139,6 +204,111 @@ fn check<S: Shelf>(alloc: Global, shelf: &mut S, file: &str, answer: &str) -> Re
     let problem = read_problem(alloc, shelf, file)?;
     let verdict = verdict_from(alloc, &problem, shelf, answer, MAX_ANSWER_BYTES)?;
     Ok(Ending::Judged(verdict))
+}
+
+/// `migrate FILE ANSWER VERSION`.
+fn migration<S: Shelf>(
+    alloc: Global,
+    shelf: &mut S,
+    file: &str,
+    answer: &str,
+    version: Version,
+) -> Result<Ending, Ending>
+    ensures { let ends = Ends (Some (Command.Migrate file.now answer.now version)) (S.seen shelf.old) (S.seen shelf.new) in MatchResult result ends ends }
+{
+    let problem = &read_problem(alloc, shelf, file)?;
+    let text = read_whole(alloc, shelf, answer, MAX_MIGRATED_BYTES)?;
+    match migrate(alloc, problem, text.as_slice(), version)? {
+        Migrated::Text(text) => Ok(Ending::Printed(text)),
+        Migrated::Rejected { line, reason } => {
+            Ok(Ending::Judged(Verdict::Rejected { line, reason }))
+        }
+    }
+}
+
+/// `core FILE LIT..`.
+fn narrow<S: Shelf>(
+    alloc: Global,
+    shelf: &mut S,
+    file: &str,
+    lits: &[Lit],
+) -> Result<Ending, Ending>
+    requires { All (IsLitWithin MAX_VARS) lits.now }
+    ensures { let ends = Ends (Some (Command.Core file.now lits.now)) (S.seen shelf.old) (S.seen shelf.new) in MatchResult result ends ends }
+{
+    let input = read_problem(alloc, shelf, file)?;
+    if !has_room(&input, lits) {
+        return Ok(too_many());
+    }
+    Ok(Ending::Narrowed(core_of(alloc, &input, lits)?))
+}
+
+/// `check-with FILE ANSWER LIT..`.
+fn check_with<S: Shelf>(
+    alloc: Global,
+    shelf: &mut S,
+    file: &str,
+    answer: &str,
+    lits: &[Lit],
+) -> Result<Ending, Ending>
+    requires { All (IsLitWithin MAX_VARS) lits.now }
+    ensures { let ends = Ends (Some (Command.CheckWith file.now answer.now lits.now)) (S.seen shelf.old) (S.seen shelf.new) in MatchResult result ends ends }
+{
+    let input = read_problem(alloc, shelf, file)?;
+    if !has_room(&input, lits) {
+        return Ok(too_many());
+    }
+    let assumed = with_lits(&input, lits)?;
+    let verdict = verdict_from(alloc, &assumed, shelf, answer, MAX_ANSWER_BYTES)?;
+    Ok(Ending::Judged(verdict))
+}
+
+/// `best FILE ATOM`.
+fn best<S: Shelf>(alloc: Global, shelf: &mut S, file: &str, atom: u32) -> Result<Ending, Ending>
+    ensures { let ends = Ends (Some (Command.Best file.now atom)) (S.seen shelf.old) (S.seen shelf.new) in MatchResult result ends ends }
+{
+    let input = read_problem(alloc, shelf, file)?;
+    Ok(best_ending(alloc, &input, atom)?)
+}
+
+/// `ask FILE ATOM B`.
+fn asked<S: Shelf>(
+    alloc: Global,
+    shelf: &mut S,
+    file: &str,
+    atom: u32,
+    bound: i64,
+) -> Result<Ending, Ending>
+    ensures { let ends = Ends (Some (Command.Ask file.now atom bound)) (S.seen shelf.old) (S.seen shelf.new) in MatchResult result ends ends }
+{
+    let input = read_problem(alloc, shelf, file)?;
+    Ok(ask_ending(alloc, &input, atom, bound)?)
+}
+
+/// There is no room for one more clause of each assumption: no line is named.
+fn too_many() -> Ending
+    ensures { result ≡ Ending.Refused 0 GnfFault.TooMany }
+{
+    Ending::Refused {
+        line: 0,
+        fault: GnfFault::TooMany,
+    }
+}
+
+/// `team FILE K R`.
+fn team<S: Shelf>(
+    alloc: Global,
+    shelf: &mut S,
+    file: &str,
+    workers: u32,
+    rounds: u32,
+) -> Result<Ending, Ending>
+    requires workers { (1 ≤ workers) × (workers ≤ MAX_WORKERS) }
+    requires rounds { (1 ≤ rounds) × (rounds ≤ MAX_ROUNDS) }
+    ensures { let ends = Ends (Some (Command.Team file.now workers rounds)) (S.seen shelf.old) (S.seen shelf.new) in MatchResult result ends ends }
+{
+    let answer = team_answer(alloc, &read_problem(alloc, shelf, file)?, workers, rounds)?;
+    Ok(Ending::Solved(answer))
 }
 
 /// `print FILE`.

@@ -1,16 +1,24 @@
 //! Answers to problems, looked for by the search.
 
-ghost use Rattle.std.specs.Prelude.{◌≡◌, ◌≤◌, ℕ, [], true, IfOk, IsTrue};
+ghost use Rattle.std.specs.Prelude.{◌≡◌, ◌≤◌, ℕ, [], true, false, replicate, All, IfOk, IsTrue};
+ghost use Rattle.mono_base.specs.declared.limits.TheConstants.{MAX_VARS};
+ghost use Rattle.mono_base.specs.Literal.{IsLitWithin};
 ghost use Rattle.mono_problem.specs.WellFormed.{IsInstance};
 ghost use Rattle.mono_steps.specs.Steps.{are_justified, is_refutation};
-ghost use Rattle.mono_cmd.specs.Solved.{IsSolution, IsProgress};
+ghost use Rattle.mono_search.specs.Solving.{IsProgress};
+ghost use Rattle.mono_problem.specs.Assuming.{HasRoom};
+ghost use Rattle.mono_core.specs.Cores.{IsOutcome};
+ghost use Rattle.mono_cmd.specs.declared.command.TheConstants.{DEFAULT_BUDGET};
+ghost use Rattle.mono_cmd.specs.Solved.{IsSolution, IsNarrowing};
 
+use crate::command::DEFAULT_BUDGET;
 use mono_answer::Answer;
-use mono_base::Row;
+use mono_base::{Lit, Row};
+use mono_core::{CoreOutcome, core};
 use mono_kinds::{AnyTheory, all_theories};
 use mono_problem::Problem;
 use mono_search::{Outcome, Search};
-use mono_steps::{Journal, Step};
+use mono_steps::{Journal, copy_steps};
 use std::alloc::{AllocError, Global};
 
 /// What the search comes to when it may learn so many clauses: a model, a refutation, or as much progress.
@@ -33,13 +41,43 @@ fn answer_of(
 ) -> Result<Answer, AllocError>
     requires problem { IsInstance problem.now }
     requires budget { 1 ≤ budget }
-    requires new { solver.old ≡ record { problem = problem.now; steps = []; live = true } }
+    requires new { solver.old ≡ record { problem = problem.now; steps = []; live = true; signs = replicate problem.now.vars false } }
     ensures { IfOk result (IsSolution problem.now budget) }
 {
     match solver.run(budget)? {
         Outcome::Sat(values) => Ok(Answer::Model(values)),
         Outcome::Unsat => refutation(problem, solver.journal()),
         Outcome::Unknown => progress(alloc, problem, budget, solver.journal()),
+    }
+}
+
+/// What is found of a problem under assumptions, with the budget of `solve` for each search.
+pub fn core_of(alloc: Global, problem: &Problem, lits: &[Lit]) -> Result<CoreOutcome, AllocError>
+    requires problem { IsInstance problem.now }
+    requires literals { All (IsLitWithin MAX_VARS) lits.now }
+    requires room { HasRoom problem.now lits.now }
+    ensures { IfOk result (IsNarrowing problem.now DEFAULT_BUDGET lits.now) }
+{
+    let make = |p: &Problem| all_theories(alloc, p);
+    let outcome = core(alloc, problem, &make, lits, DEFAULT_BUDGET)?;
+    Ok(narrowed(problem, lits, outcome))
+}
+
+/// The outcome as it is. Its steps are as few as a list in memory has, so the numbers of their lines are within the format.
+fn narrowed(problem: &Problem, assumed: &[Lit], outcome: CoreOutcome) -> CoreOutcome
+    requires problem { IsInstance problem.now }
+    requires literals { All (IsLitWithin MAX_VARS) assumed.now }
+    requires room { HasRoom problem.now assumed.now }
+    requires outcome { IsOutcome problem.now DEFAULT_BUDGET assumed.now outcome }
+    ensures { IsNarrowing problem.now DEFAULT_BUDGET assumed.now result }
+{
+    match outcome {
+        CoreOutcome::Model(values) => CoreOutcome::Model(values),
+        CoreOutcome::Core { lits, steps, needs } => {
+            let steps = Row::from_vec(steps.into_vec());
+            CoreOutcome::Core { lits, steps, needs }
+        }
+        CoreOutcome::Unknown(steps) => CoreOutcome::Unknown(Row::from_vec(steps.into_vec())),
     }
 }
 
@@ -53,7 +91,7 @@ fn refutation(problem: &Problem, journal: &Journal) -> Result<Answer, AllocError
     Ok(Answer::Refutation(Row::from_vec(steps)))
 }
 
-/// All steps.
+/// The progress: a copy of all steps that were made, lemmas too.
 fn progress(
     alloc: Global,
     problem: &Problem,
@@ -64,17 +102,6 @@ fn progress(
     requires progress { IsProgress problem.now budget journal.now }
     ensures { IfOk result (IsSolution problem.now budget) }
 {
-    let steps = copied(alloc, journal.steps())?;
+    let steps = copy_steps(alloc, journal.steps())?;
     Ok(Answer::Progress(Row::from_vec(steps)))
-}
-
-/// Equal steps.
-fn copied(alloc: Global, steps: &[Step]) -> Result<Vec<Step>, AllocError>
-    ensures { IfOk result (λ copies. copies.items ≡ steps.now) }
-{
-    let mut copies = Vec::with_capacity(alloc, steps.len())?;
-    for step in steps {
-        copies.push(step.copy()?)?;
-    }
-    Ok(copies)
 }

@@ -9,6 +9,8 @@ use std::test::Fail;
 
 mod acyclic;
 mod altered;
+mod assumptions;
+mod bounds;
 mod drawn;
 mod failing;
 mod faults;
@@ -16,6 +18,7 @@ mod generated;
 mod handing;
 mod input;
 mod lemmas;
+mod lines;
 mod memory;
 mod models;
 mod process;
@@ -23,6 +26,11 @@ mod refutations;
 mod search;
 mod sizes;
 mod solving;
+mod team_runs;
+mod teams;
+mod unread;
+mod versions;
+mod weighed;
 mod witnesses;
 
 /// What a run wrote, and how it ended.

@@ -1,12 +1,18 @@
 //! The words of a command line, read by hand.
 
-ghost use Rattle.std.specs.Prelude.{◌≡◌, ◌≤◌, ◌∷◌, [], IfOk, IfSome, IsSome, OnErr, map, string_bytes};
-ghost use Rattle.mono_cmd.specs.Commands.{IsWithinRange, command_of, budget_of, budgeted_command as budgeted, kind_of as kind_named, size_of as size_named, seed_of as seed_named, gen_command as generating, is_file_name as is_name};
+ghost use Rattle.std.specs.Prelude.{◌≡◌, ◌≤◌, ◌∷◌, ◌&&◌, [], nat_le, All, IfOk, IfSome, IsSome, OnErr, is_some, map, option_map, string_bytes};
+ghost use Rattle.std.specs.List.{list_all};
+ghost use Rattle.mono_base.specs.declared.limits.TheConstants.{MAX_VARS};
+ghost use Rattle.mono_base.specs.Literal.{IsLitWithin};
+ghost use Rattle.mono_cmd.specs.declared.command.TheConstants.{MAX_ASSUMPTIONS};
+ghost use Rattle.mono_cmd.specs.Commands.{team_command as teaming, from_one, IsWithinRange, command_of, short_command as short, core_command as core_of, check_with_command as check_with_of, assumptions_of, lit_of, lits_of, budget_of, budgeted_command as budgeted, atom_of as atom_numbered, bound_of as bound_named, best_command as best_of, ask_command as ask_of, check_command as checking, migrate_command as migrating, version_of as version_named, kind_of as kind_named, size_of as size_named, seed_of as seed_named, gen_command as generating, is_file_name as is_name};
 
-use crate::command::{Command, DEFAULT_BUDGET};
-use mono_base::Name;
+use crate::command::{Command, DEFAULT_BUDGET, MAX_ASSUMPTIONS, MAX_ROUNDS, MAX_WORKERS};
+use mono_answer::Version;
+use mono_base::limits::{MAX_ATOMS, MAX_BOUND, MAX_VARS};
+use mono_base::{Lit, Name, Row};
 use mono_gen::GenKind;
-use mono_text::natural;
+use mono_text::{natural, signed};
 use std::alloc::{AllocError, Global};
 
 /// The command that the words behind the program's name are: `None` exactly where they are no form. Those take no memory.
@@ -15,10 +21,27 @@ pub fn command(alloc: Global, words: &[String]) -> Result<Option<Command>, Alloc
     ensures ranges { IfOk result (λ found. IfSome found IsWithinRange) }
     ensures err { OnErr result (IsSome (command_of (map string_bytes words.now))) }
 {
+    if let [verb, rest @ ..] = words {
+        if verb.as_str() == "core" {
+            return core_command(alloc, rest);
+        }
+        if verb.as_str() == "check-with" {
+            return check_with_command(alloc, rest);
+        }
+    }
+    short_command(alloc, words)
+}
+
+/// The command of words that name no assumptions.
+fn short_command(alloc: Global, words: &[String]) -> Result<Option<Command>, AllocError>
+    ensures form { IfOk result (λ found. found ≡ short (map string_bytes words.now)) }
+    ensures ranges { IfOk result (λ found. IfSome found IsWithinRange) }
+    ensures err { OnErr result (IsSome (short (map string_bytes words.now))) }
+{
     match words {
         [verb, file] => file_command(alloc, verb.as_str(), file.as_str()),
-        [verb, file, answer] => {
-            check_command(alloc, verb.as_str(), file.as_str(), answer.as_str())
+        [verb, first, second] => {
+            three_words(alloc, verb.as_str(), first.as_str(), second.as_str())
         }
         [verb, first, second, third] => four_words(
             alloc,
@@ -56,9 +79,9 @@ fn name(alloc: Global, word: &str) -> Result<Name, AllocError>
 
 /// `solve FILE` or `print FILE`.
 fn file_command(alloc: Global, verb: &str, file: &str) -> Result<Option<Command>, AllocError>
-    ensures form { IfOk result (λ found. found ≡ command_of (verb.now ∷ file.now ∷ [])) }
+    ensures form { IfOk result (λ found. found ≡ short (verb.now ∷ file.now ∷ [])) }
     ensures ranges { IfOk result (λ found. IfSome found IsWithinRange) }
-    ensures err { OnErr result (IsSome (command_of (verb.now ∷ file.now ∷ []))) }
+    ensures err { OnErr result (IsSome (short (verb.now ∷ file.now ∷ []))) }
 {
     if !is_file_name(file) {
         return Ok(None);
@@ -77,6 +100,23 @@ fn file_command(alloc: Global, verb: &str, file: &str) -> Result<Option<Command>
     Ok(None)
 }
 
+/// `check FILE ANSWER` or `best FILE ATOM`.
+fn three_words(
+    alloc: Global,
+    verb: &str,
+    first: &str,
+    second: &str,
+) -> Result<Option<Command>, AllocError>
+    ensures form { IfOk result (λ found. found ≡ short (verb.now ∷ first.now ∷ second.now ∷ [])) }
+    ensures ranges { IfOk result (λ found. IfSome found IsWithinRange) }
+    ensures err { OnErr result (IsSome (short (verb.now ∷ first.now ∷ second.now ∷ []))) }
+{
+    if verb == "best" {
+        return best_command(alloc, first, second);
+    }
+    check_command(alloc, verb, first, second)
+}
+
 /// `check FILE ANSWER`.
 fn check_command(
     alloc: Global,
@@ -84,9 +124,9 @@ fn check_command(
     file: &str,
     answer: &str,
 ) -> Result<Option<Command>, AllocError>
-    ensures form { IfOk result (λ found. found ≡ command_of (verb.now ∷ file.now ∷ answer.now ∷ [])) }
+    ensures form { IfOk result (λ found. found ≡ checking verb.now file.now answer.now) }
     ensures ranges { IfOk result (λ found. IfSome found IsWithinRange) }
-    ensures err { OnErr result (IsSome (command_of (verb.now ∷ file.now ∷ answer.now ∷ []))) }
+    ensures err { OnErr result (IsSome (checking verb.now file.now answer.now)) }
 {
     if verb != "check" || !is_file_name(file) || !is_file_name(answer) {
         return Ok(None);
@@ -94,6 +134,47 @@ fn check_command(
     let file = name(alloc, file)?;
     let answer = name(alloc, answer)?;
     Ok(Some(Command::Check { file, answer }))
+}
+
+/// The version that a word names.
+fn named_version(word: &str) -> Option<Version>
+    ensures { result ≡ version_named word.now }
+{
+    if word == "1" {
+        return Some(Version::One);
+    }
+    if word == "2" {
+        return Some(Version::Two);
+    }
+    None
+}
+
+/// `migrate FILE ANSWER VERSION`.
+fn migrate_command(
+    alloc: Global,
+    file: &str,
+    answer: &str,
+    word: &str,
+) -> Result<Option<Command>, AllocError>
+    ensures form { IfOk result (λ found. found ≡ migrating file.now answer.now word.now) }
+    ensures ranges { IfOk result (λ found. IfSome found IsWithinRange) }
+    ensures err { OnErr result (IsSome (migrating file.now answer.now word.now)) }
+{
+    if !is_file_name(file) || !is_file_name(answer) {
+        return Ok(None);
+    }
+    match named_version(word) {
+        None => Ok(None),
+        Some(version) => {
+            let file = name(alloc, file)?;
+            let answer = name(alloc, answer)?;
+            Ok(Some(Command::Migrate {
+                file,
+                answer,
+                version,
+            }))
+        }
+    }
 }
 
 /// The budget that a word is: a natural from 1 on.
@@ -196,7 +277,7 @@ fn solved_command(
     third: &str,
     option: &str,
 ) -> Option<Command>
-    ensures form { result ≡ command_of (verb.now ∷ first.now ∷ second.now ∷ third.now ∷ option.now ∷ []) }
+    ensures form { result ≡ short (verb.now ∷ first.now ∷ second.now ∷ third.now ∷ option.now ∷ []) }
     ensures ranges { IfSome result IsWithinRange }
 {
     if verb != "gen" || option != "--solve" {
@@ -205,7 +286,7 @@ fn solved_command(
     gen_command(kind(first), size(second), seed(third), true)
 }
 
-/// `gen KIND SIZE SEED` or `solve FILE --conflicts N`.
+/// `gen KIND SIZE SEED`, `migrate FILE ANSWER VERSION`, `ask FILE ATOM B`, `team FILE K R` or `solve FILE --conflicts N`.
 fn four_words(
     alloc: Global,
     verb: &str,
@@ -213,12 +294,226 @@ fn four_words(
     second: &str,
     third: &str,
 ) -> Result<Option<Command>, AllocError>
-    ensures form { IfOk result (λ found. found ≡ command_of (verb.now ∷ first.now ∷ second.now ∷ third.now ∷ [])) }
+    ensures form { IfOk result (λ found. found ≡ short (verb.now ∷ first.now ∷ second.now ∷ third.now ∷ [])) }
     ensures ranges { IfOk result (λ found. IfSome found IsWithinRange) }
-    ensures err { OnErr result (IsSome (command_of (verb.now ∷ first.now ∷ second.now ∷ third.now ∷ []))) }
+    ensures err { OnErr result (IsSome (short (verb.now ∷ first.now ∷ second.now ∷ third.now ∷ []))) }
 {
     if verb == "gen" {
         return Ok(gen_command(kind(first), size(second), seed(third), false));
     }
+    if verb == "migrate" {
+        return migrate_command(alloc, first, second, third);
+    }
+    if verb == "ask" {
+        return ask_command(alloc, first, second, third);
+    }
+    if verb == "team" {
+        return team_command(alloc, first, second, third);
+    }
     budgeted_command(alloc, verb, first, second, third)
+}
+
+/// The number of a predicate that a word is: a natural from 1 to 100,000.
+fn atom(word: &str) -> Option<u32>
+    ensures { result ≡ atom_numbered word.now }
+{
+    match natural(word.as_bytes(), u64::from(MAX_ATOMS)) {
+        Ok(0) => None,
+        Ok(number) => Some(number as u32),
+        Err(_) => None,
+    }
+}
+
+/// The bound that a word is: a signed number of a magnitude up to 2^53 + 1.
+fn bound(word: &str) -> Option<i64>
+    ensures { result ≡ bound_named word.now }
+{
+    match signed(word.as_bytes(), MAX_BOUND + 1) {
+        Ok(bound) => Some(bound),
+        Err(_) => None,
+    }
+}
+
+/// `best FILE ATOM`.
+fn best_command(alloc: Global, file: &str, number: &str) -> Result<Option<Command>, AllocError>
+    ensures form { IfOk result (λ found. found ≡ best_of file.now number.now) }
+    ensures ranges { IfOk result (λ found. IfSome found IsWithinRange) }
+    ensures err { OnErr result (IsSome (best_of file.now number.now)) }
+{
+    if !is_file_name(file) {
+        return Ok(None);
+    }
+    let Some(atom) = atom(number) else {
+        return Ok(None);
+    };
+    let file = name(alloc, file)?;
+    Ok(Some(Command::Best { file, atom }))
+}
+
+/// `ask FILE ATOM B`.
+fn ask_command(
+    alloc: Global,
+    file: &str,
+    number: &str,
+    word: &str,
+) -> Result<Option<Command>, AllocError>
+    ensures form { IfOk result (λ found. found ≡ ask_of file.now number.now word.now) }
+    ensures ranges { IfOk result (λ found. IfSome found IsWithinRange) }
+    ensures err { OnErr result (IsSome (ask_of file.now number.now word.now)) }
+{
+    if !is_file_name(file) {
+        return Ok(None);
+    }
+    let Some(atom) = atom(number) else {
+        return Ok(None);
+    };
+    let Some(bound) = bound(word) else {
+        return Ok(None);
+    };
+    let file = name(alloc, file)?;
+    Ok(Some(Command::Ask { file, atom, bound }))
+}
+
+/// The count that a word is: a natural from 1 to the limit.
+fn count(word: &str, most: u32) -> Option<u32>
+    ensures value { result ≡ from_one most word.now }
+    ensures some { IfSome result (λ n. (1 ≤ n) × (n ≤ most)) }
+{
+    match natural(word.as_bytes(), u64::from(most)) {
+        Ok(0) => None,
+        Ok(count) => Some(count as u32),
+        Err(_) => None,
+    }
+}
+
+/// `team FILE K R`.
+fn team_command(
+    alloc: Global,
+    file: &str,
+    workers: &str,
+    rounds: &str,
+) -> Result<Option<Command>, AllocError>
+    ensures form { IfOk result (λ found. found ≡ teaming file.now workers.now rounds.now) }
+    ensures ranges { IfOk result (λ found. IfSome found IsWithinRange) }
+    ensures err { OnErr result (IsSome (teaming file.now workers.now rounds.now)) }
+{
+    if !is_file_name(file) {
+        return Ok(None);
+    }
+    let Some(workers) = count(workers, MAX_WORKERS) else {
+        return Ok(None);
+    };
+    let Some(rounds) = count(rounds, MAX_ROUNDS) else {
+        return Ok(None);
+    };
+    let file = name(alloc, file)?;
+    Ok(Some(Command::Team {
+        file,
+        workers,
+        rounds,
+    }))
+}
+
+/// The literal that a word is.
+fn lit(word: &str) -> Option<Lit>
+    ensures { result ≡ lit_of word.now }
+{
+    match signed(word.as_bytes(), u64::from(MAX_VARS)) {
+        Ok(number) => Lit::new(number as i32),
+        Err(_) => None,
+    }
+}
+
+/// The 1 to 1,000 literals that the words are. Other words take no memory.
+fn assumptions(alloc: Global, words: &[String]) -> Result<Option<Vec<Lit>>, AllocError>
+    ensures ok { IfOk result (λ found. option_map (λ lits. lits.items) found ≡ assumptions_of (map string_bytes words.now)) }
+    ensures within { IfOk result (λ found. IfSome found (λ lits. All (IsLitWithin MAX_VARS) lits.items)) }
+    ensures err { OnErr result (IsSome (assumptions_of (map string_bytes words.now))) }
+{
+    if are_assumptions(words) {
+        return literals(alloc, words);
+    }
+    Ok(None)
+}
+
+/// Whether the words are 1 to 1,000 literals.
+fn are_assumptions(words: &[String]) -> bool
+    ensures { result ≡ is_some (assumptions_of (map string_bytes words.now)) }
+{
+    is_number(words.len()) && are_lits(words)
+}
+
+/// Whether so many assumptions are taken.
+fn is_number(count: usize) -> bool
+    ensures { result ≡ (nat_le 1 count && nat_le count MAX_ASSUMPTIONS) }
+{
+    1 <= count && count <= MAX_ASSUMPTIONS
+}
+
+/// The literals that the words are, where each is one.
+fn literals(alloc: Global, words: &[String]) -> Result<Option<Vec<Lit>>, AllocError>
+    ensures value { IfOk result (λ found. option_map (λ lits. lits.items) found ≡ lits_of (map string_bytes words.now)) }
+    ensures within { IfOk result (λ found. IfSome found (λ lits. All (IsLitWithin MAX_VARS) lits.items)) }
+{
+    let mut lits = Vec::with_capacity(alloc, words.len())?;
+    for place in 0..words.len() {
+        match lit(words[place].as_str()) {
+            Some(lit) => lits.push(lit)?,
+            None => return Ok(None),
+        }
+    }
+    Ok(Some(lits))
+}
+
+/// Whether each word is a literal.
+fn are_lits(words: &[String]) -> bool
+    ensures { result ≡ list_all (λ word. is_some (lit_of (string_bytes word))) words.now }
+{
+    words.iter().all(|word| lit(word.as_str()).is_some())
+}
+
+/// `core FILE LIT..`, of the words behind `core`.
+fn core_command(alloc: Global, words: &[String]) -> Result<Option<Command>, AllocError>
+    ensures form { IfOk result (λ found. found ≡ core_of (map string_bytes words.now)) }
+    ensures ranges { IfOk result (λ found. IfSome found IsWithinRange) }
+    ensures err { OnErr result (IsSome (core_of (map string_bytes words.now))) }
+{
+    let [file, lits @ ..] = words else {
+        return Ok(None);
+    };
+    if !is_file_name(file.as_str()) {
+        return Ok(None);
+    }
+    let Some(lits) = assumptions(alloc, lits)? else {
+        return Ok(None);
+    };
+    let file = name(alloc, file.as_str())?;
+    Ok(Some(Command::Core {
+        file,
+        lits: Row::from_vec(lits),
+    }))
+}
+
+/// `check-with FILE ANSWER LIT..`, of the words behind `check-with`.
+fn check_with_command(alloc: Global, words: &[String]) -> Result<Option<Command>, AllocError>
+    ensures form { IfOk result (λ found. found ≡ check_with_of (map string_bytes words.now)) }
+    ensures ranges { IfOk result (λ found. IfSome found IsWithinRange) }
+    ensures err { OnErr result (IsSome (check_with_of (map string_bytes words.now))) }
+{
+    let [file, answer, lits @ ..] = words else {
+        return Ok(None);
+    };
+    if !is_file_name(file.as_str()) || !is_file_name(answer.as_str()) {
+        return Ok(None);
+    }
+    let Some(lits) = assumptions(alloc, lits)? else {
+        return Ok(None);
+    };
+    let file = name(alloc, file.as_str())?;
+    let answer = name(alloc, answer.as_str())?;
+    Ok(Some(Command::CheckWith {
+        file,
+        answer,
+        lits: Row::from_vec(lits),
+    }))
 }

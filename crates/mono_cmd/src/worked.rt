@@ -1,6 +1,6 @@
 //! Rows that were worked by hand, as the definitions compute them.
 
-ghost use Rattle.std.specs.Prelude.{◌≡◌, ℕ, true, false, List, [], ◌∷◌, ◌++◌, Option, Some, None, codes};
+ghost use Rattle.std.specs.Prelude.{◌≡◌, ℕ, pos, negsuc, true, false, List, [], ◌∷◌, ◌++◌, Option, Some, None, codes};
 ghost use Rattle.mono_io.specs.declared.refusal.ReadRefusal.TheVariants as reading;
 ghost use Rattle.mono_gnf.specs.declared.fault.GnfFault.TheVariants as fault;
 ghost use Rattle.mono_gnf.specs.declared.refusal.GnfRefusal.TheVariants as form;
@@ -11,6 +11,7 @@ ghost use Rattle.mono_check.specs.declared.verdict.Verdict.TheVariants as verdic
 ghost use Rattle.mono_cmd.specs.declared.command.Command.TheVariants as command;
 ghost use Rattle.mono_cmd.specs.declared.status.Status.TheVariants as status;
 ghost use Rattle.mono_cmd.specs.declared.ending.Ending.TheVariants as ending;
+ghost use Rattle.mono_answer.specs.declared.version.Version.TheVariants as version;
 ghost use Rattle.mono_cmd.specs.Commands.{command_of, files_of};
 ghost use Rattle.mono_cmd.specs.Statuses.{code_of};
 ghost use Rattle.mono_cmd.specs.Endings.{status_of, text_of, progress_text, unread_ending, refused_ending};
@@ -29,6 +30,12 @@ pub fn worked_commands()
     ensures option_first { command_of (codes "solve" ∷ codes "--conflicts" ∷ codes "1" ∷ codes "f" ∷ []) ≡ None }
     ensures five { command_of (codes "solve" ∷ codes "f" ∷ codes "--conflicts" ∷ codes "1" ∷ codes "x" ∷ []) ≡ None }
     ensures check { command_of (codes "check" ∷ codes "f" ∷ codes "a" ∷ []) ≡ Some (command.Check (codes "f") (codes "a")) }
+    ensures migrate { command_of (codes "migrate" ∷ codes "f" ∷ codes "a" ∷ codes "2" ∷ []) ≡ Some (command.Migrate (codes "f") (codes "a") version.Two) }
+    ensures migrate_back { command_of (codes "migrate" ∷ codes "f" ∷ codes "a" ∷ codes "1" ∷ []) ≡ Some (command.Migrate (codes "f") (codes "a") version.One) }
+    ensures version_three { command_of (codes "migrate" ∷ codes "f" ∷ codes "a" ∷ codes "3" ∷ []) ≡ None }
+    ensures version_with_a_zero { command_of (codes "migrate" ∷ codes "f" ∷ codes "a" ∷ codes "02" ∷ []) ≡ None }
+    ensures no_version { command_of (codes "migrate" ∷ codes "f" ∷ codes "a" ∷ []) ≡ None }
+    ensures dashed_answer { command_of (codes "migrate" ∷ codes "f" ∷ codes "-a" ∷ codes "2" ∷ []) ≡ None }
     ensures print { command_of (codes "print" ∷ codes "f" ∷ []) ≡ Some (command.Print (codes "f")) }
     ensures no_words { command_of [] ≡ None }
     ensures one_word { command_of (codes "print" ∷ []) ≡ None }
@@ -50,10 +57,45 @@ pub fn worked_commands()
     ensures gen_no_seed { command_of (codes "gen" ∷ codes "grid" ∷ codes "10" ∷ []) ≡ None }
     ensures gen_other_option { command_of (codes "gen" ∷ codes "grid" ∷ codes "10" ∷ codes "7" ∷ codes "--conflicts" ∷ []) ≡ None }
 
+    ensures core { command_of (codes "core" ∷ codes "f" ∷ codes "-7" ∷ codes "0012" ∷ []) ≡ Some (command.Core (codes "f") (negsuc 6 ∷ pos 12 ∷ [])) }
+    ensures core_of_none { command_of (codes "core" ∷ codes "f" ∷ []) ≡ None }
+    ensures core_of_zero { command_of (codes "core" ∷ codes "f" ∷ codes "0" ∷ []) ≡ None }
+    ensures core_beyond { command_of (codes "core" ∷ codes "f" ∷ codes "1000001" ∷ []) ≡ None }
+    ensures core_with_dash { command_of (codes "core" ∷ codes "-f" ∷ codes "1" ∷ []) ≡ None }
+    ensures check_with { command_of (codes "check-with" ∷ codes "f" ∷ codes "a" ∷ codes "3" ∷ []) ≡ Some (command.CheckWith (codes "f") (codes "a") (pos 3 ∷ [])) }
+    ensures check_with_none { command_of (codes "check-with" ∷ codes "f" ∷ codes "a" ∷ []) ≡ None }
+    ensures literal_for_answer { command_of (codes "check-with" ∷ codes "f" ∷ codes "-1" ∷ codes "3" ∷ []) ≡ None }
+
+    ensures best { command_of (codes "best" ∷ codes "f" ∷ codes "007" ∷ []) ≡ Some (command.Best (codes "f") 7) }
+    ensures last_predicate { command_of (codes "best" ∷ codes "f" ∷ codes "100000" ∷ []) ≡ Some (command.Best (codes "f") 100000) }
+    ensures predicate_0 { command_of (codes "best" ∷ codes "f" ∷ codes "0" ∷ []) ≡ None }
+    ensures predicate_beyond { command_of (codes "best" ∷ codes "f" ∷ codes "100001" ∷ []) ≡ None }
+    ensures best_of_no_number { command_of (codes "best" ∷ codes "f" ∷ codes "x" ∷ []) ≡ None }
+    ensures ask { command_of (codes "ask" ∷ codes "f" ∷ codes "1" ∷ codes "-1" ∷ []) ≡ Some (command.Ask (codes "f") 1 (negsuc 0)) }
+    ensures ask_for_most { command_of (codes "ask" ∷ codes "f" ∷ codes "1" ∷ codes "9007199254740993" ∷ []) ≡ Some (command.Ask (codes "f") 1 (pos 9007199254740993)) }
+    ensures ask_beyond { command_of (codes "ask" ∷ codes "f" ∷ codes "1" ∷ codes "9007199254740994" ∷ []) ≡ None }
+    ensures ask_below { command_of (codes "ask" ∷ codes "f" ∷ codes "1" ∷ codes "-9007199254740994" ∷ []) ≡ None }
+    ensures ask_without_a_bound { command_of (codes "ask" ∷ codes "f" ∷ codes "1" ∷ []) ≡ None }
+
+    ensures team { command_of (codes "team" ∷ codes "f" ∷ codes "8" ∷ codes "0100" ∷ []) ≡ Some (command.Team (codes "f") 8 100) }
+    ensures no_workers { command_of (codes "team" ∷ codes "f" ∷ codes "0" ∷ codes "1" ∷ []) ≡ None }
+    ensures nine_workers { command_of (codes "team" ∷ codes "f" ∷ codes "9" ∷ codes "1" ∷ []) ≡ None }
+    ensures no_rounds { command_of (codes "team" ∷ codes "f" ∷ codes "1" ∷ codes "0" ∷ []) ≡ None }
+    ensures rounds_beyond { command_of (codes "team" ∷ codes "f" ∷ codes "1" ∷ codes "101" ∷ []) ≡ None }
+    ensures rounds_in_words { command_of (codes "team" ∷ codes "f" ∷ codes "1" ∷ codes "x" ∷ []) ≡ None }
+    ensures team_without_rounds { command_of (codes "team" ∷ codes "f" ∷ codes "1" ∷ []) ≡ None }
+    ensures team_with_dash { command_of (codes "team" ∷ codes "-f" ∷ codes "1" ∷ codes "1" ∷ []) ≡ None }
+
+    ensures files_of_team { files_of (Some (command.Team (codes "f") 2 1)) ≡ codes "f" ∷ [] }
+    ensures files_of_best { files_of (Some (command.Best (codes "f") 1)) ≡ codes "f" ∷ [] }
+    ensures files_of_ask { files_of (Some (command.Ask (codes "f") 1 (pos 8))) ≡ codes "f" ∷ [] }
+    ensures files_of_core { files_of (Some (command.Core (codes "f") (pos 1 ∷ []))) ≡ codes "f" ∷ [] }
+    ensures files_of_check_with { files_of (Some (command.CheckWith (codes "f") (codes "a") (pos 1 ∷ []))) ≡ codes "f" ∷ codes "a" ∷ [] }
     ensures files_of_gen { files_of (Some (command.Gen kind.Grid 10 7 true)) ≡ [] }
     ensures files_of_none { files_of None ≡ [] }
     ensures files_of_solve { files_of (Some (command.Solve (codes "f") 1)) ≡ codes "f" ∷ [] }
     ensures files_of_print { files_of (Some (command.Print (codes "f"))) ≡ codes "f" ∷ [] }
+    ensures files_of_migrate { files_of (Some (command.Migrate (codes "f") (codes "a") version.Two)) ≡ codes "f" ∷ codes "a" ∷ [] }
     ensures files_of_check { files_of (Some (command.Check (codes "f") (codes "a"))) ≡ codes "f" ∷ codes "a" ∷ [] }
     ensures none_begun { begun_for [] 3 ≡ 3 }
     ensures two_begun { begun_for (codes "f" ∷ codes "a" ∷ []) 3 ≡ 5 }
@@ -100,7 +142,7 @@ pub fn worked_endings()
 
 /// What a run comes to has its text.
 pub fn worked_texts()
-    ensures words { text_of ending.Words ≡ codes "usage: solve FILE [--conflicts N] | check FILE ANSWER | print FILE | gen KIND SIZE SEED [--solve]\n" }
+    ensures words { text_of ending.Words ≡ codes "usage: solve FILE [--conflicts N] | check FILE ANSWER | print FILE | gen KIND SIZE SEED [--solve] | migrate FILE ANSWER VERSION | core FILE LIT.. | check-with FILE ANSWER LIT.. | best FILE ATOM | ask FILE ATOM B | team FILE K R\n" }
     ensures read_fault { text_of ending.ReadFault ≡ codes "read fault\n" }
     ensures memory { text_of ending.Memory ≡ [] }
     ensures too_long { text_of ending.TooLong ≡ codes "too long\n" }
@@ -150,6 +192,8 @@ pub fn worked_runs()
     ensures generated { IsCarriedOut (command.Gen kind.Wall 2 7 true) status.Unsatisfiable }
     ensures not_refused { ¬ IsCarriedOut (command.Gen kind.Wall 2 7 true) status.Refused }
     ensures not_summed { ¬ IsCarriedOut (command.Gen kind.Wall 2 7 false) status.Unsatisfiable }
+    ensures played { IsCarriedOut (command.Team (codes "f") 2 1) status.Unknown }
+    ensures not_played { ¬ IsCarriedOut (command.Team (codes "f") 2 1) status.Printed }
     ensures not_printed { ¬ IsCarriedOut (command.Solve (codes "f") 1) status.Printed }
     ensures not_solving { ¬ IsCarriedOut (command.Check (codes "f") (codes "a")) status.Satisfiable }
 {}

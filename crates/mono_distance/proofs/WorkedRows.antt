@@ -1,5 +1,5 @@
 -- Worked rows of labels.
-use Rattle.std.proofs.Common.{ℕ, zero, suc, ◌≤◌, ◌&&◌, Bool, true, false, List, [], ◌∷◌, refl, arith, pos}
+use Rattle.std.proofs.Common.{◌≡◌, ℕ, zero, suc, ◌≤◌, ◌&&◌, Bool, true, false, List, [], ◌∷◌, refl, arith, pos}
 use Rattle.std.specs.Prelude.{IsTrue}
 use Rattle.std.specs.List.{list_all}
 use Rattle.std.proofs.lemmas.Bool.{and_parts, ltb-true}
@@ -11,6 +11,9 @@ use Rattle.mono_graph.specs.Worked.{edge, single}
 use Rattle.mono_graph.proofs.WalkLaws.{cut_excludes}
 use Rattle.mono_dynamic.specs.Costs.{cost_along}
 use Rattle.mono_problem.specs.declared.atom.Predicate.TheVariants as kind
+use Rattle.mono_theory.specs.declared.stage.Stage.{Stage}
+use Rattle.mono_theory.specs.declared.stage.Stage.TheVariants as stage
+use Rattle.mono_theory.specs.Stages.{NoneWaits}
 use Rattle.mono_distance.specs.Readings.{IsLeast, IsReached}
 
 abbrev edge_of_5 : Digraph
@@ -44,3 +47,7 @@ least_is_above = record { least = λ ks h. absurd (none_leads ks h); most = refl
 
 pub never_above : IsLeast edge_of_5 (true ∷ []) (kind.Distance 0 1 (pos 7)) 1 6 → ⊥
 never_above h = let most = h.least (0 ∷ []) refl in omega (arith, most)
+
+pub one_stage : (s : Stage) → (s ≡ stage.Waits → ⊥) → NoneWaits (s ∷ [])
+one_stage s other zero d lt = other
+one_stage s other (suc k) d lt = absurd (omega (arith, lt))

@@ -1,10 +1,13 @@
 //! Worked rows: the labels that a theory tells of node 1, for a walk of weight at most 7 from node 0. One edge of weight 5 leads
 //! there.
 
-ghost use Rattle.std.specs.Prelude.{[], ◌∷◌, false, pos, true};
-ghost use Rattle.mono_graph.specs.Worked.{edge, single};
+ghost use Rattle.std.specs.Prelude.{◌≡◌, [], ◌∷◌, None, Some, false, negsuc, pos, true};
+ghost use Rattle.mono_graph.specs.Worked.{edge, label, single};
 ghost use Rattle.mono_problem.specs.declared.atom.Predicate.TheVariants as kind;
-ghost use Rattle.mono_distance.specs.Readings.{IsLeast, IsReached};
+ghost use Rattle.mono_steps.specs.declared.lemma.Witness.TheVariants as by;
+ghost use Rattle.mono_theory.specs.declared.stage.Stage.TheVariants as stage;
+ghost use Rattle.mono_distance.specs.Readings.{AreBothDecided, IsLeast, IsReached, labels_in};
+ghost use Rattle.mono_distance.specs.Worked.{keeping, labelled, rows_with, searched, showing, within_7};
 
 /// Where a node has a label with the surely present edges, some walk costs at most so much, and the label is within the bound.
 pub fn nodes_reached()
@@ -23,4 +26,48 @@ pub fn labels_least()
     ensures above_a_walk { IsLeast (single (edge 1 0 1 5)) (true ∷ []) (kind.Distance 0 1 (pos 7)) 1 6 → ⊥ }
     ensures unreached { IsLeast (single (edge 1 0 1 5)) (false ∷ []) (kind.Distance 0 1 (pos 7)) 1 8 }
     ensures too_great { IsLeast (single (edge 1 0 1 5)) (false ∷ []) (kind.Distance 0 1 (pos 7)) 1 9 → ⊥ }
+{}
+
+/// A label is that of the node which is asked for, whatever node the predicate asks for.
+pub fn other_nodes()
+    ensures first_node { IsReached (single (edge 1 0 1 5)) (true ∷ []) (kind.Distance 0 1 (pos 7)) 0 0 }
+    ensures above_the_empty_walk { IsLeast (single (edge 1 0 1 5)) (true ∷ []) (kind.Distance 0 1 (pos 7)) 0 1 → ⊥ }
+{}
+
+/// With the surely present edges the label is that of the atom's row, where it is within the bound. What a search found is
+/// told of the last node alone, and is the bound.
+pub fn labels_with_surely_present_edges()
+    ensures in_its_row { (labels_in (keeping within_7 (rows_with 1 (0 ∷ 5 ∷ [])) (labelled [])) 4 1).under ≡ Some 5 }
+    ensures first_node { (labels_in (keeping within_7 (rows_with 1 (0 ∷ 5 ∷ [])) (labelled [])) 4 0).under ≡ Some 0 }
+    ensures at_the_bound { (labels_in (keeping within_7 (rows_with 1 (0 ∷ 7 ∷ [])) (labelled [])) 4 1).under ≡ Some 7 }
+    ensures beyond { (labels_in (keeping within_7 (rows_with 1 (0 ∷ 8 ∷ [])) (labelled [])) 4 1).under ≡ None }
+    ensures found { (labels_in (keeping within_7 (searched (stage.Shows 1)) (labelled [])) 4 1).under ≡ Some 7 }
+    ensures found_in_steps { (labels_in (keeping (kind.Steps 0 1 (pos 3)) (searched (stage.Shows 1)) (labelled [])) 4 1).under ≡ Some 3 }
+    ensures found_elsewhere { (labels_in (keeping within_7 (searched (stage.Shows 1)) (labelled [])) 4 0).under ≡ None }
+    ensures stands { (labels_in (keeping within_7 (searched stage.Stands) (labelled [])) 4 1).under ≡ None }
+    ensures waits { (labels_in (keeping within_7 (searched stage.Waits) (labelled [])) 4 1).under ≡ None }
+{}
+
+/// With the possibly present edges the label is that of the list that was shown, up to one more than the bound, and 0 while
+/// nothing is shown.
+pub fn labels_with_possibly_present_edges()
+    ensures listed { (labels_in (keeping within_7 (searched stage.Waits) (labelled (label 0 0 ∷ label 1 5 ∷ []))) 4 1).over ≡ 5 }
+    ensures first_listed { (labels_in (keeping within_7 (searched stage.Waits) (labelled (label 0 0 ∷ label 1 5 ∷ []))) 4 0).over ≡ 0 }
+    ensures unlisted { (labels_in (keeping within_7 (searched stage.Waits) (labelled (label 0 0 ∷ []))) 4 1).over ≡ 8 }
+    ensures cut { (labels_in (keeping within_7 (searched stage.Waits) (labelled (label 1 20 ∷ []))) 4 1).over ≡ 8 }
+    ensures never_met { (labels_in (keeping (kind.Distance 0 1 (negsuc 0)) (searched stage.Waits) (labelled (label 1 20 ∷ []))) 4 1).over ≡ 0 }
+    ensures waits { (labels_in (keeping within_7 (searched stage.Waits) (showing stage.Waits (Some (by.Label (label 1 5 ∷ []))))) 4 1).over ≡ 0 }
+    ensures stands { (labels_in (keeping within_7 (searched stage.Waits) (showing stage.Stands (Some (by.Label (label 1 5 ∷ []))))) 4 1).over ≡ 0 }
+    ensures other_witness { (labels_in (keeping within_7 (searched stage.Waits) (showing (stage.Shows 0) (Some (by.Path [])))) 4 1).over ≡ 0 }
+    ensures nothing_shown { (labels_in (keeping within_7 (searched stage.Waits) (showing (stage.Shows 0) None)) 4 1).over ≡ 0 }
+{}
+
+/// What is kept decides where rows are those of all literals seen, or searches leave no atom waiting, and none waits with the
+/// possibly present edges.
+pub fn theories_that_decide()
+    ensures rows { AreBothDecided (keeping within_7 (rows_with 1 (0 ∷ 5 ∷ [])) (showing stage.Stands None)) }
+    ensures searches { AreBothDecided (keeping within_7 (searched stage.Stands) (showing (stage.Shows 1) None)) }
+    ensures rows_behind { AreBothDecided (keeping within_7 (rows_with 0 (0 ∷ 5 ∷ [])) (showing stage.Stands None)) → ⊥ }
+    ensures surely_waits { AreBothDecided (keeping within_7 (searched stage.Waits) (showing stage.Stands None)) → ⊥ }
+    ensures possibly_waits { AreBothDecided (keeping within_7 (rows_with 1 (0 ∷ 5 ∷ [])) (showing stage.Waits None)) → ⊥ }
 {}

@@ -6,6 +6,9 @@ use Rattle.mono_graph.proofs.FlowLaws.{flow_cut_excludes}
 use Rattle.mono_problem.specs.declared.atom.Predicate.TheVariants as kind
 use Rattle.mono_problem.specs.Holds.{Holds}
 use Rattle.mono_steps.specs.WorkedLemmas.{minus}
+use Rattle.mono_theory.specs.declared.stage.Stage.{Stage}
+use Rattle.mono_theory.specs.declared.stage.Stage.TheVariants as stage
+use Rattle.mono_theory.specs.Stages.{NoneWaits}
 use Rattle.mono_flow.specs.KeptFlows.{IsDecidedBy, LosesFlow}
 use Rattle.mono_flow.specs.Worked.{standing}
 
@@ -32,3 +35,7 @@ another_stays h = by h.edge h.held h.var
     by : (k : ℕ) → k < 1 → (edge_at (single (edge 1 0 1 5)) k).var ≡ 2 → ⊥
     by zero lt e = absurd cc
     by (suc k) lt e = absurd (omega (arith, lt))
+
+pub one_stage : (s : Stage) → (s ≡ stage.Waits → ⊥) → NoneWaits (s ∷ [])
+one_stage s other zero d lt = other
+one_stage s other (suc k) d lt = absurd (omega (arith, lt))

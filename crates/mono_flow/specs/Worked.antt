@@ -1,9 +1,12 @@
 -- Small sides of flows for the worked rows.
-use Rattle.std.specs.Prelude.{true, List, [], ◌∷◌, Some}
+use Rattle.std.specs.Prelude.{true, pos, List, [], ◌∷◌, Some}
 use Rattle.mono_graph.specs.declared.amount.Amount.{Amount}
+use Rattle.mono_graph.specs.Worked.{edge, single}
+use Rattle.mono_problem.specs.declared.atom.Predicate.TheVariants as kind
 use Rattle.mono_steps.specs.declared.lemma.Witness.TheVariants as by
+use Rattle.mono_theory.specs.declared.stage.Stage.{Stage}
 use Rattle.mono_theory.specs.declared.stage.Stage.TheVariants as stage
-use Rattle.mono_theory.specs.Supports.{SideView}
+use Rattle.mono_theory.specs.Supports.{GraphTheoryView, SideView}
 
 -- the only atom stands on a flow of these amounts, which rests on the edge at place 0
 abbrev pub standing : List Amount → SideView
@@ -13,4 +16,28 @@ standing amounts = record {
   watchers = (0 ∷ []) ∷ [];
   stages = stage.Stands ∷ [];
   thorough = true;
+}
+
+-- the only atom is at this stage, with such a flow as its support
+abbrev pub at_stage : Stage → List Amount → SideView
+at_stage at amounts = record (standing amounts) { stages = at ∷ [] }
+
+-- the only atom is at this stage; the amounts of its support, and of what is shown of it
+abbrev pub side_of : Stage → List Amount → List Amount → SideView
+side_of at support shown = record {
+  supports = Some (record { witness = by.Flow support; edges = [] }) ∷ [];
+  shown = Some (record { witness = by.Flow shown; edges = [] }) ∷ [];
+  watchers = [] ∷ [];
+  stages = at ∷ [];
+  thorough = true;
+}
+
+-- what a theory over one edge keeps of an atom with the number 4
+abbrev pub keeping : SideView → SideView → GraphTheoryView SideView
+keeping surely possibly = record {
+  graph = single (edge 1 0 1 5);
+  atoms = record { number = 4; graph = 0; var = 3; predicate = kind.Flow 0 1 (pos 5) } ∷ [];
+  seen = [];
+  surely = surely;
+  possibly = possibly;
 }

@@ -1,11 +1,12 @@
-//! Worked rows: the flows that a theory tells, along one edge of weight 5 from node 0 to node 1.
+//! Worked rows: the flows that a theory tells, along one edge of weight 5 from node 0 to node 1, and which of them are kept.
 
-ghost use Rattle.std.specs.Prelude.{[], ◌∷◌, false, pos, true};
+ghost use Rattle.std.specs.Prelude.{◌≡◌, [], ◌∷◌, None, Some, false, pos, true};
 ghost use Rattle.mono_graph.specs.Worked.{amount, edge, single};
 ghost use Rattle.mono_problem.specs.declared.atom.Predicate.TheVariants as kind;
 ghost use Rattle.mono_steps.specs.WorkedLemmas.{minus};
-ghost use Rattle.mono_flow.specs.KeptFlows.{IsDecidedBy, IsFlowFor, LosesFlow};
-ghost use Rattle.mono_flow.specs.Worked.{standing};
+ghost use Rattle.mono_theory.specs.declared.stage.Stage.TheVariants as stage;
+ghost use Rattle.mono_flow.specs.KeptFlows.{AreBothDecided, IsDecidedBy, IsFlowFor, LosesFlow, flows_in};
+ghost use Rattle.mono_flow.specs.Worked.{at_stage, keeping, side_of, standing};
 
 /// A flow keeps to the weights of present edges, whatever the predicate's bound is.
 pub fn flows_told()
@@ -29,4 +30,27 @@ pub fn flows_that_are_lost()
     ensures carries_nothing { LosesFlow (single (edge 1 0 1 5)) (minus 1) (standing []) 0 → ⊥ }
     ensures edge_comes { LosesFlow (single (edge 1 0 1 5)) (pos 1) (standing (amount 1 3 ∷ [])) 0 → ⊥ }
     ensures another_edge { LosesFlow (single (edge 1 0 1 5)) (minus 2) (standing (amount 1 3 ∷ [])) 0 → ⊥ }
+{}
+
+/// Only an atom that stands on its flow can lose it.
+pub fn flows_that_are_kept()
+    ensures waits { LosesFlow (single (edge 1 0 1 5)) (minus 1) (at_stage stage.Waits (amount 1 3 ∷ [])) 0 → ⊥ }
+    ensures shows { LosesFlow (single (edge 1 0 1 5)) (minus 1) (at_stage (stage.Shows 1) (amount 1 3 ∷ [])) 0 → ⊥ }
+{}
+
+/// The flow along the surely present edges is the one that is shown of the atom, and the one along the possibly present edges
+/// is its support, each while its stage says so. The atom is told by its number, and the edge by its place.
+pub fn flows_of_an_edge()
+    ensures both { flows_in (keeping (side_of (stage.Shows 0) (amount 9 7 ∷ []) (amount 1 2 ∷ [])) (side_of stage.Stands (amount 1 3 ∷ []) (amount 9 7 ∷ []))) 4 0 ≡ record { under = 2; over = 3 } }
+    ensures exchanged { flows_in (keeping (side_of stage.Stands (amount 1 3 ∷ []) (amount 1 2 ∷ [])) (side_of (stage.Shows 0) (amount 1 3 ∷ []) (amount 1 2 ∷ []))) 4 0 ≡ record { under = 0; over = 0 } }
+    ensures waiting { flows_in (keeping (side_of stage.Waits (amount 1 3 ∷ []) (amount 1 2 ∷ [])) (side_of stage.Waits (amount 1 3 ∷ []) (amount 1 2 ∷ []))) 4 0 ≡ record { under = 0; over = 0 } }
+    ensures other_edge { flows_in (keeping (side_of (stage.Shows 0) [] (amount 0 2 ∷ [])) (side_of stage.Stands (amount 0 3 ∷ []) [])) 4 0 ≡ record { under = 0; over = 0 } }
+    ensures other_atom { flows_in (keeping (side_of (stage.Shows 0) [] (amount 1 2 ∷ [])) (side_of stage.Stands (amount 1 3 ∷ []) [])) 0 0 ≡ record { under = 0; over = 0 } }
+{}
+
+/// What is kept decides where no atom waits, on either side.
+pub fn theories_that_decide()
+    ensures none_waits { AreBothDecided (keeping (side_of (stage.Shows 0) [] []) (side_of stage.Stands [] [])) }
+    ensures surely_waits { AreBothDecided (keeping (side_of stage.Waits [] []) (side_of stage.Stands [] [])) → ⊥ }
+    ensures possibly_waits { AreBothDecided (keeping (side_of (stage.Shows 0) [] []) (side_of stage.Waits [] [])) → ⊥ }
 {}

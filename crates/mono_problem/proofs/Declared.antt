@@ -21,7 +21,7 @@ use Rattle.mono_problem.proofs.Wider.{IsDeclared-wider}
 
 -- ---- the place of the first number that passes
 
-position-value : (test : ℕ → Bool) (xs : List ℕ) (k : ℕ) → position test xs ≡ Some k → (position_or_len test xs ≡ k) × (k < length xs)
+pub position-value : (test : ℕ → Bool) (xs : List ℕ) (k : ℕ) → position test xs ≡ Some k → (position_or_len test xs ≡ k) × (k < length xs)
 position-value test xs k found =
     (elim (ltb (position_or_len test xs) (length xs)) as (λ b. ltb (position_or_len test xs) (length xs) ≡ b → cond b (Some (position_or_len test xs)) None ≡ Some k → (position_or_len test xs ≡ k) × (k < length xs)) [
       | true ↦ λ low some. let e : position_or_len test xs ≡ k = cc in (e, omega (arith, ltb-true (position_or_len test xs) (length xs) low))

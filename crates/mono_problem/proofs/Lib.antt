@@ -1,6 +1,9 @@
 pub mod FlatLists
 pub mod Entries
+pub mod Copies
 pub mod Wider
+pub mod Assumed
+pub mod SameValues
 pub mod Declared
 pub mod Added
 pub mod FirstFalse

@@ -1,6 +1,7 @@
 pub mod Instance
 pub mod WellFormed
 pub mod Growth
+pub mod Assuming
 pub mod Uses
 pub mod Holds
 pub mod Quiet

@@ -6,7 +6,7 @@ use Rattle.mono_graph.specs.Digraph.{Digraph, IsGraph}
 use Rattle.mono_problem.specs.declared.atom.Predicate.{Predicate}
 use Rattle.mono_problem.specs.declared.atom.Predicate.TheVariants as kind
 use Rattle.mono_problem.specs.declared.atom.Atom.{Atom}
-use Rattle.mono_problem.specs.Instance.{Instance, graph_at, identity_at, place_named, nodes_total, edges_total, literals_total}
+use Rattle.mono_problem.specs.Instance.{Instance, no_graph, graph_at, identity_at, place_named, nodes_total, edges_total, literals_total}
 
 -- a bound on a number of edges or on a weight, -1 for one that is never met; a bound on a flow
 abbrev pub IsMost : ℤ → Type 0
@@ -57,3 +57,7 @@ pub record IsInstance (p : Instance) : Type 0 where
   pub numbers : (n : ℕ) → 0 < n → n ≤ edges_total p → count_numbered n p.graphs ≡ 1
   pub atoms : (k : ℕ) (d : Atom) → k < length p.atoms → IsAtomAt p k (slice_index_or p.atoms k d)
   pub clauses : All (All (IsLitWithin p.vars)) p.clauses
+
+-- the graph at each place is the first with its identity
+abbrev pub AreNamed : List (ℕ × Digraph) → Type 0
+AreNamed gs = (k : ℕ) → k < length gs → place_named gs (slice_index_or gs k no_graph).0 ≡ Some k

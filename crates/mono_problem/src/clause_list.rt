@@ -1,7 +1,7 @@
 //! Clauses in one flat list: the literals one clause after the other, and where each clause ends. So a clause costs no
 //! allocation of its own, and a problem's clauses take little more memory than their literals.
 
-ghost use Rattle.std.specs.Prelude.{◌≡◌, ◌<◌, ◌≤◌, ◌^◌, ◌+◌, ◌++◌, ◌∷◌, [], length, sum_by, OnOk, OnErr, slice_index, slice_index_or};
+ghost use Rattle.std.specs.Prelude.{◌≡◌, ◌<◌, ◌≤◌, ◌^◌, ◌+◌, ◌++◌, ◌∷◌, [], length, sum_by, IfOk, OnOk, OnErr, slice_index, slice_index_or};
 ghost use Rattle.mono_problem.specs.Flat.{start_at, lists_from, AreEnds};
 
 use mono_base::Lit;
@@ -83,6 +83,15 @@ impl ClauseList {
         ensures { result.now ≡ slice_index_or self.now place [] }
     {
         clause_at(self.lits.as_slice(), self.ends.as_slice(), place)
+    }
+
+    /// An equal list.
+    pub(crate) fn copy(&self) -> Result<ClauseList, AllocError>
+        ensures { IfOk result (λ copy. copy ≡ self.now) }
+    {
+        let lits = self.lits.clone()?;
+        let ends = self.ends.clone()?;
+        Ok(ClauseList { lits, ends })
     }
 
     /// Adds a clause at the end. After want of memory the list is as before.

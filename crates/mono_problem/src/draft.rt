@@ -3,10 +3,10 @@
 //! A draft is a problem at every moment: each call adds one part and keeps all that is said of a problem (see
 //! `IsInstance`). What a caller has to know before a call, as that an identity is new, it asks the draft.
 
-ghost use Rattle.std.specs.Prelude.{ℕ, ◌≡◌, ◌<◌, ◌≤◌, ◌+◌, ◌^◌, length, IfOk, OnErr, OnOk, IfSome, None, All, slice_index_or, slice_set, ◌++◌, map};
+ghost use Rattle.std.specs.Prelude.{ℕ, ◌≡◌, ◌<◌, ◌≤◌, ◌+◌, ◌^◌, length, sum_by, IfOk, OnErr, OnOk, IfSome, None, All, slice_index_or, slice_set, ◌++◌, map};
 ghost use Rattle.mono_problem.specs.Instance.{no_graph, graph_at, place_named, nodes_total, edges_total, literals_total, totals_of};
 ghost use Rattle.mono_base.specs.Literal.{IsLitWithin};
-ghost use Rattle.mono_problem.specs.WellFormed.{IsInstance, IsOver};
+ghost use Rattle.mono_problem.specs.WellFormed.{AreNamed, IsInstance, IsOver};
 ghost use Rattle.mono_problem.specs.Growth.{nothing, raised, with_graph, with_edge, with_atom, with_clause, graph_with, greatest_var as greatest_of};
 ghost use Rattle.mono_graph.specs.Digraph.{IsNewEdge};
 ghost use Rattle.mono_problem.specs.Uses.{graph_uses, atom_use, edges_used as uses_of_edges, chosen, picked};
@@ -108,6 +108,17 @@ fn held_at(graphs: &IndexMap<u32, Graph>, place: usize) -> &Graph
     }
 }
 
+// The identity of the graph at a place.
+fn id_at(graphs: &IndexMap<u32, Graph>, place: usize) -> u32
+    requires { place < length graphs.now.entries }
+    ensures { result ≡ (slice_index_or graphs.now.entries place no_graph).0 }
+{
+    match graphs.get_index(place) {
+        Some((id, _)) => *id,
+        None => unreachable!(),
+    }
+}
+
 // The uses of all edges, graph after graph.
 fn edges_used(alloc: Global, graphs: &IndexMap<u32, Graph>) -> Result<Vec<VarUse>, AllocError>
     requires { length graphs.now.entries ≤ MAX_GRAPHS }
@@ -152,7 +163,53 @@ fn all_uses(
     Ok(uses)
 }
 
+// How many nodes the graphs have.
+fn node_count(graphs: &IndexMap<u32, Graph>) -> u32
+    requires { sum_by (λ g. g.1.nodes) graphs.now.entries ≤ MAX_NODES }
+    ensures { result ≡ sum_by (λ g. g.1.nodes) graphs.now.entries }
+{
+    let mut count = 0;
+    for place in 0..graphs.len() {
+        count += held_at(graphs, place).nodes();
+    }
+    count
+}
+
+// Copies of the graphs, beside their identities.
+fn copied_graphs(
+    alloc: Global,
+    graphs: &IndexMap<u32, Graph>,
+) -> Result<IndexMap<u32, Graph>, AllocError>
+    requires { AreNamed graphs.now.entries }
+    ensures { IfOk result (λ copies. copies.entries ≡ graphs.now.entries) }
+{
+    let mut copies = IndexMap::new(alloc);
+    for place in 0..graphs.len() {
+        copies.insert(id_at(graphs, place), held_at(graphs, place).copy()?)?;
+    }
+    Ok(copies)
+}
+
 impl Draft {
+    /// A draft of the problem, to which more may be added.
+    pub fn of_problem(problem: &Problem) -> Result<Draft, AllocError>
+        ensures { IfOk result (λ draft. draft ≡ problem.now) }
+    {
+        let alloc = *problem.atoms.allocator();
+        let graphs = copied_graphs(alloc, &problem.graphs)?;
+        let homes = problem.homes.clone()?;
+        let atoms = problem.atoms.clone()?;
+        let clauses = problem.clauses.copy()?;
+        Ok(Draft {
+            var_count: problem.var_count,
+            node_count: node_count(&problem.graphs),
+            graphs,
+            homes,
+            atoms,
+            clauses,
+        })
+    }
+
     /// The empty problem: no variables, graphs, predicates or clauses.
     pub fn new(alloc: Global) -> Draft
         ensures { result ≡ nothing }

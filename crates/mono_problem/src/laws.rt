@@ -5,14 +5,18 @@
 //! rises holds whatever the other variables are where it holds with the edges that are surely present, and fails where it
 //! fails with those that are possibly present. For one that falls the sides change places.
 
-ghost use Rattle.std.specs.Prelude.{◌≡◌, ℕ, ◌<◌, Bool, false, ◌↔◌, ℤ, pos, List, IsTrue, All};
-ghost use Rattle.mono_base.specs.Literal.{lit_true};
+ghost use Rattle.std.specs.Prelude.{◌≡◌, ℕ, ◌<◌, ◌≤◌, Bool, false, ◌↔◌, ℤ, pos, List, IsTrue, All};
+ghost use Rattle.mono_base.specs.declared.limits.TheConstants.{MAX_VARS};
+ghost use Rattle.mono_base.specs.Literal.{lit_true, IsLitWithin};
 ghost use Rattle.mono_base.specs.Partial.{Extends, is_open_in};
 ghost use Rattle.mono_graph.specs.Digraph.{Digraph, IsGraph, IsSubpart, enabled};
 ghost use Rattle.mono_problem.specs.declared.atom.Atom.{Atom};
 ghost use Rattle.mono_problem.specs.declared.atom.Predicate.{Predicate};
-ghost use Rattle.mono_problem.specs.Holds.{Holds, falls};
+ghost use Rattle.mono_problem.specs.Assuming.{assuming, HasRoom};
+ghost use Rattle.mono_problem.specs.Holds.{Holds, Satisfies, falls};
+ghost use Rattle.mono_problem.specs.Instance.{Instance};
 ghost use Rattle.mono_problem.specs.Quiet.{under, over, part_to_fail, Forces, HasForcedTrue, IsNearlyQuiet, TheoryQuiet};
+ghost use Rattle.mono_problem.specs.WellFormed.{IsInstance};
 
 /// Predicates are monotonic: one that rises holds in each larger part where it holds in a part, and one that falls in each smaller part.
 pub fn predicates_are_monotonic()
@@ -52,4 +56,14 @@ pub fn quiet_atoms_force_nothing_more()
 pub fn quiet_atoms_agree()
     ensures { (g : Digraph) (atoms : List Atom) (t : List ℤ) (a : ℕ → Bool) → IsGraph g → Extends a t → All (λ e. is_open_in t (pos e.var) ≡ false) g.edges → All (λ x. (0 < x.var) × (is_open_in t (pos x.var) ≡ false)) atoms
         → TheoryQuiet g atoms t → All (λ x. IsTrue (a x.var) ↔ Holds g (enabled a g) x.predicate) atoms }
+{}
+
+/// Whether a problem is satisfied depends on the values of its variables alone.
+pub fn values_of_variables_decide()
+    ensures { (p : Instance) (a b : ℕ → Bool) → IsInstance p → ((v : ℕ) → v ≤ p.vars → a v ≡ b v) → Satisfies p a → Satisfies p b }
+{}
+
+/// A problem under assumptions is a problem.
+pub fn problems_under_assumptions_are_problems()
+    ensures { (p : Instance) (lits : List ℤ) → IsInstance p → All (IsLitWithin MAX_VARS) lits → HasRoom p lits → IsInstance (assuming p lits) }
 {}

@@ -3,7 +3,7 @@
 ghost use Rattle.std.specs.Prelude.{◌≡◌, ◌==◌, ◌<◌, ◌≤◌, ◌+◌, ◌-◌, ◌↔◌, ◌≢◌, ℕ, [], All, IsTrue, IfSome, length, nat_abs, not, position, slice_index_or};
 ghost use Rattle.mono_base.specs.Literal.{IsLitWithin, lit_true, clause_true, value_in, first_false};
 ghost use Rattle.mono_graph.specs.Digraph.{edge_at};
-ghost use Rattle.mono_problem.specs.Instance.{Instance, graph_at, identity_at, has_number, edges_total};
+ghost use Rattle.mono_problem.specs.Instance.{Instance, graph_at, identity_at, has_number, edges_total, literals_total};
 ghost use Rattle.mono_problem.specs.WellFormed.{IsInstance};
 ghost use Rattle.mono_problem.specs.Uses.{uses_of, has_edge_use};
 ghost use Rattle.mono_problem.specs.Read.{atom_numbered, clause_numbered};
@@ -94,6 +94,13 @@ impl Problem {
         ensures { result ≡ length self.now.clauses }
     {
         self.clauses.len() as u32
+    }
+
+    /// How many literals the clauses have, repeats counted.
+    pub fn literal_count(&self) -> u32
+        ensures { result ≡ literals_total self.now }
+    {
+        self.clauses.literal_count() as u32
     }
 
     /// The graph at a place.

@@ -4,6 +4,7 @@ ghost use Rattle.std.specs.Prelude.{◌≡◌, ◌+◌, true, [], ◌∷◌, ℤ
 ghost use Rattle.mono_base.specs.declared.limits.TheConstants.{MAX_BOUND};
 ghost use Rattle.mono_graph.specs.Worked.{edge_of, single, round_trip, lone, triangle, pipe, both, first_alone, last_alone, neither, all_three};
 ghost use Rattle.mono_problem.specs.declared.atom.Predicate.TheVariants as kind;
+ghost use Rattle.mono_problem.specs.Assuming.{assuming};
 ghost use Rattle.mono_problem.specs.Holds.{Holds, Satisfies};
 ghost use Rattle.mono_problem.specs.Quiet.{under, over, Forces, IsQuietAtom};
 ghost use Rattle.mono_problem.specs.WellFormed.{IsMost, IsLeast, IsOver};
@@ -88,4 +89,14 @@ pub fn predicates_within_limits()
     ensures itself { IsOver (round_trip 2 3) (kind.Reach 1 1) }
     ensures no_node { IsOver (round_trip 2 3) (kind.Reach 0 2) → ⊥ }
     ensures same_ends { IsOver (round_trip 2 3) (kind.Flow 1 1 (pos 1)) → ⊥ }
+{}
+
+/// Assumptions are clauses behind the problem's own, one for each, repeats too. Their variables are the problem's then.
+pub fn assumptions()
+    ensures behind { (assuming (piped ((pos 1 ∷ pos 2 ∷ []) ∷ [])) (minus 2 ∷ pos 4 ∷ [])).clauses ≡ (pos 1 ∷ pos 2 ∷ []) ∷ (minus 2 ∷ []) ∷ (pos 4 ∷ []) ∷ [] }
+    ensures repeated { (assuming (piped []) (pos 4 ∷ pos 4 ∷ [])).clauses ≡ (pos 4 ∷ []) ∷ (pos 4 ∷ []) ∷ [] }
+    ensures same_variables { (assuming (piped []) (pos 4 ∷ minus 5 ∷ [])).vars ≡ 5 }
+    ensures more_variables { (assuming (piped []) (minus 7 ∷ pos 6 ∷ [])).vars ≡ 7 }
+    ensures same_graphs { (assuming (piped []) (pos 1 ∷ [])).graphs ≡ (piped []).graphs }
+    ensures none { assuming (piped []) [] ≡ piped [] }
 {}

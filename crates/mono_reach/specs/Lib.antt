@@ -1,3 +1,4 @@
 pub mod Reaches
 pub mod Marks
 pub mod Readings
+pub mod Worked

@@ -13,6 +13,8 @@ mod reach;
 mod reached_rows;
 /// The first nodes of atoms.
 mod sources;
+/// Rows of what is known of nodes, worked by hand.
+pub mod worked;
 
 pub use marks::{HasMarks, Marks};
 pub use reach::{Reach, ReachTheory};

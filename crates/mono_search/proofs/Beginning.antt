@@ -43,6 +43,7 @@ begins p b t s o problem handed unseen empty sound inputs order =
     record {
       problem = problem;
       steps = refl;
+      signs = ap (λ (q : OrderView). q.phases) order;
       ready = record {
         whole = record {
           journal = record { journal = record { justified = refl; fresh = tt }; none_empty = refl };

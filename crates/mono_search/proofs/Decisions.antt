@@ -119,7 +119,7 @@ pub none_released : (o : OrderView) (t : List ℤ) → Releases o o (take 0 t)
 none_released o t = record { as_many = refl; stay = λ v h. h; back = λ l h. absurd cc; phases = refl }
 
 -- one sign more is saved
-saved_more : (phases : List Bool) (t : List ℤ) (l : ℤ) → saved phases (t ++ l ∷ []) ≡ set (saved phases t) (var_of l - 1) (int_lt (pos 0) l)
+pub saved_more : (phases : List Bool) (t : List ℤ) (l : ℤ) → saved phases (t ++ l ∷ []) ≡ set (saved phases t) (var_of l - 1) (int_lt (pos 0) l)
 saved_more phases [] l = refl
 saved_more phases (x ∷ t) l = saved_more (set phases (var_of x - 1) (int_lt (pos 0) x)) t l
 

@@ -1,5 +1,5 @@
 -- What the calls of a state answer, and leave.
-use Rattle.std.specs.Prelude.{◌≡◌, ℕ, ◌+◌, ◌-◌, ◌<◌, ◌≤◌, Bool, false, max, ℤ, pos, int_lt, if◌then◌else◌, List, [], ◌∷◌, length, drop, slice_set, Option, Some, None, IsTrue}
+use Rattle.std.specs.Prelude.{◌≡◌, ℕ, ◌+◌, ◌-◌, ◌<◌, ◌≤◌, Bool, false, max, ℤ, pos, int_lt, if◌then◌else◌, List, [], ◌∷◌, length, drop, replicate, slice_set, Option, Some, None, IsTrue}
 use Rattle.mono_base.specs.Literal.{value_in, has_lit, var_of, IsLitWithin}
 use Rattle.mono_base.specs.Partial.{is_true_in, is_open_in, unit_quiet}
 use Rattle.mono_problem.specs.Instance.{Instance}
@@ -38,6 +38,7 @@ pub record BeginsWith (p : Instance) (v : StateView) : Type 0 where
   pub ready : IsReady v
   pub problem : v.theories.problem ≡ p
   pub steps : v.steps ≡ []
+  pub signs : v.order.phases ≡ replicate p.vars false
 
 -- ---- propagation by the clauses
 

@@ -6,11 +6,12 @@ use Rattle.mono_steps.specs.Journals.{chain_count}
 use Rattle.mono_search.specs.Restarts.{Counted, CountedAfter}
 use Rattle.mono_search.specs.State.{StateView, IsJournal, IsReady}
 
--- the problem, the steps of the journal, and whether it may be run
+-- the problem, the steps of the journal, whether it may be run, and the sign by which each variable is decided next unless its theory prefers true, variable 1 first
 pub record SearchView : Type 0 where
   pub problem : Instance
   pub steps : List Step
   pub live : Bool
+  pub signs : List Bool
 
 -- the journal is one, and while the search is live it may go on, and as many clauses were counted as were learned
 pub record IsSearch (v : StateView) (c : Counted) (live : Bool) : Type 0 where

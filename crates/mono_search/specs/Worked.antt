@@ -1,11 +1,15 @@
 -- Small searches for the worked rows.
-use Rattle.std.specs.Prelude.{ℕ, pos, Bool, List, [], ◌∷◌}
+use Rattle.std.specs.Prelude.{ℕ, ℤ, pos, Bool, List, [], ◌∷◌}
+use Rattle.mono_graph.specs.Digraph.{Digraph}
+use Rattle.mono_problem.specs.declared.atom.Atom.{Atom}
+use Rattle.mono_problem.specs.declared.atom.Predicate.TheVariants as kind
 use Rattle.mono_problem.specs.Instance.{Instance}
 use Rattle.mono_steps.specs.declared.lemma.Witness.TheVariants as by
 use Rattle.mono_steps.specs.declared.step.Step.{Step}
 use Rattle.mono_steps.specs.declared.step.Step.TheVariants as step
 use Rattle.mono_steps.specs.Worked.{clauses_over}
 use Rattle.mono_steps.specs.WorkedLemmas.{minus, chain, of_1}
+use Rattle.mono_theory.specs.Theories.{Facts}
 use Rattle.mono_trail.specs.Order.{OrderView}
 use Rattle.mono_search.specs.Restarts.{Counted}
 
@@ -35,3 +39,11 @@ learned_behind_a_lemma = step.Lemma (of_1 (pos 2 ∷ []) (by.Path [])) ∷ first
 -- {1} and {-1}
 abbrev pub both_signs : Instance
 both_signs = clauses_over 1 ((pos 1 ∷ []) ∷ (minus 1 ∷ []) ∷ [])
+
+-- a theory of these atoms over the graph, which has seen these literals
+abbrev pub theory : Digraph → List Atom → List ℤ → Facts
+theory g atoms seen = record { graph = g; atoms = atoms; seen = seen }
+
+-- an atom with the number 1 that isn't the one of `barred`
+abbrev pub another : List Atom
+another = record { number = 1; graph = 0; var = 3; predicate = kind.Reach 1 0 } ∷ []

@@ -15,9 +15,18 @@ use mono_theory::Theory;
 use mono_trail::Trail;
 use std::alloc::{AllocError, Global};
 
+/// For so many steps a search follows what theories prefer, then for as many it doesn't, and so on.
+const STRETCH: usize = 512;
+
+/// Whether a search that has made so many steps follows what theories prefer. Some problems are solved within few steps by
+/// that alone, and others only without it, so neither is kept up for long.
+fn follows_theories(steps: usize) -> bool {
+    steps / STRETCH % 2 == 0
+}
+
 impl<'p, T: Theory> State<'p, T> {
-    /// An open variable is decided: true where it was true when it last had a value, or where a theory prefers that. False
-    /// exactly where no variable is open.
+    /// An open variable is decided: true where it was true when it last had a value, or where a theory prefers that and the
+    /// search follows it. False exactly where no variable is open.
     pub(crate) fn decide(&mut self) -> bool
         requires { IsQuietState self.old }
         ensures problem { self.new.theories.problem ≡ self.old.theories.problem }
@@ -37,13 +46,20 @@ impl<'p, T: Theory> State<'p, T> {
     }
 
     /// The sign by which the variable is decided: true where it was true when it last had a value, or where a theory prefers
-    /// that.
+    /// that and the search follows it.
     fn sign_of(&self, var: u32) -> bool
         requires ordered { IsVar (length self.now.order.waits) var }
         requires known { IsVar self.now.theories.problem.vars var }
         ensures { IsTrue (value_in self.now.order.phases var) → IsTrue result }
     {
-        self.order.phase(var) || self.theories.prefers(var)
+        self.order.phase(var) || self.is_preferred(var)
+    }
+
+    /// Whether a theory prefers the variable to be true, and the search follows that now.
+    fn is_preferred(&self, var: u32) -> bool
+        requires { IsVar self.now.theories.problem.vars var }
+    {
+        follows_theories(self.journal.steps().len()) && self.theories.prefers(var)
     }
 
     /// The values of the variables, where each has one and nothing is left to do.

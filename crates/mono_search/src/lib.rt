@@ -22,6 +22,8 @@ mod inputs;
 mod learning;
 /// Which theories are known to be quiet.
 mod marks;
+/// Signs that are preferred at decisions.
+mod preferring;
 /// What follows from the literals of the trail.
 mod propagation;
 /// When the search begins anew.
@@ -30,6 +32,8 @@ mod restarts;
 mod running;
 /// The search, as its callers see it.
 mod search;
+/// Problems solved by one search.
+mod solving;
 /// What a search works on.
 mod state;
 /// A problem and the theories that own its atoms.
@@ -38,3 +42,4 @@ mod theories;
 pub mod worked;
 
 pub use search::{Outcome, Search};
+pub use solving::{Solved, solve, solve_preferring};

@@ -1,15 +1,17 @@
 //! The search, as its callers see it.
 
-ghost use Rattle.std.specs.Prelude.{◌≡◌, ◌≤◌, true, [], All, IfOk, IsTrue};
+ghost use Rattle.std.specs.Prelude.{◌≡◌, ◌≤◌, true, false, [], replicate, All, IfOk, IsTrue};
+ghost use Rattle.mono_base.specs.Literal.{IsLitWithin};
 ghost use Rattle.mono_steps.specs.Steps.{are_justified};
 ghost use Rattle.mono_steps.specs.Journals.{chain_count};
 ghost use Rattle.mono_steps.specs.New.{HasNewChains};
 ghost use Rattle.mono_theory.specs.Owners.{facts_of, OwnsEach};
 ghost use Rattle.mono_search.specs.Outcomes.{EndsAs, is_unknown as is_unknown_outcome, stays_live};
+ghost use Rattle.mono_search.specs.Runs.{saved};
 
 use crate::restarts::Restarts;
 use crate::state::State;
-use mono_base::Row;
+use mono_base::{Lit, Row};
 use mono_problem::Problem;
 use mono_steps::Journal;
 use mono_theory::Theory;
@@ -29,7 +31,8 @@ pub enum Outcome {
 
 /// A search for values of a problem's variables, over the theories that own its atoms.
 ///
-/// Contracts see the problem, the steps of the journal, and whether the search may be run. No learned clause is forgotten.
+/// Contracts see the problem, the steps of the journal, whether the search may be run, and the signs of decisions. No learned
+/// clause is forgotten.
 #[derive(Drop)]
 pub struct Search<'p, T: Theory> {
     alloc: Global,
@@ -43,7 +46,7 @@ impl<'p, T: Theory> Model for Search<'p, T> {
 
     ghost Value = { SearchView };
 
-    ghost view = { λ s. record { problem = s.state.theories.problem; steps = s.state.steps; live = s.live } };
+    ghost view = { λ s. record { problem = s.state.theories.problem; steps = s.state.steps; live = s.live; signs = s.state.order.phases } };
 
     ghost invariant = { λ s. IsSearch s.state s.restarts s.live };
 }
@@ -60,7 +63,7 @@ impl<'p, T: Theory> Search<'p, T> {
     ) -> Result<Search<'p, T>, AllocError>
         requires owns { OwnsEach problem.now (facts_of T.graph T.atoms T.seen theories.items) }
         requires unseen { All (λ f. f.seen ≡ []) (facts_of T.graph T.atoms T.seen theories.items) }
-        ensures { IfOk result (λ s. s ≡ record { problem = problem.now; steps = []; live = true }) }
+        ensures { IfOk result (λ s. s ≡ record { problem = problem.now; steps = []; live = true; signs = replicate problem.now.vars false }) }
     {
         let state = State::new(alloc, problem, theories)?;
         Ok(Search {
@@ -104,6 +107,25 @@ impl<'p, T: Theory> Search<'p, T> {
         ensures fresh { HasNewChains self.now.problem self.now.steps }
     {
         self.state.journal()
+    }
+
+    /// The next decisions of these variables have the literals' signs, unless a theory prefers true, until a variable gets a
+    /// value again. Of two signs of one variable the later one counts. All else stays.
+    pub fn prefer(&mut self, lits: &[Lit])
+        requires live { IsTrue self.old.live }
+        requires within { All (IsLitWithin self.old.problem.vars) lits.now }
+        ensures { self.new ≡ record self.old { signs = saved self.old.signs lits.now } }
+    {
+        self.state.prefer(lits);
+    }
+
+    /// The steps made, without a copy of them.
+    pub fn into_journal(self) -> Journal
+        ensures steps { result ≡ self.entry.steps }
+        ensures justified { IsTrue (are_justified self.entry.problem self.entry.steps) }
+        ensures fresh { HasNewChains self.entry.problem self.entry.steps }
+    {
+        self.state.into_journal()
     }
 }
 

@@ -64,4 +64,11 @@ impl<'p, T: Theory> State<'p, T> {
     {
         &self.journal
     }
+
+    /// The steps made, without a copy of them.
+    pub(crate) fn into_journal(self) -> Journal
+        ensures { result ≡ self.entry.steps }
+    {
+        self.journal
+    }
 }

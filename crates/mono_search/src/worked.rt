@@ -1,17 +1,22 @@
-//! Worked rows: what the definitions make of saved signs, restarts, the numbers of learned clauses, spent budgets and outcomes.
+//! Worked rows: what the definitions make of saved signs, restarts, the numbers of learned clauses, spent budgets, outcomes, and
+//! solved problems.
 
 ghost use Rattle.std.specs.Prelude.{◌≡◌, ℕ, true, false, [], ◌∷◌, ◌++◌, pos, Some, None, Ok, Err};
-ghost use Rattle.mono_steps.specs.WorkedLemmas.{minus, chain};
+ghost use Rattle.mono_graph.specs.Worked.{lone, round_trip};
+ghost use Rattle.mono_steps.specs.WorkedLemmas.{barred, minus, chain};
+ghost use Rattle.mono_theory.specs.Worked.{reaches};
 ghost use Rattle.mono_search.specs.Outcomes.{EndsAs, HasModel, IsSpent, may_go_on, stays_live};
 ghost use Rattle.mono_search.specs.Restarts.{CountedAfter, CountsClause};
 ghost use Rattle.mono_search.specs.Runs.{DecidesBySign, GoesBack, Releases, saved};
+ghost use Rattle.mono_search.specs.Solving.{AreTheoriesOf, IsSolved};
 ghost use Rattle.mono_search.specs.State.{StateView};
 ghost use Rattle.mono_search.specs.Stored.{held_after};
 ghost use Rattle.mono_trail.specs.declared.reason.Reason.TheVariants.{Decided};
 ghost use Rattle.mono_trail.specs.Moves.{joined};
 ghost use Rattle.mono_trail.specs.TrailView.{no_literals};
-ghost use Rattle.mono_search.specs.Worked.{after, order, two_clauses, learned_clause, first_learned, learned_behind_a_lemma, both_signs};
+ghost use Rattle.mono_search.specs.Worked.{after, order, two_clauses, learned_clause, first_learned, learned_behind_a_lemma, both_signs, theory, another};
 ghost use Rattle.mono_search.specs.declared.search.Outcome.TheVariants as outcome;
+ghost use Rattle.mono_search.specs.declared.solving.Solved.TheVariants as solved;
 
 use mono_steps::worked_new::wider_and_repeated_clauses;
 
@@ -110,3 +115,33 @@ pub fn models()
     ensures too_short { HasModel two_clauses (true ∷ []) → ⊥ }
     ensures too_long { HasModel two_clauses (true ∷ false ∷ false ∷ []) → ⊥ }
 {}
+
+/// A search begins with theories that own each atom once, over its graph, and have seen nothing.
+pub fn theories_to_begin_with()
+    ensures one { AreTheoriesOf barred (theory (round_trip 2 3) reaches [] ∷ []) }
+    ensures none { AreTheoriesOf barred [] → ⊥ }
+    ensures twice { AreTheoriesOf barred (theory (round_trip 2 3) reaches [] ∷ theory (round_trip 2 3) reaches [] ∷ []) → ⊥ }
+    ensures another_graph { AreTheoriesOf barred (theory lone reaches [] ∷ []) → ⊥ }
+    ensures another_atom { AreTheoriesOf barred (theory (round_trip 2 3) another [] ∷ []) → ⊥ }
+    ensures literal_seen { AreTheoriesOf barred (theory (round_trip 2 3) reaches (pos 1 ∷ []) ∷ []) → ⊥ }
+    ensures no_atoms { AreTheoriesOf two_clauses [] }
+{}
+
+/// A problem is solved by a model, by a refutation that its last step rests on whole, or by as many clauses as the budget says.
+pub fn solved_problems()
+    ensures model { IsSolved two_clauses 5 (solved.Model (true ∷ false ∷ [])) }
+    ensures no_model { IsSolved two_clauses 5 (solved.Model (false ∷ true ∷ [])) → ⊥ }
+    ensures refutation { IsSolved both_signs 5 (solved.Refutation (chain [] (1 ∷ 2 ∷ []) ∷ [])) }
+    ensures no_refutation { IsSolved two_clauses 5 (solved.Refutation first_learned) → ⊥ }
+    ensures step_too_many { IsSolved both_signs 5 (solved.Refutation (chain (pos 1 ∷ []) (1 ∷ []) ∷ chain [] (1 ∷ 2 ∷ []) ∷ [])) → ⊥ }
+    ensures progress { IsSolved two_clauses 1 (solved.Progress first_learned) }
+    ensures unjustified_lemma { IsSolved two_clauses 1 (solved.Progress learned_behind_a_lemma) → ⊥ }
+    ensures too_few { IsSolved two_clauses 2 (solved.Progress first_learned) → ⊥ }
+{}
+
+/// A clause that was learned before is none that solving is paid for.
+pub fn solved_by_new_clauses()
+    ensures { IsSolved two_clauses 2 (solved.Progress (learned_clause ∷ learned_clause ∷ [])) → ⊥ }
+{
+    wider_and_repeated_clauses();
+}

@@ -13,6 +13,7 @@ pub mod StepTruth
 pub mod StepLists
 pub mod Ranks
 pub mod NeededSteps
+pub mod CarriedSteps
 pub mod TrimmedSteps
 pub mod Switched
 pub mod Placed

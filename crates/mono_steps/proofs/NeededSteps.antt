@@ -1,10 +1,11 @@
 -- How the marks of the needed steps come about.
 use Rattle.std.proofs.Common.{◌≡◌, ◌≢◌, ℕ, zero, suc, ◌+◌, ◌-◌, ◌<◌, ◌≤◌, Bool, true, false, ◌||◌, ◌&&◌, ◌==◌, List, [], ◌∷◌, ◌++◌, length, take, get_or, set, Some, refl, sym, ap, subst, ◌∙◌, ◌⊎◌, inl, inr, ℤ, arith, get_or-set_same, get_or-set_other, length-append}
 use Rattle.std.specs.Prelude.{IsTrue, slice_get, nat_le, All}
-use Rattle.std.specs.List.{list_all}
+use Rattle.std.specs.List.{list_all, list_any}
 use Rattle.std.proofs.lemmas.Bool.{and_parts, or_left, or_right, or_cases, eqb-true, eq-eqb, ne_eqb, leb-true}
 use Rattle.std.proofs.lemmas.Option.{same_Some}
-use Rattle.std.proofs.lemmas.List.{length-set}
+use Rattle.std.proofs.lemmas.List.{length-set, take_more}
+use Rattle.std.proofs.lemmas.List.Folds.{list_any-append}
 use Rattle.std.proofs.lemmas.List.Elements.{All-nil, All-cons, All-head, All-tail}
 use Rattle.mono_problem.specs.Instance.{Instance}
 use Rattle.mono_steps.specs.ChainSteps.{names_vars, names_clauses, clauses_named, covers}
@@ -12,9 +13,10 @@ use Rattle.mono_steps.specs.Chains.{chain_end}
 use Rattle.mono_steps.specs.declared.step.Step.{Step}
 use Rattle.mono_steps.specs.declared.step.Step.TheVariants as step
 use Rattle.mono_steps.specs.Steps.{clause_of, is_justified_step, are_justified_after, are_justified}
-use Rattle.mono_steps.specs.Trimmed.{has_number, names_step}
+use Rattle.mono_steps.specs.Renumbering.{has_number, names_step}
 use Rattle.mono_steps.specs.Needed.{is_set, StepNamesHeld, NamesHeld, IsWanted, IsNeeded}
 use Rattle.mono_steps.proofs.Ranks.{set_within, has_more}
+use Rattle.mono_steps.proofs.StepLists.{slice_get_is}
 
 pub same_or_other : (k p : ℕ) → (k ≡ p) ⊎ (k ≢ p)
 same_or_other zero zero = inl refl
@@ -67,7 +69,21 @@ pub held_wider : (c j k : ℕ) (s : Step) → j ≤ k → StepNamesHeld c j s �
 held_wider c j k (step.Lemma l) le h = tt
 held_wider c j k (step.Chain d) le h = λ i n lt. omega (arith, h i n lt, le)
 
-names_below : (c p k : ℕ) (s : Step) → StepNamesHeld c p s → IsTrue (names_step c s k) → k < p
+-- what one step more names
+pub named_more : (c : ℕ) (ss : List Step) (i k : ℕ) (s : Step) → i < length ss → s ≡ get_or ss i s → list_any (λ t. names_step c t k) (take (i + 1) ss) ≡ (list_any (λ t. names_step c t k) (take i ss) || names_step c s k)
+named_more c ss i k s lt at =
+    ap (λ (ts : List Step). list_any (λ t. names_step c t k) ts) (take_more ss i s lt) ∙ list_any-append (λ t. names_step c t k) (take i ss) (get_or ss i s ∷ [])
+    ∙ ap (λ (b : Bool). list_any (λ t. names_step c t k) (take i ss) || b) (or_false (names_step c (get_or ss i s) k)) ∙ ap (λ (t : Step). list_any (λ t. names_step c t k) (take i ss) || names_step c t k) (sym at)
+  where
+    or_false : (b : Bool) → (b || false) ≡ b
+    or_false true = refl
+    or_false false = refl
+
+-- so they name clauses that are there when all steps are
+pub all_named : (c n : ℕ) (ss : List Step) → length ss ≤ n → NamesHeld c ss → All (StepNamesHeld c n) ss
+all_named c n ss le h = λ k d lt. held_wider c k n (get_or ss k d) (omega (arith, le, lt)) (h.at k (get_or ss k d) (slice_get_is ss k d lt))
+
+pub names_below : (c p k : ℕ) (s : Step) → StepNamesHeld c p s → IsTrue (names_step c s k) → k < p
 names_below c p k (step.Lemma l) h n = absurd cc
 names_below c p k (step.Chain d) h n = omega (arith, has_all (λ m. m ≤ c + p) d.used (c + 1 + k) h n)
 

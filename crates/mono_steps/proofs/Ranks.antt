@@ -4,7 +4,8 @@ use Rattle.std.specs.Prelude.{IsTrue, slice_get, nat_le}
 use Rattle.std.proofs.lemmas.Bool.{or_left, or_right, or_cases, eqb-true, eq-eqb, le-leb, leb-true, leb-false}
 use Rattle.std.proofs.lemmas.List.{take_more, get_or_append_left}
 use Rattle.std.proofs.lemmas.List.Folds.{list_any-append}
-use Rattle.mono_steps.specs.Trimmed.{pick, rank, renumbered, has_number}
+use Rattle.mono_steps.specs.Renumbering.{pick, rank, has_number}
+use Rattle.mono_steps.specs.Trimmed.{renumbered}
 use Rattle.mono_steps.specs.Needed.{is_set}
 
 pub set_within : (bs : List Bool) (k : ℕ) → is_set bs k ≡ true → k < length bs

@@ -2,7 +2,8 @@
 use Rattle.std.proofs.Common.{zero, suc, ◌≡◌, ℕ, ◌+◌, ◌<◌, [], ◌∷◌, length, refl, ap, subst, sym, arith}
 use Rattle.std.specs.Prelude.{IsTrue, Option, Some, slice_get, unwrap_or}
 use Rattle.mono_steps.specs.declared.step.Step.{Step}
-use Rattle.mono_steps.specs.Trimmed.{names_step, IsNamedLater}
+use Rattle.mono_steps.specs.Renumbering.{names_step}
+use Rattle.mono_steps.specs.Trimmed.{IsNamedLater}
 use Rattle.mono_steps.specs.WorkedLemmas.{edge_1_reaches, chain, with_two_lemmas, with_one_lemma}
 
 -- a step that stands at a place is no other

@@ -6,6 +6,7 @@ pub mod Steps
 pub mod Witnesses
 pub mod Worked
 pub mod WorkedLemmas
+pub mod Renumbering
 pub mod Trimmed
 pub mod Needed
 pub mod Switching

@@ -2,7 +2,7 @@
 use Rattle.std.specs.Prelude.{◌≡◌, ℕ, ◌+◌, ◌-◌, ◌<◌, ◌≤◌, Bool, true, false, List, length, Some, slice_get, slice_index_or, IsTrue, All}
 use Rattle.mono_steps.specs.declared.step.Step.{Step}
 use Rattle.mono_steps.specs.declared.step.Step.TheVariants as step
-use Rattle.mono_steps.specs.Trimmed.{rank, names_step}
+use Rattle.mono_steps.specs.Renumbering.{rank, names_step}
 
 abbrev pub is_set : List Bool → ℕ → Bool
 is_set needed k = slice_index_or needed k false

@@ -29,6 +29,8 @@ pub mod new_laws;
 mod numbered;
 /// What a witness names.
 mod placing;
+/// Steps with other numbers.
+mod renumbering;
 /// Resolution on a set of literals.
 mod resolving;
 /// Which witnesses serve which predicates.
@@ -57,4 +59,6 @@ pub use fault::StepFault;
 pub use journal::Journal;
 pub use lemma::{Lemma, Witness};
 pub use mono_graph::{Amount, Label};
-pub use step::{Chain, Step};
+pub use renumbering::{named_by, new_numbers, renumber_steps};
+pub use step::{Chain, Step, copy_steps};
+pub use trimming::trimmed;

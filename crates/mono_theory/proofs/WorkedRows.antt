@@ -23,7 +23,7 @@ their_vars (suc (suc i)) d lt = absurd (omega (arith, lt))
 pub walk_explains : IsLemmaOf (parallel 1 1) reaches (pos 1 ∷ []) 1 (pos 3) (walk_along 1)
 walk_explains = record { number = refl; shown = refl; concerned = their_vars; has = refl; others = refl }
 
-walk_forces : IsForced (parallel 1 1) reaches (pos 1 ∷ []) 1 (pos 3)
+pub walk_forces : IsForced (parallel 1 1) reaches (pos 1 ∷ []) 1 (pos 3)
 walk_forces = record { forces = inl (refl, (0 ∷ [], refl)); not_yet = refl }
 
 pub walk_is_found : IsLemmaFor (parallel 1 1) reaches (pos 1 ∷ []) (walk_along 1)
@@ -44,3 +44,6 @@ none_while_quiet h = h.not_quiet quiet
 
 pub none_of_another_variable : IsLemmaFor (parallel 1 1) reaches (pos 1 ∷ minus 9 ∷ []) (of_1 (minus 1 ∷ pos 3 ∷ pos 9 ∷ []) (by.Path (1 ∷ []))) → ⊥
 none_of_another_variable h = let e = h.concerned 2 (pos 0) (omega arith) in absurd cc
+
+pub none_beside : IsLemmaOf (parallel 1 1) reaches (pos 1 ∷ minus 9 ∷ []) 1 (pos 3) (of_1 (minus 1 ∷ pos 3 ∷ pos 9 ∷ []) (by.Path (1 ∷ []))) → ⊥
+none_beside h = let e = h.concerned 2 (pos 0) (omega arith) in absurd cc

@@ -10,6 +10,10 @@ use Rattle.mono_steps.specs.WorkedLemmas.{minus, of_1}
 abbrev pub reaches : List Atom
 reaches = record { number = 1; graph = 0; var = 3; predicate = kind.Reach 0 1 } ∷ []
 
+-- the same predicate by the numbers 1 and 2
+abbrev pub twice : List Atom
+twice = record { number = 1; graph = 0; var = 3; predicate = kind.Reach 0 1 } ∷ record { number = 2; graph = 0; var = 3; predicate = kind.Reach 0 1 } ∷ []
+
 -- the walk along edge k, whose variable is k, shows it
 abbrev pub walk_along : ℕ → Lemma
 walk_along k = of_1 (minus k ∷ pos 3 ∷ []) (by.Path (k ∷ []))

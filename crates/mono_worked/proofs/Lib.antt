@@ -3,10 +3,13 @@ mod GraphRows
 mod ProblemRows
 mod TrailRows
 mod ClauseRows
+mod GrowthRows
 mod LearnRows
 mod WalkRows
 mod ReasonRows
 mod InstanceRows
 mod TrimmedRows
 mod VerdictRows
+mod SettledRows
+mod LearntRows
 mod LubyRows

@@ -4,6 +4,7 @@ use Rattle.std.specs.Prelude.{IsTrue, Some, None}
 use Rattle.mono_base.specs.Literal.{has_lit, within}
 use Rattle.mono_base.specs.Partial.{is_false_clause, others_false}
 use Rattle.mono_problem.specs.Instance.{Instance}
+use Rattle.mono_steps.specs.Worked.{clauses_over}
 use Rattle.mono_steps.specs.WorkedLemmas.{minus}
 use Rattle.mono_trail.specs.Places.{reason_at}
 use Rattle.mono_trail.specs.TrailView.{StandsAt}
@@ -89,3 +90,6 @@ not_shown_later p shown is f = true_false (within (take 1 (shown 2)) (pos 3 ∷ 
 
 pub not_shown_fewer : (p : Instance) (shown : ℕ → List ℤ) → shown 2 ≡ [] → WasForced p shown (both_levels 0).lits 1 2 1 → ⊥
 not_shown_fewer p shown is f = omega (arith, f.some, ap (λ (ls : List ℤ). length ls) is)
+
+pub no_atom_forces : (cs : List (List ℤ)) (shown : ℕ → List ℤ) → HasReasons (clauses_over 6 []) cs shown (both_levels 0) → ⊥
+no_atom_forces cs shown h = let f : WasForced (clauses_over 6 []) shown (both_levels 0).lits 1 2 1 = h.at 1 (omega arith) in f.forces

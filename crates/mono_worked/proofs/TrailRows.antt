@@ -1,11 +1,12 @@
 -- Rows of trails and orders.
-use Rattle.std.proofs.Common.{◌≡◌, ◌≢◌, ℕ, zero, suc, ◌<◌, true, false, [], ◌∷◌, get_or, refl, ℤ, pos, arith}
-use Rattle.std.specs.Prelude.{IsTrue}
+use Rattle.std.proofs.Common.{◌≡◌, ◌≢◌, ℕ, zero, suc, ◌<◌, true, false, [], ◌∷◌, get_or, refl, sym, subst, ◌∙◌, ℤ, pos, arith}
+use Rattle.std.specs.Prelude.{IsTrue, Some, None}
 use Rattle.mono_base.specs.Literal.{IsLitWithin, value_in}
 use Rattle.mono_base.specs.Partial.{is_open_in}
-use Rattle.mono_trail.specs.declared.reason.Reason.TheVariants.{Decided, Clause}
-use Rattle.mono_trail.specs.Moves.{IsVar}
+use Rattle.mono_trail.specs.declared.reason.Reason.TheVariants.{Decided, Clause, Late}
+use Rattle.mono_trail.specs.Moves.{HasLate, IsVar}
 use Rattle.mono_trail.specs.Order.{AllOpenWait, Leaves, NoneOpen}
+use Rattle.mono_trail.specs.Places.{place_in, reason_at}
 use Rattle.mono_trail.specs.Seen.{is_marked, IsUnseen}
 use Rattle.mono_trail.specs.TrailView.{IsSound}
 use Rattle.mono_steps.specs.WorkedLemmas.{minus}
@@ -97,3 +98,13 @@ none_is_marked = record { unmarked = off }
     off zero = refl
     off (suc zero) = refl
     off (suc (suc k)) = refl
+
+-- the reason of the literal at its place isn't late
+pub not_late : (v k : ℕ) → place_in (both_levels 3).lits v ≡ Some k → HasLate (both_levels 3) v → ((atom kept : ℕ) → reason_at (both_levels 3).marks k ≡ Late atom kept → ⊥) → ⊥
+not_late v k here h never =
+    let e : Some k ≡ Some h.place = sym here ∙ h.is in
+    let same : k ≡ h.place = cc in
+    never h.atom h.kept (subst (λ (p : ℕ). reason_at (both_levels 3).marks p ≡ Late h.atom h.kept) (sym same) h.late)
+
+pub not_late_when_open : HasLate (both_levels 3) 1 → ⊥
+not_late_when_open h = let e : None ≡ Some h.place = h.is in cc

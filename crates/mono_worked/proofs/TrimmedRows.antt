@@ -7,7 +7,8 @@ use Rattle.mono_steps.specs.declared.lemma.Lemma.{Lemma}
 use Rattle.mono_steps.specs.declared.step.Step.{Step}
 use Rattle.mono_steps.specs.declared.step.Step.TheVariants as step
 use Rattle.mono_steps.specs.Steps.{clause_of}
-use Rattle.mono_steps.specs.Trimmed.{has_number, names_step, trimmed_steps, IsNamedLater, IsTrimmed}
+use Rattle.mono_steps.specs.Renumbering.{has_number, names_step}
+use Rattle.mono_steps.specs.Trimmed.{trimmed_steps, IsNamedLater, IsTrimmed}
 use Rattle.mono_steps.specs.WorkedLemmas.{barred, chain, with_one_lemma}
 use Rattle.mono_worked.specs.Refutations.{turned_lemma, with_unnamed_lemma, with_turned_lemma}
 

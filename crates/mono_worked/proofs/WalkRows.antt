@@ -10,7 +10,10 @@ use Rattle.mono_steps.specs.WorkedLemmas.{minus}
 use Rattle.mono_trail.specs.declared.reason.Reason.TheVariants.{Decided, Clause, Late}
 use Rattle.mono_trail.specs.Places.{place_in, reason_at}
 use Rattle.mono_trail.specs.TrailView.{StandsAt}
-use Rattle.mono_learn.specs.FirstPoint.{HasOnePresent, StepsBack, WalksBack, IsRedundant, IsMinimized}
+use Rattle.mono_problem.specs.Instance.{numbered}
+use Rattle.mono_steps.specs.Chains.{resolvent}
+use Rattle.mono_learn.specs.Levels.{level_by}
+use Rattle.mono_learn.specs.FirstPoint.{HasOnePresent, StepsBack, WalksBack, IsRedundant, IsMinimized, IsTaught}
 use Rattle.mono_learn.specs.Resolvents.{FalseBy}
 use Rattle.mono_learn.specs.Worked.{worked_clauses, worked_trail}
 use Rattle.mono_learn.proofs.LitSets.{true_false}
@@ -24,6 +27,9 @@ of_each P a c first others l h = elim (or_cases (int_eq l a) (has_lit c l) h) [ 
 
 pub of_none : (P : ℤ → Type 0) → (l : ℤ) → IsTrue (has_lit [] l) → P l
 of_none P l h = absurd (let e : false ≡ true = h in cc)
+
+same_number : (n m : ℕ) → Clause n ≡ Clause m → n ≡ m
+same_number n m e = cc
 
 -- ---- the walk
 
@@ -113,9 +119,6 @@ past_the_first n e s = s.two.differ (only_7 s.two.one s.two.has_one s.two.at_one
         (of_each Is7 (minus 6) (minus 7 ∷ minus 3 ∷ minus 4 ∷ []) low_6
         (of_each Is7 (minus 7) (minus 3 ∷ minus 4 ∷ []) (λ w. refl) (of_each Is7 (minus 3) (minus 4 ∷ []) low_3 (of_each Is7 (minus 4) [] low_4 (of_none Is7)))))
 
-same_number : (n m : ℕ) → Clause n ≡ Clause m → n ≡ m
-same_number n m e = cc
-
 -- 9 stands behind 8
 pub not_last : (e : List ℤ) → StepsBack worked_clauses worked_trail (minus 8 ∷ minus 9 ∷ []) 3 e → ⊥
 not_last e s = at s.place s.on_trail s.why (s.last.are (minus 9) refl)
@@ -126,6 +129,87 @@ not_last e s = at s.place s.on_trail s.why (s.last.are (minus 9) refl)
         let behind : 6 ≡ f.place = cc in
         let last : k ≡ 6 = omega (arith, lt, behind, f.below) in
         omega (arith, same_number 4 3 (subst (λ (j : ℕ). reason_at worked_trail.marks j ≡ Clause 3) last why))
+
+-- ---- what conflict 5 leads to
+
+abbrev first_clause : List ℤ
+first_clause = minus 8 ∷ minus 9 ∷ minus 4 ∷ minus 3 ∷ []
+
+abbrev first_point : List ℤ
+first_point = minus 8 ∷ minus 4 ∷ minus 3 ∷ minus 8 ∷ minus 6 ∷ []
+
+same_clause : (c d : List ℤ) → Some c ≡ Some d → c ≡ d
+same_clause c d e = cc
+
+-- 8 and 9 are both of the present level
+two_present : HasOnePresent worked_trail first_clause → ⊥
+two_present a = by_lit (cases_Bool (int_eq (minus 8) a.lit))
+  where
+    by_lit : (int_eq (minus 8) a.lit ≡ true) ⊎ (int_eq (minus 8) a.lit ≡ false) → ⊥
+    by_lit (inl e) =
+        let low : 3 < 3 = a.others (minus 9) refl (λ f. let g : minus 9 ≡ minus 8 = f ∙ sym (same_lit (minus 8) a.lit e) in cc) in
+        omega (arith, low)
+    by_lit (inr e) =
+        let low : 3 < 3 = a.others (minus 8) refl (λ f. true_false (int_eq (minus 8) a.lit) ((Decides-int_eq (minus 8) a.lit).1 f) e) in
+        omega (arith, low)
+
+-- 9 stands last, so the step is by its reason, clause 4
+first_of_5 : (n : ℕ) (d : List ℤ) → StepsBack worked_clauses worked_trail first_clause n d → d ≡ first_point
+first_of_5 n d s = at s.place s.on_trail s.why (s.last.are (minus 9) refl) s.is s.resolved
+  where
+    at : (k : ℕ) → k < 7 → reason_at worked_trail.marks k ≡ Clause n → FalseBy worked_trail.lits (k + 1) (minus 9) → numbered worked_clauses n ≡ Some s.reason → resolvent first_clause s.reason ≡ Some d → d ≡ first_point
+    at k lt why f is resolved =
+        let found : Some 6 ≡ Some f.place = ap (λ (l : ℤ). place_in worked_trail.lits (var_of l)) (sym f.there) ∙ place_in_at worked_trail.lits f.place refl f.within in
+        let behind : 6 ≡ f.place = cc in
+        let last : k ≡ 6 = omega (arith, lt, behind, f.below) in
+        let number : 4 ≡ n = same_number 4 n (subst (λ (j : ℕ). reason_at worked_trail.marks j ≡ Clause n) last why) in
+        let reason : minus 8 ∷ minus 6 ∷ pos 9 ∷ [] ≡ s.reason = same_clause _ _ (subst (λ (m : ℕ). numbered worked_clauses m ≡ Some s.reason) (sym number) is) in
+        sym (same_clause _ _ (subst (λ (c : List ℤ). resolvent first_clause c ≡ Some d) (sym reason) resolved))
+
+-- -8 is the one literal of the present level
+abbrev Is8 : ℤ → Type 0
+Is8 l = StandsAt worked_trail (neg_ℤ l) 3 → l ≡ minus 8
+
+no_second : (n : ℕ) (e : List ℤ) → StepsBack worked_clauses worked_trail first_point n e → ⊥
+no_second n e s = s.two.differ (only_8 s.two.one s.two.has_one s.two.at_one ∙ sym (only_8 s.two.other s.two.has_other s.two.at_other))
+  where
+    low : (l : ℤ) (level : ℕ) → level_by worked_trail (neg_ℤ l) ≡ level → level < 3 → Is8 l
+    low l level at lt w = absurd (omega (arith, lt, at, stands_level worked_trail (neg_ℤ l) 3 refl w))
+
+    only_8 : (l : ℤ) → IsTrue (has_lit first_point l) → Is8 l
+    only_8 =
+        of_each Is8 (minus 8) (minus 4 ∷ minus 3 ∷ minus 8 ∷ minus 6 ∷ []) (λ w. refl)
+        (of_each Is8 (minus 4) (minus 3 ∷ minus 8 ∷ minus 6 ∷ []) (low (minus 4) 1 refl (omega arith))
+        (of_each Is8 (minus 3) (minus 8 ∷ minus 6 ∷ []) (low (minus 3) 1 refl (omega arith))
+        (of_each Is8 (minus 8) (minus 6 ∷ []) (λ w. refl) (of_each Is8 (minus 6) [] (low (minus 6) 2 refl (omega arith)) (of_none Is8)))))
+
+-- so the clause of the first point is the one after the first step
+walked_to : (c : List ℤ) (ns : List ℕ) (e : List ℤ) → c ≡ first_clause → WalksBack worked_clauses worked_trail c ns e → HasOnePresent worked_trail e → e ≡ first_point
+walked_to c [] e is w point = absurd (two_present (subst (HasOnePresent worked_trail) (w ∙ is) point))
+walked_to c (n ∷ ns) e is (d, step, rest) point = after ns rest
+  where
+    first : d ≡ first_point
+    first = first_of_5 n d (subst (λ (b : List ℤ). StepsBack worked_clauses worked_trail b n d) is step)
+
+    after : (ms : List ℕ) → WalksBack worked_clauses worked_trail d ms e → e ≡ first_point
+    after [] r = r ∙ first
+    after (m ∷ ms) (f, second, r) = absurd (no_second m f (subst (λ (b : List ℤ). StepsBack worked_clauses worked_trail b m f) first second))
+
+taught_point : (c : List ℤ) → (a : IsTaught worked_clauses worked_trail 5 c) → a.whole ≡ first_point
+taught_point c a = walked_to a.walked.clause a.walked.reasons a.whole (sym (same_clause _ _ a.walked.is)) a.walked.walk a.point
+
+pub not_8_alone : IsTaught worked_clauses worked_trail 5 (minus 8 ∷ []) → ⊥
+not_8_alone a =
+    let m = subst (λ (e : List ℤ). IsMinimized worked_clauses worked_trail e (minus 8 ∷ [])) (taught_point _ a) a.minimized in
+    let r = m.goes 0 (omega arith) refl refl in
+    let e : Decided ≡ Clause r.number = r.why in
+    cc
+
+pub not_8_and_9 : IsTaught worked_clauses worked_trail 5 (minus 3 ∷ minus 8 ∷ minus 9 ∷ []) → ⊥
+not_8_and_9 a =
+    let m = subst (λ (e : List ℤ). IsMinimized worked_clauses worked_trail e (minus 3 ∷ minus 8 ∷ minus 9 ∷ [])) (taught_point _ a) a.minimized in
+    let e : false ≡ true = m.part in
+    cc
 
 -- ---- literals that atoms forced
 

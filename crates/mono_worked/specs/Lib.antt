@@ -6,3 +6,5 @@ pub mod SmallCycles
 pub mod Loops
 pub mod Refutations
 pub mod Cyclic
+pub mod AskedLemmas
+pub mod SmallConflict

@@ -33,9 +33,9 @@ pub fn items_of_steps()
     ensures refutation { answer_items (answer.Refutation (step.Lemma (of_1 [] (by.Cycle (1 ∷ []))) ∷ chain [] (2 ∷ []) ∷ [])) ≡ item.Status kind.Refutation ∷ item.Step (step.Lemma (of_1 [] (by.Cycle (1 ∷ [])))) ∷ item.Step (chain [] (2 ∷ [])) ∷ [] }
     ensures progress { answer_items (answer.Progress (chain (pos 1 ∷ []) (2 ∷ []) ∷ [])) ≡ item.Status kind.Progress ∷ item.Step (chain (pos 1 ∷ []) (2 ∷ [])) ∷ [] }
     ensures no_steps { answer_items (answer.Progress []) ≡ item.Status kind.Progress ∷ [] }
-    ensures last_line_without_an_end { items_of (codes "s UNKNOWN\nchain 0 2") ≡ (1, Some (item.Status kind.Progress)) ∷ (2, Some (item.Step (chain [] (2 ∷ [])))) ∷ [] }
-    ensures bad_last_line { items_of (codes "s UNKNOWN\nx") ≡ (1, Some (item.Status kind.Progress)) ∷ (2, None) ∷ [] }
-    ensures no_lines { items_of [] ≡ [] }
+    ensures last_line_without_an_end { items_of 0 (codes "s UNKNOWN\nchain 0 2") ≡ (1, Some (item.Status kind.Progress)) ∷ (2, Some (item.Step (chain [] (2 ∷ [])))) ∷ [] }
+    ensures bad_last_line { items_of 0 (codes "s UNKNOWN\nx") ≡ (1, Some (item.Status kind.Progress)) ∷ (2, None) ∷ [] }
+    ensures no_lines { items_of 0 [] ≡ [] }
 {}
 
 /// Each node, edge, label and amount of a witness is within the format, also the last and the first.

@@ -1,8 +1,9 @@
 //! Worked rows: what the words of `mono_graph` make of edges from a node to itself, parallel edges, entries that come again
 //! and the ends of walks and flows.
 
-ghost use Rattle.std.specs.Prelude.{◌≡◌, ◌+◌, ◌==◌, true, false, [], ◌∷◌, pos, negsuc};
-ghost use Rattle.mono_base.specs.declared.limits.TheConstants.{MAX_VARS, MAX_WEIGHT};
+ghost use Rattle.std.specs.Prelude.{◌≡◌, ◌+◌, ◌<◌, ◌==◌, true, false, List, [], ◌∷◌, length, pos, negsuc, All};
+ghost use Rattle.mono_base.specs.declared.limits.TheConstants.{MAX_EDGES, MAX_VARS, MAX_WEIGHT};
+ghost use Rattle.mono_graph.specs.declared.edge.Edge.{Edge};
 ghost use Rattle.mono_graph.specs.Digraph.{IsGraph, IsNewEdge, IsRising, IsSubpart, enabled, has, is_distinct, with_edge};
 ghost use Rattle.mono_graph.specs.Walks.{is_walk, is_path, is_cut, is_labelling};
 ghost use Rattle.mono_graph.specs.Flows.{is_flow_of, is_flow_cut};
@@ -128,7 +129,7 @@ pub fn edges_within_graphs()
     ensures other_ends { IsGraph (record { nodes = 2; edges = edge 1 0 1 0 ∷ edge 1 1 0 0 ∷ [] }) → ⊥ }
 {}
 
-/// What edge a graph can be given next.
+/// What edge a graph can be given next, while it has fewer edges than it may.
 pub fn edges_that_come_next()
     ensures next { IsNewEdge (single (edge 4 0 1 0)) (edge_of 5 1 1 MAX_VARS MAX_WEIGHT) }
     ensures first { IsNewEdge lone (edge_of 1 0 0 1 0) }
@@ -139,4 +140,6 @@ pub fn edges_that_come_next()
     ensures variable_0 { IsNewEdge lone (edge_of 1 0 0 0 0) → ⊥ }
     ensures great_variable { IsNewEdge lone (edge_of 1 0 0 (MAX_VARS + 1) 0) → ⊥ }
     ensures great_weight { IsNewEdge lone (edge_of 1 0 0 1 (MAX_WEIGHT + 1)) → ⊥ }
+    ensures no_room { (edges : List Edge) → length edges ≡ MAX_EDGES → IsNewEdge (record { nodes = 1; edges = edges }) (edge_of 9 0 0 1 0) → ⊥ }
+    ensures last { (edges : List Edge) → length edges + 1 ≡ MAX_EDGES → All (λ e. e.number < 9) edges → IsNewEdge (record { nodes = 1; edges = edges }) (edge_of 9 0 0 1 0) }
 {}

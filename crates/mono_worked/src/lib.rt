@@ -37,3 +37,5 @@ pub mod trail;
 pub mod trimmed;
 /// The wrong predicate that a verdict names.
 pub mod verdicts;
+/// Answers of version 2, and migrated answers.
+pub mod versions;

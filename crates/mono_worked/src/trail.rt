@@ -4,8 +4,8 @@ ghost use Rattle.std.specs.Prelude.{◌≡◌, [], ◌∷◌, pos, true, false, 
 ghost use Rattle.mono_steps.specs.WorkedLemmas.{minus};
 ghost use Rattle.mono_trail.specs.declared.reason.Reason.TheVariants.{Decided, Clause, Late};
 ghost use Rattle.mono_trail.specs.Luby.{Luby};
-ghost use Rattle.mono_trail.specs.Moves.{IsVar, joined, lowered, gave, settled};
-ghost use Rattle.mono_trail.specs.Order.{AllOpenWait, Leaves, AllLeave, NoneOpen};
+ghost use Rattle.mono_trail.specs.Moves.{HasLate, IsVar, joined, lowered, gave, settled};
+ghost use Rattle.mono_trail.specs.Order.{AllOpenWait, Leaves, AllLeave, NoneOpen, all_wait};
 ghost use Rattle.mono_trail.specs.Places.{place_in, level_at, reason_at};
 ghost use Rattle.mono_trail.specs.Seen.{IsUnseen};
 ghost use Rattle.mono_trail.specs.TrailView.{no_literals, count_to, IsSound};
@@ -35,6 +35,14 @@ pub fn literals_are_given()
 pub fn reasons_are_settled()
     ensures late { settled (both_levels 3) 4 9 ≡ record { vars = 6; lits = pos 3 ∷ pos 4 ∷ minus 5 ∷ pos 6 ∷ []; marks = mark 1 Decided ∷ mark 1 (Clause 9) ∷ mark 2 Decided ∷ mark 2 (Clause 7) ∷ []; level = 2; given = 3 } }
     ensures open_variable { settled (both_levels 3) 1 9 ≡ both_levels 3 }
+{}
+
+/// A reason that may be settled is that of a literal that an atom forced.
+pub fn late_reasons()
+    ensures late { HasLate (both_levels 3) 4 }
+    ensures by_clause { HasLate (both_levels 3) 6 → ⊥ }
+    ensures decided { HasLate (both_levels 3) 3 → ⊥ }
+    ensures open_variable { HasLate (both_levels 3) 1 → ⊥ }
 {}
 
 /// A literal is found by its variable, whatever its sign, and the levels end where the next one begins.
@@ -76,6 +84,12 @@ pub fn unsound_trails()
     ensures decided_stays { IsSound (record { vars = 6; lits = pos 3 ∷ pos 4 ∷ []; marks = mark 1 Decided ∷ mark 1 Decided ∷ []; level = 1; given = 0 }) → ⊥ }
     ensures too_many_given { IsSound (first_level 3) → ⊥ }
     ensures too_many_variables { IsSound (no_literals 1000001) → ⊥ }
+{}
+
+/// In a new order each variable waits, with the sign false.
+pub fn new_orders()
+    ensures two { all_wait 2 ≡ record { waits = true ∷ true ∷ []; phases = false ∷ false ∷ [] } }
+    ensures none { all_wait 0 ≡ record { waits = []; phases = [] } }
 {}
 
 /// Of the variables 1 to 3 the open one leaves the order, and the signs stay. Where all have values, none is left in it.

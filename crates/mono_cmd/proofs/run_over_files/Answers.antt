@@ -1,4 +1,4 @@
-use Rattle.std.proofs.Common.{ℕ, List, [], Some, None, false, map, string_bytes, subst, inr}
+use Rattle.std.proofs.Common.{ℕ, List, [], None, false, map, string_bytes, subst, inr}
 use Rattle.mono_io.specs.FileShelf.{FileState}
 use Rattle.mono_io.specs.Shelf.{ShelfView}
 use Rattle.mono_cmd.specs.Commands.{command_of}

@@ -155,7 +155,10 @@ fn models_of_cycles_are_judged(rt: HostRuntime) -> Result<(), Fail> {
 }
 
 /// Each row is an input and its one model.
-fn finds_each(rt: &(impl Abort + AllocGlobal), rows: &[(&str, &str)]) -> Result<(), Fail> {
+pub(super) fn finds_each(
+    rt: &(impl Abort + AllocGlobal),
+    rows: &[(&str, &str)],
+) -> Result<(), Fail> {
     for (input, model) in rows {
         let found = outcome_of(rt.alloc(), &["solve", "f"], input.as_bytes(), b"")?;
         assert_eq!(rt; found.text.as_slice(), model.as_bytes());
@@ -177,7 +180,7 @@ fn problems_with_one_model_are_solved(rt: HostRuntime) -> Result<(), Fail> {
 }
 
 /// Nothing satisfies these inputs, and each refutation that is found is accepted.
-fn refutes_each(rt: &(impl Abort + AllocGlobal), inputs: &[&str]) -> Result<(), Fail> {
+pub(super) fn refutes_each(rt: &(impl Abort + AllocGlobal), inputs: &[&str]) -> Result<(), Fail> {
     for input in inputs {
         let found = outcome_of(rt.alloc(), &["solve", "f"], input.as_bytes(), b"")?;
         assert_eq!(rt; found.status, Status::Unsatisfiable);

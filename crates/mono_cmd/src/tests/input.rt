@@ -8,7 +8,7 @@ use std::process::Abort;
 use std::test::Fail;
 
 const USAGE: &[u8] =
-    b"usage: solve FILE [--conflicts N] | check FILE ANSWER | print FILE | gen KIND SIZE SEED [--solve]\n";
+    b"usage: solve FILE [--conflicts N] | check FILE ANSWER | print FILE | gen KIND SIZE SEED [--solve] | migrate FILE ANSWER VERSION | core FILE LIT.. | check-with FILE ANSWER LIT.. | best FILE ATOM | ask FILE ATOM B | team FILE K R\n";
 
 const GRAPH: &[u8] = b"digraph int 2 1 0\n";
 

@@ -1,4 +1,6 @@
-use mono_answer::{Answer, Item, ItemReader, ItemRefusal, print_answer, read_item};
+use mono_answer::{
+    Answer, Item, ItemReader, ItemRefusal, is_version_line, print_answer, read_item,
+};
 use mono_base::Row;
 use mono_steps::Step;
 use mono_text::{Line, Lines};
@@ -51,5 +53,23 @@ fn bad_lines(rt: HostRuntime) {
         let line = Line { number: 1, text };
         let read = read_item(rt.alloc(), &line);
         assert!(rt; matches!(read, Err(ItemRefusal::BadLine)));
+    }
+}
+
+#[test]
+fn version_lines(rt: HostRuntime) {
+    let table: [(&[u8], bool); 8] = [
+        (b"version 2", true),
+        (b"\tversion  2 \r", true),
+        (b"version 02", false),
+        (b"version 1", false),
+        (b"version 2 2", false),
+        (b"version", false),
+        (b"2 version", false),
+        (b"", false),
+    ];
+    for (text, found) in table {
+        let line = Line { number: 1, text };
+        assert_eq!(rt; is_version_line(&line), found);
     }
 }

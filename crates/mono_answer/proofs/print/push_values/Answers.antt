@@ -1,27 +1,13 @@
-use Rattle.std.proofs.Common.{◌+◌, ◌++◌, ◌∷◌, ◌∙◌, [], ℕ, List, Bool, false, get_or, codes, ap, arith}
-use Rattle.std.specs.Fmt.{signed_decimal}
-use Rattle.std.proofs.lemmas.List.{take_all}
+use Rattle.std.proofs.Common.{◌++◌, ◌∷◌, ◌∙◌, [], ℕ, List, codes, ap}
 use Rattle.mono_answer.specs.Behind.{behind}
-use Rattle.mono_answer.specs.Printed.{numbers_text, literals_from}
-use Rattle.mono_answer.specs.Printed.{literal_of}
-use Rattle.mono_answer.proofs.Printing.{values_more, line_of_values}
+use Rattle.mono_answer.specs.Printed.{numbers_text, with_zero, literals_from}
+use Rattle.mono_answer.proofs.Printing.{end_line}
 use Rattle.mono_answer.proofs.print.push_values.Goals as goal
-
-pub loop-place-preserved : goal.loop-place-preserved
-loop-place-preserved c =
-    let out = c.push.new.self.items in
-    let values = c.args.values.now in
-    let k = c.loop-place.place in
-    c.in_ok-push_literal.ensures
-    ∙ (ap (λ (t : List ℕ). t ++ behind (signed_decimal (literal_of (k + 1) (get_or values k false)) ∷ [])) c.loop-place.invariant
-    ∙ values_more out values k (omega arith))
 
 pub returns : goal.returns
 returns c =
     let out = c.args.out.now.items in
-    let values = c.args.values.now in
-    c.in_ok-extend_from_slice.ensures.items
-    ∙ (ap (λ (t : List ℕ). t ++ codes " 0\n") (c.loop-place.invariant
-    ∙ (ap (λ (bs : List Bool). c.push.new.self.items ++ behind (numbers_text (literals_from 1 bs))) (take_all c.loop-place.place values (omega arith))
-    ∙ ap (λ (t : List ℕ). t ++ behind (numbers_text (literals_from 1 values))) c.in_ok-push.ensures.items))
-    ∙ line_of_values out (literals_from 1 values))
+    let tokens = numbers_text (with_zero (literals_from 1 c.args.values.now)) in
+    c.in_ok-push-2.ensures.items
+    ∙ (ap (λ (t : List ℕ). t ++ 10 ∷ []) (c.in_ok-push_literals.ensures ∙ ap (λ (t : List ℕ). t ++ behind tokens) c.in_ok-push.ensures.items)
+    ∙ end_line out (codes "v") tokens)

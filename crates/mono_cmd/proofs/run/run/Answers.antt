@@ -7,6 +7,10 @@ use Rattle.mono_cmd.proofs.Needs.{no_read_fault, steady, complete}
 use Rattle.mono_cmd.proofs.Solves.{satisfiable, unsatisfiable, unknown, its_verdict}
 use Rattle.mono_cmd.proofs.Summaries.{gen_satisfiable, gen_unsatisfiable, gen_unknown, summed}
 use Rattle.mono_cmd.proofs.Sound.{refutes, models}
+use Rattle.mono_cmd.proofs.SoundWith.{refutes_with, models_with}
+use Rattle.mono_cmd.proofs.Narrows.{core_satisfiable, core_unsatisfiable, its_core}
+use Rattle.mono_cmd.proofs.Bests.{best_is_never_met, best_unknown, its_bound, asked}
+use Rattle.mono_cmd.proofs.TeamRuns.{team_satisfiable, team_unsatisfiable, team_unknown, its_board}
 use Rattle.mono_cmd.proofs.run.run.Goals as goal
 
 pub returns-clause-begun : goal.returns-clause-begun
@@ -29,6 +33,16 @@ returns-clause-refutes g c =
 pub returns-clause-models : goal.returns-clause-models
 returns-clause-models g c =
     models (command_of (map string_bytes c.args.words.now)) (g.S.Shelf.seen c.args.shelf.now) (g.S.Shelf.seen c.ending_of-ending.new.shelf) c.write_ending.result (g.K.Sink.written c.args.out.now) (g.K.Sink.written c.write_ending.new.out)
+    (record { ending = c.ending_of-ending.result; ends = c.ending_of-ending.ensures; writes = c.write_ending.ensures.writes })
+
+pub returns-clause-refutes_with : goal.returns-clause-refutes_with
+returns-clause-refutes_with g c =
+    refutes_with (command_of (map string_bytes c.args.words.now)) (g.S.Shelf.seen c.args.shelf.now) (g.S.Shelf.seen c.ending_of-ending.new.shelf) c.write_ending.result (g.K.Sink.written c.args.out.now) (g.K.Sink.written c.write_ending.new.out)
+    (record { ending = c.ending_of-ending.result; ends = c.ending_of-ending.ensures; writes = c.write_ending.ensures.writes })
+
+pub returns-clause-models_with : goal.returns-clause-models_with
+returns-clause-models_with g c =
+    models_with (command_of (map string_bytes c.args.words.now)) (g.S.Shelf.seen c.args.shelf.now) (g.S.Shelf.seen c.ending_of-ending.new.shelf) c.write_ending.result (g.K.Sink.written c.args.out.now) (g.K.Sink.written c.write_ending.new.out)
     (record { ending = c.ending_of-ending.result; ends = c.ending_of-ending.ensures; writes = c.write_ending.ensures.writes })
 
 pub returns-clause-no_read_fault : goal.returns-clause-no_read_fault
@@ -80,3 +94,58 @@ pub returns-clause-summary : goal.returns-clause-summary
 returns-clause-summary g c = λ p there written solves.
     summed (command_of (map string_bytes c.args.words.now)) (g.S.Shelf.seen c.args.shelf.now) (g.S.Shelf.seen c.ending_of-ending.new.shelf) c.write_ending.result (g.K.Sink.written c.args.out.now) (g.K.Sink.written c.write_ending.new.out)
     (record { ending = c.ending_of-ending.result; ends = c.ending_of-ending.ensures; writes = c.write_ending.ensures.writes }) p solves there written
+
+pub returns-clause-core_satisfiable : goal.returns-clause-core_satisfiable
+returns-clause-core_satisfiable g c =
+    core_satisfiable (command_of (map string_bytes c.args.words.now)) (g.S.Shelf.seen c.args.shelf.now) (g.S.Shelf.seen c.ending_of-ending.new.shelf) c.write_ending.result (g.K.Sink.written c.args.out.now) (g.K.Sink.written c.write_ending.new.out)
+    (record { ending = c.ending_of-ending.result; ends = c.ending_of-ending.ensures; writes = c.write_ending.ensures.writes })
+
+pub returns-clause-core_unsatisfiable : goal.returns-clause-core_unsatisfiable
+returns-clause-core_unsatisfiable g c =
+    core_unsatisfiable (command_of (map string_bytes c.args.words.now)) (g.S.Shelf.seen c.args.shelf.now) (g.S.Shelf.seen c.ending_of-ending.new.shelf) c.write_ending.result (g.K.Sink.written c.args.out.now) (g.K.Sink.written c.write_ending.new.out)
+    (record { ending = c.ending_of-ending.result; ends = c.ending_of-ending.ensures; writes = c.write_ending.ensures.writes })
+
+pub returns-clause-core : goal.returns-clause-core
+returns-clause-core g c = λ p lits there written narrows.
+    its_core (command_of (map string_bytes c.args.words.now)) (g.S.Shelf.seen c.args.shelf.now) (g.S.Shelf.seen c.ending_of-ending.new.shelf) c.write_ending.result (g.K.Sink.written c.args.out.now) (g.K.Sink.written c.write_ending.new.out)
+    (record { ending = c.ending_of-ending.result; ends = c.ending_of-ending.ensures; writes = c.write_ending.ensures.writes }) p lits narrows there written
+
+pub returns-clause-best_bound : goal.returns-clause-best_bound
+returns-clause-best_bound g c = λ p n there written bounds.
+    its_bound (command_of (map string_bytes c.args.words.now)) (g.S.Shelf.seen c.args.shelf.now) (g.S.Shelf.seen c.ending_of-ending.new.shelf) c.write_ending.result (g.K.Sink.written c.args.out.now) (g.K.Sink.written c.write_ending.new.out)
+    (record { ending = c.ending_of-ending.result; ends = c.ending_of-ending.ensures; writes = c.write_ending.ensures.writes }) p n bounds there written
+
+pub returns-clause-best_is_never_met : goal.returns-clause-best_is_never_met
+returns-clause-best_is_never_met g c =
+    best_is_never_met (command_of (map string_bytes c.args.words.now)) (g.S.Shelf.seen c.args.shelf.now) (g.S.Shelf.seen c.ending_of-ending.new.shelf) c.write_ending.result (g.K.Sink.written c.args.out.now) (g.K.Sink.written c.write_ending.new.out)
+    (record { ending = c.ending_of-ending.result; ends = c.ending_of-ending.ensures; writes = c.write_ending.ensures.writes })
+
+pub returns-clause-best_unknown : goal.returns-clause-best_unknown
+returns-clause-best_unknown g c =
+    best_unknown (command_of (map string_bytes c.args.words.now)) (g.S.Shelf.seen c.args.shelf.now) (g.S.Shelf.seen c.ending_of-ending.new.shelf) c.write_ending.result (g.K.Sink.written c.args.out.now) (g.K.Sink.written c.write_ending.new.out)
+    (record { ending = c.ending_of-ending.result; ends = c.ending_of-ending.ensures; writes = c.write_ending.ensures.writes })
+
+pub returns-clause-asked : goal.returns-clause-asked
+returns-clause-asked g c = λ p n b there written asks is.
+    asked (command_of (map string_bytes c.args.words.now)) (g.S.Shelf.seen c.args.shelf.now) (g.S.Shelf.seen c.ending_of-ending.new.shelf) c.write_ending.result (g.K.Sink.written c.args.out.now) (g.K.Sink.written c.write_ending.new.out)
+    (record { ending = c.ending_of-ending.result; ends = c.ending_of-ending.ensures; writes = c.write_ending.ensures.writes }) p n b asks is there written
+
+pub returns-clause-team_satisfiable : goal.returns-clause-team_satisfiable
+returns-clause-team_satisfiable g c =
+    team_satisfiable (command_of (map string_bytes c.args.words.now)) (g.S.Shelf.seen c.args.shelf.now) (g.S.Shelf.seen c.ending_of-ending.new.shelf) c.write_ending.result (g.K.Sink.written c.args.out.now) (g.K.Sink.written c.write_ending.new.out)
+    (record { ending = c.ending_of-ending.result; ends = c.ending_of-ending.ensures; writes = c.write_ending.ensures.writes })
+
+pub returns-clause-team_unsatisfiable : goal.returns-clause-team_unsatisfiable
+returns-clause-team_unsatisfiable g c =
+    team_unsatisfiable (command_of (map string_bytes c.args.words.now)) (g.S.Shelf.seen c.args.shelf.now) (g.S.Shelf.seen c.ending_of-ending.new.shelf) c.write_ending.result (g.K.Sink.written c.args.out.now) (g.K.Sink.written c.write_ending.new.out)
+    (record { ending = c.ending_of-ending.result; ends = c.ending_of-ending.ensures; writes = c.write_ending.ensures.writes })
+
+pub returns-clause-team_unknown : goal.returns-clause-team_unknown
+returns-clause-team_unknown g c =
+    team_unknown (command_of (map string_bytes c.args.words.now)) (g.S.Shelf.seen c.args.shelf.now) (g.S.Shelf.seen c.ending_of-ending.new.shelf) c.write_ending.result (g.K.Sink.written c.args.out.now) (g.K.Sink.written c.write_ending.new.out)
+    (record { ending = c.ending_of-ending.result; ends = c.ending_of-ending.ensures; writes = c.write_ending.ensures.writes })
+
+pub returns-clause-team : goal.returns-clause-team
+returns-clause-team g c = λ p workers rounds there written plays.
+    its_board (command_of (map string_bytes c.args.words.now)) (g.S.Shelf.seen c.args.shelf.now) (g.S.Shelf.seen c.ending_of-ending.new.shelf) c.write_ending.result (g.K.Sink.written c.args.out.now) (g.K.Sink.written c.write_ending.new.out)
+    (record { ending = c.ending_of-ending.result; ends = c.ending_of-ending.ensures; writes = c.write_ending.ensures.writes }) p workers rounds plays there written

@@ -1,7 +1,8 @@
 use Rattle.std.proofs.Common.{arith, sym, subst, List, ◌∙◌}
 use Rattle.mono_steps.specs.declared.step.Step.{Step}
 use Rattle.mono_answer.specs.declared.answer.Answer.TheVariants as answer
-use Rattle.mono_cmd.specs.Solved.{IsSolution, IsProgress}
+use Rattle.mono_search.specs.Solving.{IsProgress}
+use Rattle.mono_cmd.specs.Solved.{IsSolution}
 use Rattle.mono_cmd.proofs.Solutions.{progress_solves}
 use Rattle.mono_cmd.proofs.solving.progress.Goals as goal
 

@@ -1,5 +1,5 @@
 use Rattle.std.proofs.Common.{◌≡◌, ℕ, ◌+◌, ◌<◌, ◌||◌, length, take}
-use Rattle.mono_steps.specs.Trimmed.{has_number}
+use Rattle.mono_steps.specs.Renumbering.{has_number}
 use Rattle.mono_steps.specs.Needed.{is_set}
 use Rattle.mono_steps.proofs.trimming.mark_used.Given as goal
 

@@ -1,4 +1,4 @@
-use Rattle.std.proofs.Common.{refl, pos}
+use Rattle.std.proofs.Common.{◌≡◌, true, false, refl, pos}
 use Rattle.mono_steps.specs.WorkedLemmas.{minus}
 use Rattle.mono_theory.proofs.WorkedRows.{none_of_another_variable, none_while_quiet, walk_is_found}
 use Rattle.mono_theory.proofs.worked.lemmas_found.Goals as goal
@@ -17,3 +17,6 @@ returns-clause-one_true c = λ h. let e = h.none_true (minus 1) refl in cc
 
 pub returns-clause-another_variable : goal.returns-clause-another_variable
 returns-clause-another_variable c = none_of_another_variable
+
+pub returns-clause-not_shown : goal.returns-clause-not_shown
+returns-clause-not_shown c = λ h. let e : false ≡ true = h.shown in cc

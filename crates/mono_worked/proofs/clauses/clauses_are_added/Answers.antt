@@ -1,4 +1,4 @@
-use Rattle.std.proofs.Common.{◌≡◌, ap, arith, List, pos, refl}
+use Rattle.std.proofs.Common.{◌≡◌, ap, arith, length, List, pos, refl}
 use Rattle.mono_base.specs.Literal.{lit_at}
 use Rattle.mono_clauses.specs.Store.{Held, clause_at}
 use Rattle.mono_worked.proofs.clauses.clauses_are_added.Goals as goal
@@ -17,3 +17,6 @@ returns-clause-other_clause c = λ a. let e : pos 2 ≡ pos 3 = ap (λ (cs : Lis
 
 pub returns-clause-more_variables : goal.returns-clause-more_variables
 returns-clause-more_variables c = λ a. omega (arith, a.vars)
+
+pub returns-clause-first_is_lost : goal.returns-clause-first_is_lost
+returns-clause-first_is_lost c = λ a. let e : 1 ≡ 2 = ap (λ (cs : List Held). length cs) a.clauses in omega (arith, e)

@@ -10,3 +10,6 @@ returns-clause-other_number c = λ u. elim (false_at _ _ u) [ inl a ↦ (let e =
 
 pub returns-clause-open_literal : goal.returns-clause-open_literal
 returns-clause-open_literal c = λ u. elim (false_at _ _ u) [ inl a ↦ (let e = a.1 in cc) | inr b ↦ (let e = b.0 in cc) ]
+
+pub returns-clause-no_clause : goal.returns-clause-no_clause
+returns-clause-no_clause c = λ u. elim (false_at _ _ u) [ inl a ↦ (let e = a.0 in cc) | inr b ↦ (let e = b.0 in cc) ]

@@ -1,5 +1,5 @@
-use Rattle.std.proofs.Common.{arith, refl, inl, inr, pos}
-use Rattle.mono_worked.proofs.ClauseRows.{never_true, true_too_high, implied_above_0}
+use Rattle.std.proofs.Common.{◌≡◌, arith, refl, inl, inr, pos}
+use Rattle.mono_worked.proofs.ClauseRows.{never_true, never_true_again, true_too_high, implied_above_0}
 use Rattle.mono_worked.proofs.clauses.stores_that_lag_behind.Goals as goal
 
 pub returns-clause-open_mate : goal.returns-clause-open_mate
@@ -13,3 +13,6 @@ returns-clause-alone c = λ h. implied_above_0 2 (h.alone 0 (pos 2) refl refl)
 
 pub returns-clause-other_variables : goal.returns-clause-other_variables
 returns-clause-other_variables c = λ h. omega (arith, h.vars)
+
+pub returns-clause-lower_level : goal.returns-clause-lower_level
+returns-clause-lower_level c = λ h. elim ((h.at 0 (pos 1) (pos 2) refl refl).at 0 (omega arith) refl) [ inl b ↦ never_true_again 0 1 b | inr late ↦ (let e : 1 ≡ 2 = late.1 in omega (arith, e)) ]

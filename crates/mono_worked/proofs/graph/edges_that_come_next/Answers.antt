@@ -22,3 +22,17 @@ returns-clause-great_variable c = λ new. let high = new.var.1 in omega (arith, 
 
 pub returns-clause-great_weight : goal.returns-clause-great_weight
 returns-clause-great_weight c = λ new. let high = new.weight in omega (arith, high)
+
+pub returns-clause-no_room : goal.returns-clause-no_room
+returns-clause-no_room c = λ edges len new. let room = new.room in omega (arith, room, len)
+
+pub returns-clause-last : goal.returns-clause-last
+returns-clause-last c = λ edges len all. record {
+  from = omega arith;
+  to = omega arith;
+  room = omega (arith, len);
+  rising = all;
+  number = omega arith;
+  var = (omega arith, omega arith);
+  weight = omega arith;
+}

@@ -1,0 +1,111 @@
+"""Measures cubes beside one run: the sum of the work to that of one run, and the longest cube, by each way to split.
+
+cubes.py [--program PATH] [FAMILY..]         one row for each input that has no model
+
+All times are processor times of whole runs of `solve`, in seconds; the cubes are solved one after the other, each
+answer is judged, and so is their cover. Nothing is tested.
+"""
+
+from __future__ import annotations
+
+import argparse
+import itertools
+import os
+import subprocess
+import sys
+import tempfile
+import time
+from collections.abc import Sequence
+from pathlib import Path
+
+HERE = Path(__file__).resolve().parent
+sys.path.insert(0, str(HERE.parent / "python"))
+
+import flags  # noqa: E402
+from families.catalogue import FAMILIES  # noqa: E402
+from gulfezo.cubes.engines import Local  # noqa: E402
+from gulfezo.cubes.folder import Folder  # noqa: E402
+from gulfezo.cubes.main import judge_cover  # noqa: E402
+from gulfezo.cubes.run import Plan, Run  # noqa: E402
+from gulfezo.cubes.splitting import METHODS, Splitting  # noqa: E402
+
+# Sizes of which some inputs take seconds: cells on a side and nets; sites; nodes and how far below a greedy bound.
+SIZES: dict[str, Sequence[object]] = {
+    "routing": [(14, 8), (16, 9), (18, 10)],
+    "network": [60, 80, 120],
+    "orders": [40, 60],
+    "feedback": [(30, 0), (40, 0)],
+}
+
+
+def arguments() -> argparse.Namespace:
+    """What the command's words say."""
+    parser = flags.family_parser(__doc__, SIZES, 3, 120.0)
+    add = parser.add_argument
+    add("--cubes", metavar="N", type=int, default=16, help="how many cubes are made at first (%(default)s)")
+    add("--budget", metavar="N", type=int, default=100_000, help="learned clauses until a cube is split (%(default)s)")
+    add("--probe", metavar="N", type=int, default=2_000, help="those of a run before there are so many (%(default)s)")
+    add("--least", metavar="S", type=float, default=1.0, help="leave out what one run does sooner (%(default)s)")
+    return parser.parse_args()
+
+
+def one_run(args: argparse.Namespace, file: str) -> tuple[int | None, float]:
+    """The exit code and the time of one run; the code is None where it takes longer than the limit."""
+    began = os.times()
+    words = [args.program, "solve", file, "--conflicts", str(2**63)]
+    with subprocess.Popen(words, stdout=subprocess.DEVNULL) as child:
+        status = None
+        while status is None and seconds_of(child.pid) < args.limit:
+            time.sleep(0.05)
+            status = child.poll()
+        if status is None:
+            child.kill()
+    ended = os.times()
+    return status, ended.children_user + ended.children_system - began.children_user - began.children_system
+
+
+def seconds_of(pid: int) -> float:
+    """The processor time that a process has taken."""
+    try:
+        fields = Path(f"/proc/{pid}/stat").read_text().rsplit(")", 1)[1].split()
+    except OSError:
+        return 0
+    return (int(fields[11]) + int(fields[12])) / os.sysconf("SC_CLK_TCK")
+
+
+def cubes(args: argparse.Namespace, problem: bytes, method: str) -> tuple[int, float, float]:
+    """The number of cubes, the sum of all runs' times, and the longest one."""
+    with tempfile.TemporaryDirectory() as place:
+        folder = Folder(Path(place), problem)
+        plan = Plan(args.cubes, args.budget, args.probe, args.program, args.program)
+        run = Run(plan, folder, Local(problem, 1), Splitting(problem, method))
+        if run.solve():
+            sys.exit("one run found no model, and a cube has one")
+        count = len(folder.finish())
+        judge_cover(args.program, Path(place))
+        folder.close()
+        return count, sum(cube.seconds for cube in folder.tree.cubes), run.longest
+
+
+def main() -> None:
+    args = arguments()
+    print("input | one run | " + " | ".join(f"{way}: cubes, sum, ratio, longest" for way in METHODS))
+    for name in args.families:
+        for size, seed in itertools.product(SIZES[name], range(1, args.seeds + 1)):
+            problem = FAMILIES[name].make(size, seed).text().encode()
+            with tempfile.NamedTemporaryFile() as file:
+                file.write(problem)
+                file.flush()
+                status, alone = one_run(args, file.name)
+            if status != 20 or alone < args.least:
+                print(f"{name} {size}, seed {seed}: {status} after {alone:.1f} s", file=sys.stderr, flush=True)
+                continue
+            row = []
+            for method in METHODS:
+                count, total, longest = cubes(args, problem, method)
+                row.append(f"{count}, {total:.1f}, {total / alone:.2f}, {longest:.1f}")
+            print(f"{name} {size}, seed {seed} | {alone:.1f} | " + " | ".join(row), flush=True)
+
+
+if __name__ == "__main__":
+    main()

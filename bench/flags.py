@@ -1,0 +1,43 @@
+"""The flags that the scripts of this folder have in common."""
+
+from __future__ import annotations
+
+import argparse
+import os
+from collections.abc import Iterable
+from pathlib import Path
+
+from families.catalogue import FAMILIES
+
+BUILT = Path(__file__).resolve().parents[1] / "crates" / "mono_cmd" / "out" / "mono_cmd"
+
+
+def absolute(path: str) -> str:
+    """The path, which runs in any folder can name."""
+    return os.path.abspath(path)
+
+
+def parser(doc: str | None) -> argparse.ArgumentParser:
+    """The flag `--program`."""
+    made = argparse.ArgumentParser(description=doc, formatter_class=argparse.RawDescriptionHelpFormatter)
+    add = made.add_argument
+    add("--program", metavar="PATH", type=absolute, default=str(BUILT), help="the program (%(default)s)")
+    return made
+
+
+def family(name: str) -> str:
+    """The name of a family."""
+    if name not in FAMILIES:
+        raise argparse.ArgumentTypeError(f"no family has the name {name} (bench/solve.py --list has all)")
+    return name
+
+
+def family_parser(doc: str | None, families: Iterable[str], seeds: int, limit: float) -> argparse.ArgumentParser:
+    """`--program`, the families whose inputs are measured, how many of them, and how long a run may take."""
+    made = parser(doc)
+    add = made.add_argument
+    add("--seeds", metavar="N", type=int, default=seeds, help="at most N inputs of a size (%(default)s)")
+    add("--limit", metavar="S", type=type(limit), default=limit, help="seconds that a run may take (%(default)s)")
+    usual = list(families)
+    add("families", nargs="*", type=family, default=usual, metavar="FAMILY", help=f"by name ({', '.join(usual)})")
+    return made

@@ -1,0 +1,7 @@
+pub mod Asked
+pub mod Numbers
+pub mod Optimal
+pub mod Outcomes
+pub mod Signs
+pub mod Told
+pub mod WorkedBest

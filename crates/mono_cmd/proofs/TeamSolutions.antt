@@ -1,0 +1,30 @@
+-- `check` accepts what `team` writes.
+use Rattle.std.proofs.Common.{◌≡◌, ℕ, ◌<◌, ◌^◌, Bool, List, length, refl}
+use Rattle.mono_problem.specs.Instance.{Instance}
+use Rattle.mono_problem.specs.WellFormed.{IsInstance}
+use Rattle.mono_steps.specs.declared.step.Step.{Step}
+use Rattle.mono_steps.specs.Journals.{chain_count}
+use Rattle.mono_answer.specs.declared.kind.Kind.TheVariants as kind
+use Rattle.mono_answer.specs.declared.answer.Answer.TheVariants as answer
+use Rattle.mono_answer.specs.Printed.{answer_text}
+use Rattle.mono_check.proofs.Accepted.{progress_iff}
+use Rattle.mono_search.specs.Outcomes.{HasModel}
+use Rattle.mono_search.specs.Solving.{IsTrimRefutation}
+use Rattle.mono_portfolio.specs.Outcomes.{IsBoardOfRounds}
+use Rattle.mono_cmd.specs.Teams.{IsTeamSolution}
+use Rattle.mono_cmd.proofs.Format.{steps_within}
+use Rattle.mono_cmd.proofs.Solutions.{model_solves, refutation_solves, printed_steps, few_steps, same_count}
+
+pub team_model_solves : (p : Instance) (workers rounds : ℕ) (values : List Bool) → IsInstance p → HasModel p values → IsTeamSolution p workers rounds (answer.Model values)
+team_model_solves p workers rounds values ok h = record { right = h; accepted = (model_solves p 1 values ok h).accepted }
+
+pub team_refutation_solves : (p : Instance) (workers rounds : ℕ) (steps : List Step) → IsInstance p → length steps < 2 ^ 63 → IsTrimRefutation p steps → IsTeamSolution p workers rounds (answer.Refutation steps)
+team_refutation_solves p workers rounds steps ok few h = record { right = h; accepted = (refutation_solves p 1 steps ok few h).accepted }
+
+pub team_board_solves : (p : Instance) (workers rounds : ℕ) (board : List Step) → IsInstance p → length board < 2 ^ 63 → IsBoardOfRounds p workers rounds board → IsTeamSolution p workers rounds (answer.Progress board)
+team_board_solves p workers rounds board ok few h =
+    let within = steps_within p p.clauses board ok (few_steps p board ok few) h.justified in
+    record {
+      right = h;
+      accepted = (progress_iff p (answer_text (answer.Progress board)) (chain_count board)).1 (board, printed_steps (length p.clauses) kind.Progress (answer.Progress board) board refl within, h.justified, same_count board);
+    }

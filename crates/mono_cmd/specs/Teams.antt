@@ -1,0 +1,55 @@
+-- What `team` answers, and what it writes.
+use Rattle.std.specs.Prelude.{◌≡◌, ℕ, List, Option, Some}
+use Rattle.mono_problem.specs.Instance.{Instance}
+use Rattle.mono_gnf.specs.Stands.{Stands}
+use Rattle.mono_steps.specs.declared.step.Step.{Step}
+use Rattle.mono_steps.specs.Journals.{chain_count}
+use Rattle.mono_search.specs.Outcomes.{HasModel}
+use Rattle.mono_search.specs.Solving.{IsTrimRefutation}
+use Rattle.mono_portfolio.specs.Outcomes.{IsBoardOfRounds}
+use Rattle.mono_io.specs.Shelf.{Texts, told_text}
+use Rattle.mono_answer.specs.declared.answer.Answer.{Answer}
+use Rattle.mono_answer.specs.declared.answer.Answer.TheVariants as answer
+use Rattle.mono_answer.specs.Printed.{answer_text}
+use Rattle.mono_check.specs.declared.verdict.Verdict.TheVariants as verdict
+use Rattle.mono_check.specs.Verdicts.{IsVerdict}
+use Rattle.mono_cmd.specs.declared.command.Command.{Command}
+use Rattle.mono_cmd.specs.declared.command.Command.TheVariants as command
+use Rattle.mono_cmd.specs.declared.status.Status.{Status}
+use Rattle.mono_cmd.specs.declared.status.Status.TheVariants as status
+use Rattle.mono_cmd.specs.declared.ending.Ending.{Ending}
+use Rattle.mono_cmd.specs.declared.ending.Ending.TheVariants as ending
+use Rattle.mono_cmd.specs.Solved.{verdict_of}
+
+-- a model, a refutation, or the board of all rounds of so many workers
+abbrev pub IsTeamAnswer : Instance → ℕ → ℕ → Answer → Type 0
+IsTeamAnswer p workers rounds (answer.Model values) = HasModel p values
+IsTeamAnswer p workers rounds (answer.Refutation steps) = IsTrimRefutation p steps
+IsTeamAnswer p workers rounds (answer.Progress board) = IsBoardOfRounds p workers rounds board
+
+-- such an answer, whose printed text `check` accepts
+pub record IsTeamSolution (p : Instance) (workers rounds : ℕ) (a : Answer) : Type 0 where
+  pub right : IsTeamAnswer p workers rounds a
+  pub accepted : IsVerdict p (answer_text a) (verdict_of a)
+
+-- the run comes to it
+pub record IsTeamed (p : Instance) (workers rounds : ℕ) (e : Ending) : Type 0 where
+  pub answer : Answer
+  pub is : e ≡ ending.Solved answer
+  pub right : IsTeamSolution p workers rounds answer
+
+-- `team` runs with so many workers and rounds, and FILE is told and stands for the problem
+pub record PlaysTeam (found : Option Command) (texts : Option Texts) (p : Instance) (workers rounds : ℕ) : Type 0 where
+  pub file : List ℕ
+  pub is : found ≡ Some (command.Team file workers rounds)
+  pub text : List ℕ
+  pub told : told_text texts file ≡ Some text
+  pub stands : Stands text p
+
+-- what `team` writes with this status: what `check` accepts as a model or as a refutation, or the board of all rounds, which it accepts as progress
+abbrev pub IsTeamTextBy : Status → Instance → ℕ → ℕ → List ℕ → Type 0
+IsTeamTextBy status.Satisfiable p workers rounds text = IsVerdict p text verdict.Model
+IsTeamTextBy status.Unsatisfiable p workers rounds text = IsVerdict p text verdict.Refutation
+IsTeamTextBy status.Unknown p workers rounds text =
+    (board : List Step) × IsBoardOfRounds p workers rounds board × (text ≡ answer_text (answer.Progress board)) × IsVerdict p text (verdict.Progress (chain_count board))
+IsTeamTextBy s p workers rounds text = Unit {0}

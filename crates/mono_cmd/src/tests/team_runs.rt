@@ -1,0 +1,97 @@
+//! Runs of `team`, each judged by `check`.
+
+use super::{Outcome, assert_outcome, outcome_of};
+use crate::status::Status;
+use std::alloc::{AllocError, Global};
+use std::process::Abort;
+use std::test::Fail;
+
+/// All clauses over three variables.
+const EIGHT: &[u8] =
+    b"1 2 3 0\n1 2 -3 0\n1 -2 3 0\n1 -2 -3 0\n-1 2 3 0\n-1 2 -3 0\n-1 -2 3 0\n-1 -2 -3 0\n";
+
+/// Two edges in a row that lead on.
+const ROUTE: &[u8] = b"digraph int 3 2 0\nedge 0 0 1 1\nedge 0 1 2 2\nreach 0 0 2 3\n1 0\n2 0\n";
+
+/// Two edges in a row that are there and don't lead on.
+const NO_ROUTE: &[u8] =
+    b"digraph int 3 2 0\nedge 0 0 1 1\nedge 0 1 2 2\nreach 0 0 2 3\n1 0\n2 0\n-3 0\n";
+
+fn played(alloc: Global, input: &[u8], workers: &str, rounds: &str) -> Result<Outcome, AllocError> {
+    outcome_of(alloc, &["team", "f", workers, rounds], input, b"")
+}
+
+/// Each row has an input, how `team` ends, and what `check` says of its text.
+#[test]
+fn answers_of_teams_are_accepted(rt: HostRuntime) -> Result<(), Fail> {
+    let rows: &[(&[u8], &str, &str, Status, &[u8])] = &[
+        (
+            EIGHT,
+            "2",
+            "1",
+            Status::Unsatisfiable,
+            b"accepted refutation\n",
+        ),
+        (
+            EIGHT,
+            "8",
+            "100",
+            Status::Unsatisfiable,
+            b"accepted refutation\n",
+        ),
+        (ROUTE, "2", "1", Status::Satisfiable, b"accepted model\n"),
+        (
+            NO_ROUTE,
+            "1",
+            "1",
+            Status::Unsatisfiable,
+            b"accepted refutation\n",
+        ),
+        (b"", "3", "2", Status::Satisfiable, b"accepted model\n"),
+    ];
+    for (input, workers, rounds, status, verdict) in rows {
+        let found = played(rt.alloc(), input, workers, rounds)?;
+        assert_eq!(rt; found.status, *status);
+        let judged = outcome_of(
+            rt.alloc(),
+            &["check", "f", "a"],
+            input,
+            found.text.as_slice(),
+        )?;
+        assert_outcome(&rt, &judged, verdict, Status::Accepted);
+    }
+    Ok(())
+}
+
+/// One model has one text.
+#[test]
+fn the_only_model_is_written(rt: HostRuntime) -> Result<(), Fail> {
+    let found = played(rt.alloc(), ROUTE, "2", "1")?;
+    assert_outcome(
+        &rt,
+        &found,
+        b"s SATISFIABLE\nv 1 2 3 0\n",
+        Status::Satisfiable,
+    );
+    Ok(())
+}
+
+/// Workers and rounds have their limits.
+#[test]
+fn teams_are_of_one_to_eight(rt: HostRuntime) -> Result<(), Fail> {
+    let rows: &[&[&str]] = &[
+        &["team", "f", "2"],
+        &["team", "f", "0", "1"],
+        &["team", "f", "9", "1"],
+        &["team", "f", "1", "0"],
+        &["team", "f", "1", "101"],
+        &["team", "-f", "1", "1"],
+        &["team", "f", "1", "1", "1"],
+        &["team", "f", "+1", "1"],
+    ];
+    for line in rows {
+        let found = outcome_of(rt.alloc(), line, EIGHT, b"")?;
+        assert_eq!(rt; found.status, Status::Words);
+    }
+    Ok(())
+}

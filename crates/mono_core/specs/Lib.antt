@@ -1,0 +1,4 @@
+pub mod Cores
+pub mod Dropped
+pub mod Minimal
+pub mod Worked

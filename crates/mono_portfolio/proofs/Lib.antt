@@ -1,0 +1,15 @@
+pub mod Held
+pub mod PreferredLaws
+pub mod Named
+pub mod Carried
+pub mod Tables
+pub mod Follows
+pub mod Changes
+pub mod Playing
+pub mod ExtendedLaws
+pub mod Replies
+pub mod Kept
+pub mod RoundLaws
+pub mod TakeLaws
+pub mod WorkedProblem
+pub mod RoundsLaws

@@ -1,0 +1,40 @@
+-- The problem of the worked rows is one.
+use Rattle.std.proofs.Common.{◌≡◌, ℕ, ◌<◌, ◌≤◌, ℤ, [], ◌∷◌, All, Some, pos, arith}
+use Rattle.std.specs.Prelude.{slice_index_or}
+use Rattle.std.proofs.lemmas.List.Elements.{All-nil, All-cons}
+use Rattle.mono_base.specs.declared.limits.TheConstants.{MAX_NODES, MAX_EDGES, MAX_LITERALS}
+use Rattle.mono_base.specs.Literal.{IsLitWithin}
+use Rattle.mono_problem.specs.declared.atom.Atom.{Atom}
+use Rattle.mono_problem.specs.Instance.{identity_at, place_named}
+use Rattle.mono_problem.specs.WellFormed.{IsInstance, IsAtomAt, IsDeclared, count_numbered}
+use Rattle.mono_steps.specs.WorkedLemmas.{minus}
+use Rattle.mono_portfolio.specs.Worked.{two_clauses}
+
+two : (l m : ℤ) → IsLitWithin 2 l → IsLitWithin 2 m → All (IsLitWithin 2) (l ∷ m ∷ [])
+two l m h k = All-cons (IsLitWithin 2) l (m ∷ []) h (All-cons (IsLitWithin 2) m [] k (All-nil (IsLitWithin 2)))
+
+pub two_clauses_ok : IsInstance two_clauses
+two_clauses_ok = record {
+  vars = omega arith;
+  few_graphs = omega arith;
+  few_nodes = let few : 0 ≤ MAX_NODES = omega arith in few;
+  few_edges = let few : 0 ≤ MAX_EDGES = omega arith in few;
+  few_atoms = omega arith;
+  few_clauses = omega arith;
+  few_literals = let few : 4 ≤ MAX_LITERALS = omega arith in few;
+  identities = identities;
+  graphs = All-nil (IsDeclared 2 0);
+  numbers = numbers;
+  atoms = atoms;
+  clauses = All-cons (All (IsLitWithin 2)) (pos 1 ∷ pos 2 ∷ []) ((pos 1 ∷ minus 2 ∷ []) ∷ []) (two (pos 1) (pos 2) (omega arith, omega arith) (omega arith, omega arith))
+      (All-cons (All (IsLitWithin 2)) (pos 1 ∷ minus 2 ∷ []) [] (two (pos 1) (minus 2) (omega arith, omega arith) (omega arith, omega arith)) (All-nil (All (IsLitWithin 2))));
+}
+  where
+    identities : (k : ℕ) → k < 0 → place_named two_clauses.graphs (identity_at two_clauses k) ≡ Some k
+    identities k lt = absurd (omega (arith, lt))
+
+    numbers : (n : ℕ) → 0 < n → n ≤ 0 → count_numbered n two_clauses.graphs ≡ 1
+    numbers n low high = absurd (omega (arith, low, high))
+
+    atoms : (k : ℕ) (d : Atom) → k < 0 → IsAtomAt two_clauses k (slice_index_or two_clauses.atoms k d)
+    atoms k d lt = absurd (omega (arith, lt))

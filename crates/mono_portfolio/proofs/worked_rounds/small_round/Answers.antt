@@ -1,0 +1,38 @@
+use Rattle.std.proofs.Common.{◌≡◌, ℕ, zero, suc, ◌<◌, List, [], ◌∷◌, ◌++◌, length, refl, ap, ◌∙◌, arith, lit<, length-append}
+use Rattle.std.proofs.lemmas.List.{length-map}
+use Rattle.mono_problem.specs.Instance.{Instance}
+use Rattle.mono_steps.specs.declared.step.Step.{Step}
+use Rattle.mono_steps.specs.Journals.{chain_count}
+use Rattle.mono_steps.proofs.WorkedNew.{one_is_end, one_is_left_open}
+use Rattle.mono_search.specs.Solving.{IsProgress}
+use Rattle.mono_portfolio.specs.Moved.{moved_step}
+use Rattle.mono_portfolio.specs.Rounds.{IsPiece}
+use Rattle.mono_portfolio.specs.Worked.{two_clauses, learned}
+use Rattle.mono_portfolio.proofs.worked_rounds.small_round.Goals as goal
+
+one_learned : IsProgress two_clauses 1 learned
+one_learned = record { justified = refl; new = record { chains = ((λ full. record { exact = one_is_end _ refl refl; new = one_is_left_open _ refl }), tt); none_empty = refl }; chains = refl; few = lit< tt }
+
+-- a piece with a learned clause isn't empty
+some_steps : (steps : List Step) → chain_count steps ≡ 1 → 0 < length steps
+some_steps [] e = absurd cc
+some_steps (s ∷ ss) e = omega arith
+
+some_piece : (p : Instance) (before : List Step) (taken : List ℕ) (piece : List Step) → IsPiece 1 p before taken piece → 0 < length piece
+some_piece p before taken piece h =
+    omega (arith, some_steps h.steps h.learned.chains, ap (λ (ss : List Step). length ss) h.is, length-map h.steps (moved_step (length p.clauses) taken (length before)))
+
+pub returns-clause-two : goal.returns-clause-two
+returns-clause-two c = (learned ++ learned, (learned, record { steps = learned; learned = one_learned; is = refl }, (learned, record { steps = learned; learned = one_learned; is = refl }, refl)), refl)
+
+pub returns-clause-one_piece : goal.returns-clause-one_piece
+returns-clause-one_piece c = λ h.
+    let first = h.1.0 in
+    let second = h.1.2.0 in
+    let a = some_piece two_clauses [] [] first h.1.1 in
+    let b = some_piece two_clauses first [] second h.1.2.1 in
+    let e : suc zero ≡ length (first ++ second) = ap (λ (ss : List Step). length ss) (h.2 ∙ h.1.2.2) in
+    omega (arith, a, b, e, length-append first second)
+
+pub returns-clause-another_board : goal.returns-clause-another_board
+returns-clause-another_board c = λ h. let e : suc zero ≡ zero = ap (λ (ss : List Step). length ss) (h.2 ∙ h.1) in cc

@@ -1,0 +1,13 @@
+pub mod Extended
+pub mod Moved
+pub mod TeamView
+pub mod Workers
+pub mod Refusals
+pub mod Plays
+pub mod Soundness
+pub mod Preferred
+pub mod Searched
+pub mod Turns
+pub mod Outcomes
+pub mod Rounds
+pub mod Worked

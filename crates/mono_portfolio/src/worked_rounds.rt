@@ -1,0 +1,54 @@
+//! Worked rows: rounds.
+
+ghost use Rattle.std.specs.Prelude.{◌≡◌, ℕ, true, false, [], ◌∷◌, List};
+ghost use Rattle.mono_problem.specs.Instance.{Instance};
+ghost use Rattle.mono_steps.specs.declared.step.Step.{Step};
+ghost use Rattle.mono_portfolio.specs.Extended.{extended, passes_limits};
+ghost use Rattle.mono_portfolio.specs.Rounds.{short_chains, taking, IsRound, AreRounds, Rounds};
+ghost use Rattle.mono_steps.specs.WorkedLemmas.{chain};
+ghost use Rattle.mono_portfolio.specs.declared.rounds.TeamOutcome.TheVariants as outcome;
+ghost use Rattle.mono_portfolio.specs.Outcomes.{IsTeamOutcome};
+ghost use Rattle.mono_portfolio.specs.Worked.{two_clauses, two_units, first_learned, learned, behind_a_lemma, long_and_short, four_clauses, given_first, given_next};
+
+/// Chains of at most 8 literals are taken by all, the empty one too. No lemma is.
+pub fn short_ones()
+    ensures numbers { short_chains 3 long_and_short ≡ 4 ∷ 6 ∷ [] }
+    ensures none { short_chains 3 [] ≡ [] }
+{}
+
+/// They are taken in order, behind what was taken before. One that finds no room is passed over.
+pub fn taken_by_all()
+    ensures behind { taking two_clauses behind_a_lemma (4 ∷ []) (3 ∷ 4 ∷ []) ≡ 4 ∷ 3 ∷ 4 ∷ [] }
+    ensures no_room { (p : Instance) (board : List Step) (n : ℕ) → passes_limits (extended p board (n ∷ [])) ≡ true → taking p board [] (n ∷ []) ≡ [] }
+    ensures room { (p : Instance) (board : List Step) (n : ℕ) → passes_limits (extended p board (n ∷ [])) ≡ false → taking p board [] (n ∷ []) ≡ n ∷ [] }
+{}
+
+/// In one round two workers that each learn one clause add two pieces, the second behind the first.
+pub fn small_round()
+    ensures two { AreRounds 1 two_clauses 2 1 [] [] (first_learned ∷ first_learned ∷ []) }
+    ensures one_piece { AreRounds 1 two_clauses 2 1 [] [] learned → ⊥ }
+    ensures another_board { AreRounds 1 two_clauses 0 1 [] [] learned → ⊥ }
+{}
+
+/// What was given in a round is taken behind it: the second chain names it by its number.
+pub fn two_small_rounds()
+    ensures { AreRounds 1 four_clauses 1 2 [] [] (given_first ∷ given_next ∷ []) }
+{}
+
+/// A model satisfies the problem, a refutation refutes it, and over two variables no board of whole rounds is left.
+pub fn ends_of_teams()
+    ensures model { IsTeamOutcome two_clauses 2 1 (outcome.Model (true ∷ false ∷ [])) }
+    ensures false_clause { IsTeamOutcome two_clauses 2 1 (outcome.Model (false ∷ true ∷ [])) → ⊥ }
+    ensures refutation { IsTeamOutcome two_units 2 1 (outcome.Refutation (chain [] (1 ∷ 2 ∷ []) ∷ [])) }
+    ensures no_refutation { IsTeamOutcome two_clauses 2 1 (outcome.Refutation learned) → ⊥ }
+    ensures few_variables { (board : List Step) → IsTeamOutcome two_clauses 2 1 (outcome.Board board) → ⊥ }
+{}
+
+/// Over two variables there aren't a thousand clauses to be learned, so no worker has a turn that ends without an answer.
+pub fn played_rounds()
+    ensures thousand { (p : Instance) (board : List Step) (workers rounds : ℕ) → Rounds p board workers rounds → AreRounds 1000 p workers rounds [] [] board }
+    ensures none { Rounds two_clauses [] 2 0 }
+    ensures none_more { Rounds two_clauses learned 2 0 → ⊥ }
+    ensures nobody { IsRound 1000 two_clauses 0 [] learned learned }
+    ensures one { (board : List Step) → Rounds two_clauses board 1 1 → ⊥ }
+{}

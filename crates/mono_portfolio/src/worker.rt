@@ -1,0 +1,177 @@
+//! A worker: what it took, what it made, and the problem that its searches are over.
+//!
+//! The problem is built when a search first asks for it, and again only after something was taken. Whether a number was
+//! taken, and whether there is room for one more clause, is told without a look at what was taken before.
+
+ghost use Rattle.std.specs.Prelude.{◌≡◌, ◌≤◌, ◌==◌, nat_lt, ◌||◌, false, [], ◌∷◌, ◌++◌, None, IfOk, OnOk, OnErr, IsTrue};
+ghost use Rattle.std.specs.List.{list_any};
+ghost use Rattle.mono_problem.specs.Instance.{literals_total};
+ghost use Rattle.mono_problem.specs.WellFormed.{IsInstance};
+ghost use Rattle.mono_steps.specs.Steps.{are_justified};
+ghost use Rattle.mono_theory.specs.Owners.{facts_of};
+ghost use Rattle.mono_portfolio.specs.Extended.{extended as extended_by, has_chain, passes_limits};
+ghost use Rattle.mono_search.specs.Solving.{MakesTheories};
+ghost use Rattle.mono_portfolio.specs.Searched.{Tells};
+ghost use Rattle.mono_portfolio.specs.Workers.{IsKept, shown};
+
+use crate::event::Reply;
+use crate::extending::{clause_of, extended};
+use crate::searching::search_over;
+use indexmap::IndexSet;
+use mono_base::limits::{MAX_CLAUSES, MAX_LITERALS};
+use mono_problem::Problem;
+use mono_steps::Step;
+use mono_theory::Theory;
+use std::alloc::{AllocError, Global};
+use std::marker::Model;
+
+/// The numbers of the steps that it took, in order, and the steps that it made over the problem that these extend.
+#[derive(Drop)]
+pub(crate) struct Worker {
+    taken: IndexSet<u64>,
+    made: Vec<Step>,
+    literals: u64,
+    over: Option<Problem>,
+}
+
+impl Model for Worker {
+    ghost use Rattle.mono_portfolio.specs.Workers.{WorkerState};
+
+    ghost Value = { WorkerState };
+
+    ghost view = { λ w. record { taken = w.taken.keys; made = w.made.items; literals = w.literals; over = w.over } };
+}
+
+impl Worker {
+    /// It took nothing and made nothing.
+    pub(crate) fn new(alloc: Global, problem: &Problem) -> Worker
+        ensures { result ≡ record { taken = []; made = []; literals = literals_total problem.now; over = None } }
+    {
+        Worker {
+            taken: IndexSet::new(alloc),
+            made: Vec::new(alloc),
+            literals: u64::from(problem.literal_count()),
+            over: None,
+        }
+    }
+
+    /// The numbers of the steps that it took.
+    pub(crate) fn taken(&self) -> &[u64]
+        ensures { result.now ≡ self.now.taken }
+    {
+        self.taken.as_slice()
+    }
+
+    /// The steps that it made.
+    pub(crate) fn made(&self) -> &[Step]
+        ensures { result.now ≡ self.now.made }
+    {
+        self.made.as_slice()
+    }
+
+    /// It made nothing.
+    pub(crate) fn clear_made(&mut self)
+        ensures { self.new ≡ record self.old { made = [] } }
+    {
+        self.made.clear();
+    }
+
+    /// Whether it took the step.
+    pub(crate) fn has_taken(&self, step: u64) -> bool
+        ensures { result ≡ list_any (λ n. step == n) self.now.taken }
+    {
+        self.taken.contains(&step)
+    }
+
+    /// Whether its problem would pass the limits of an input with the clause of one more chain.
+    pub(crate) fn is_full(&self, problem: &Problem, board: &[Step], step: u64) -> bool
+        requires kept { IsKept problem.now board.now self.now }
+        requires held { IsTrue (has_chain problem.now board.now step) }
+        ensures { result ≡ passes_limits (extended_by problem.now board.now (self.now.taken ++ step ∷ [])) }
+    {
+        let clauses = u64::from(problem.clause_count()) + self.taken.len() as u64 + 1;
+        let literals = self.literals + clause_of(problem, board, step).len() as u64;
+        passes(clauses, literals)
+    }
+
+    /// It takes the step. What it made so far is gone.
+    pub(crate) fn take(
+        &mut self,
+        problem: &Problem,
+        board: &[Step],
+        step: u64,
+    ) -> Result<(), AllocError>
+        requires kept { IsKept problem.now board.now self.old }
+        requires held { IsTrue (has_chain problem.now board.now step) }
+        requires new { list_any (λ n. step == n) self.old.taken ≡ false }
+        requires fits { passes_limits (extended_by problem.now board.now (self.old.taken ++ step ∷ [])) ≡ false }
+        ensures kept { IsKept problem.now board.now self.new }
+        ensures ok { OnOk result (shown self.new ≡ record { taken = self.old.taken ++ step ∷ []; made = [] }) }
+        ensures err { OnErr result (self.new ≡ self.old) }
+    {
+        let literals = clause_of(problem, board, step).len() as u64;
+        add_number(&mut self.taken, step)?;
+        self.literals += literals;
+        self.over = None;
+        self.clear_made();
+        Ok(())
+    }
+
+    /// Its problem, taken out of it, or built where it isn't there.
+    fn take_over(&mut self, problem: &Problem, board: &[Step]) -> Result<Problem, AllocError>
+        requires justified { IsTrue (are_justified problem.now board.now) }
+        requires kept { IsKept problem.now board.now self.old }
+        ensures kept { IsKept problem.now board.now self.new }
+        ensures shown { shown self.new ≡ shown self.old }
+        ensures ok { IfOk result (λ over. over ≡ extended_by problem.now board.now self.old.taken) }
+    {
+        if let Some(over) = self.over.take() {
+            return Ok(over);
+        }
+        extended(problem, board, self.taken.as_slice())
+    }
+
+    /// Searches over its problem from the beginning, until so many clauses are learned. It makes what the search did.
+    pub(crate) fn run<T: Theory, F: Fn(&Problem) -> Result<Vec<T>, AllocError>>(
+        &mut self,
+        alloc: Global,
+        problem: &Problem,
+        board: &[Step],
+        make: &F,
+        number: u32,
+        slice: u64,
+    ) -> Result<Reply, AllocError>
+        requires callable { F.IsAlwaysCallable make.now }
+        requires makes { MakesTheories (F.post make.now) (λ ts. facts_of T.graph T.atoms T.seen ts.items) }
+        requires slice { 1 ≤ slice }
+        requires instance { IsInstance problem.now }
+        requires justified { IsTrue (are_justified problem.now board.now) }
+        requires kept { IsKept problem.now board.now self.old }
+        ensures kept { IsKept problem.now board.now self.new }
+        ensures ok { IfOk result (λ r. Tells problem.now (extended_by problem.now board.now self.old.taken) slice r self.new.made × (self.new.taken ≡ self.old.taken)) }
+        ensures err { OnErr result (shown self.new ≡ shown self.old) }
+    {
+        let over = self.take_over(problem, board)?;
+        let told = search_over::<T, F>(alloc, &over, make, number, slice)?;
+        self.over = Some(over);
+        self.made = told.made.into_vec();
+        Ok(told.reply)
+    }
+}
+
+/// Whether a problem with so many clauses and literals passes the limits of an input.
+fn passes(clauses: u64, literals: u64) -> bool
+    ensures { result ≡ (nat_lt MAX_CLAUSES clauses || nat_lt MAX_LITERALS literals) }
+{
+    clauses > u64::from(MAX_CLAUSES) || literals > u64::from(MAX_LITERALS)
+}
+
+/// Adds a number that isn't there yet.
+fn add_number(taken: &mut IndexSet<u64>, step: u64) -> Result<(), AllocError>
+    requires { list_any (λ n. step == n) taken.old.keys ≡ false }
+    ensures ok { OnOk result (taken.new.keys ≡ taken.old.keys ++ step ∷ []) }
+    ensures err { OnErr result (taken.new.keys ≡ taken.old.keys) }
+{
+    taken.insert(step)?;
+    Ok(())
+}

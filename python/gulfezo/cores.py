@@ -1,0 +1,146 @@
+"""Cores: which of some assumptions can't hold together, and why each of these is needed, by the program's `core`."""
+
+from __future__ import annotations
+
+import os
+from collections.abc import Iterable, Iterator
+from dataclasses import dataclass
+from pathlib import Path
+from typing import TYPE_CHECKING, Literal as Constant
+
+from . import program as programs
+from .answer import read_answer
+from .errors import BudgetSpent, RejectedAnswer, UnexpectedStatus
+from .literals import Literal
+from .model import Model
+from .reasons import explained
+from .solving import Run, assumed, checked, in_folder, run_of
+from .steps import Refutation
+
+if TYPE_CHECKING:
+    from .problem import Problem
+
+MODEL, CORE, SPENT = 10, 20, 0
+
+
+@dataclass(frozen=True)
+class Need:
+    """Why a literal is in a core.
+
+    `model` makes all other literals of the core true, and so this one false; `check-with` has accepted it. Without it
+    this literal wasn't left out because 100,000 learned clauses didn't tell whether the literals of `tried` hold
+    together, which are the other ones of the core and perhaps more.
+    """
+
+    literal: Literal
+    model: Model | None
+    tried: tuple[Literal, ...]
+
+
+class Core:
+    """Assumptions that can't hold together.
+
+    `refutation` shows it, and `check-with` has accepted it under `literals`. `needs` has one entry for each of them, in
+    order.
+    """
+
+    def __init__(self, problem: Problem, needs: list[Need], refutation: Refutation) -> None:
+        self.problem = problem
+        self.needs = needs
+        self.refutation = refutation
+
+    def __bool__(self) -> Constant[False]:
+        return False
+
+    def __len__(self) -> int:
+        return len(self.needs)
+
+    def __iter__(self) -> Iterator[Literal]:
+        return iter(self.literals)
+
+    @property
+    def literals(self) -> list[Literal]:
+        """The assumptions of the core, in the order in which they were given."""
+        return [need.literal for need in self.needs]
+
+    @property
+    def names(self) -> list[str]:
+        """The literals in words: see `Problem.described`."""
+        return [self.problem.described(literal) for literal in self.literals]
+
+    @property
+    def is_minimal(self) -> bool:
+        """Whether no literal could be left out: each of them has a model of the others."""
+        return all(need.model is not None for need in self.needs)
+
+
+def core(
+    problem: Problem,
+    assumptions: Iterable[Literal],
+    folder: str | os.PathLike[str] | None,
+    program: str | None,
+    progress: bool,
+    seconds: float | None,
+) -> Model | Core:
+    """See `Problem.core`."""
+    literals = assumed(problem, assumptions)
+    if not literals:
+        raise ValueError("core wants at least one assumption; solve says whether there is a model without any")
+    run = run_of(program, None, seconds, progress)
+    return in_folder(folder, lambda place, keeps: core_in(place, problem, run, keeps, literals))
+
+
+def core_in(place: Path, problem: Problem, run: Run, keeps: bool, literals: list[int]) -> Model | Core:
+    """Asks for a core with the files `problem.gnf` and `answer` in that folder."""
+    file, printed = place / "problem.gnf", place / "answer"
+    problem.write(file)
+    with open(printed, "wb") as out:
+        with run.phase(f"looking for a core (assumptions: {len(literals)})"):
+            status = programs.run([run.program, "core", str(file), *map(str, literals)], out, run.deadline)
+    if status == SPENT:
+        spent = "100,000 learned clauses don't tell whether the assumptions hold together; assume less"
+        raise BudgetSpent(spent, *((file, printed) if keeps else ()))
+    found = heads_of(printed) if status == CORE else []
+    if status == CORE and (not found or found[0][0] != "core"):
+        raise UnexpectedStatus("core ended with 20 and printed no core", file, printed)
+    kept = [number for number in found[0][1] if number] if found else literals
+    answer = checked(problem, status, run, file, printed, kept)
+    if isinstance(answer, Model):
+        return answer
+    needs = [
+        need_of(problem, run, file, kept, place, literal, head) for literal, head in zip(kept, found[1:], strict=True)
+    ]
+    return Core(problem, needs, answer)
+
+
+def heads_of(printed: Path) -> list[tuple[str, list[int]]]:
+    """The words and numbers of the lines `c core`, `c needed` and `c open`, in their order."""
+    found = []
+    with open(printed, "rb") as lines:
+        for line in lines:
+            tokens = line.split()
+            if tokens[:1] == [b"c"] and tokens[1:2] in ([b"core"], [b"needed"], [b"open"]):
+                found.append((tokens[1].decode(), list(map(int, tokens[2:]))))
+            elif tokens[:1] != [b"c"]:
+                break
+    return found
+
+
+def need_of(
+    problem: Problem, run: Run, file: Path, kept: list[int], place: Path, literal: int, head: tuple[str, list[int]]
+) -> Need:
+    """The need of a literal by its line. `RejectedAnswer`: what stands there as a model of the others isn't one."""
+    word, (named, *listed, _) = head
+    if named != literal:
+        raise UnexpectedStatus(f"core names {named} where the need of {literal} belongs", file, place / "answer")
+    own = problem.literal(literal)
+    if word == "open":
+        return Need(own, None, tuple(map(problem.literal, listed)))
+    path = place / f"needed-{literal}"
+    path.write_text(f"s SATISFIABLE\nv {' '.join(map(str, listed))} 0\n")
+    others = [number for number in kept if number != literal]
+    said = programs.verdict(run.program, file, path, run.deadline, others)
+    model = read_answer(problem, path)
+    if said != "accepted model" or not isinstance(model, Model):
+        raise RejectedAnswer(f"check says '{said}' of a need of a core{explained(said, path)}", file, path)
+    return Need(own, model, ())
