@@ -1,6 +1,6 @@
 """Measures cubes beside one run: the sum of the work to that of one run, and the longest cube, by each way to split.
 
-cubes.py [--program PATH] [FAMILY..]         one row for each input that has no model
+cubes.py [--program PATH] [FAMILY..]         one row for each of the inputs below, none of which has a model
 
 All times are processor times of whole runs of `solve`, in seconds; the cubes are solved one after the other, each
 answer is judged, and so is their cover. Nothing is tested.
@@ -9,43 +9,52 @@ answer is judged, and so is their cover. Nothing is tested.
 from __future__ import annotations
 
 import argparse
-import itertools
 import os
 import subprocess
 import sys
 import tempfile
 import time
-from collections.abc import Sequence
+from collections.abc import Callable
 from pathlib import Path
 
 HERE = Path(__file__).resolve().parent
 sys.path.insert(0, str(HERE.parent / "python"))
 
 import flags  # noqa: E402
-from families.catalogue import FAMILIES  # noqa: E402
+from families import boards, orders, sites  # noqa: E402
+from families.encoding import Encoding  # noqa: E402
 from gulfezo.cubes.engines import Local  # noqa: E402
 from gulfezo.cubes.folder import Folder  # noqa: E402
 from gulfezo.cubes.main import judge_cover  # noqa: E402
 from gulfezo.cubes.run import Plan, Run  # noqa: E402
 from gulfezo.cubes.splitting import METHODS, Splitting  # noqa: E402
 
-# Sizes of which some inputs take seconds: cells on a side and nets; sites; nodes and how far below a greedy bound.
-SIZES: dict[str, Sequence[object]] = {
-    "routing": [(14, 8), (16, 9), (18, 10)],
-    "network": [60, 80, 120],
-    "orders": [40, 60],
-    "feedback": [(30, 0), (40, 0)],
+# By name: what makes the inputs, and each one's size and seed. The sizes: cells on a side and nets; sites and links;
+# elements and triples.
+INPUTS: dict[str, tuple[Callable[[tuple[int, int], int], Encoding], list[tuple[tuple[int, int], int]]]] = {
+    "routing": (boards.routing, [((14, 8), 7), ((14, 8), 1), ((14, 8), 6)]),
+    "network": (sites.network_within, [((40, 19), 2), ((40, 20), 2)]),
+    "orders": (orders.any_betweenness, [((120, 192), 3), ((140, 224), 1)]),
 }
+
+
+def known(name: str) -> str:
+    """The name of a family that has inputs here."""
+    if name not in INPUTS:
+        raise argparse.ArgumentTypeError(f"no inputs have the name {name}")
+    return name
 
 
 def arguments() -> argparse.Namespace:
     """What the command's words say."""
-    parser = flags.family_parser(__doc__, SIZES, 3, 120.0)
+    parser = flags.parser(__doc__)
     add = parser.add_argument
-    add("--cubes", metavar="N", type=int, default=16, help="how many cubes are made at first (%(default)s)")
+    add("--cubes", metavar="N", type=int, default=8, help="how many cubes are made at first (%(default)s)")
     add("--budget", metavar="N", type=int, default=100_000, help="learned clauses until a cube is split (%(default)s)")
     add("--probe", metavar="N", type=int, default=2_000, help="those of a run before there are so many (%(default)s)")
-    add("--least", metavar="S", type=float, default=1.0, help="leave out what one run does sooner (%(default)s)")
+    add("--limit", metavar="S", type=float, default=120.0, help="seconds that the one run may take (%(default)s)")
+    usual = ", ".join(INPUTS)
+    add("families", nargs="*", type=known, default=list(INPUTS), metavar="FAMILY", help=f"by name ({usual})")
     return parser.parse_args()
 
 
@@ -91,15 +100,15 @@ def main() -> None:
     args = arguments()
     print("input | one run | " + " | ".join(f"{way}: cubes, sum, ratio, longest" for way in METHODS))
     for name in args.families:
-        for size, seed in itertools.product(SIZES[name], range(1, args.seeds + 1)):
-            problem = FAMILIES[name].make(size, seed).text().encode()
+        make, inputs = INPUTS[name]
+        for size, seed in inputs:
+            problem = make(size, seed).text().encode()
             with tempfile.NamedTemporaryFile() as file:
                 file.write(problem)
                 file.flush()
                 status, alone = one_run(args, file.name)
-            if status != 20 or alone < args.least:
-                print(f"{name} {size}, seed {seed}: {status} after {alone:.1f} s", file=sys.stderr, flush=True)
-                continue
+            if status != 20:
+                sys.exit(f"{name} {size}, seed {seed}: one run ended with {status} after {alone:.1f} s")
             row = []
             for method in METHODS:
                 count, total, longest = cubes(args, problem, method)

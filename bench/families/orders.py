@@ -2,9 +2,8 @@
 
 from __future__ import annotations
 
-import itertools
 import random
-from collections.abc import Iterator
+from collections.abc import Iterable, Iterator
 
 from families.encoding import Encoding
 
@@ -12,6 +11,21 @@ from families.encoding import Encoding
 def betweenness(count: int, seed: int) -> Encoding:
     """Each drawn triple has its middle between its ends. Odd seeds draw triples of a hidden order: so there is one."""
     drawn = random.Random(seed)
+    hidden = list(range(count))
+    drawn.shuffle(hidden)
+    if seed % 2:
+        return ordered(count, (sorted(triple, key=hidden.index) for triple in triples(count, 2 * count, drawn)))
+    return ordered(count, triples(count, 3 * count, drawn))
+
+
+def any_betweenness(size: tuple[int, int], seed: int) -> Encoding:
+    """So many elements and drawn triples, of no hidden order."""
+    count, many = size
+    return ordered(count, triples(count, many, random.Random(seed)))
+
+
+def ordered(count: int, of: Iterable[list[int]]) -> Encoding:
+    """Orders in which each of these triples has its middle between its ends."""
     made = Encoding()
     graph = made.graph(count)
     before: dict[tuple[int, int], int] = {}
@@ -26,11 +40,7 @@ def betweenness(count: int, seed: int) -> Encoding:
             made.clause(-there, -back)  # no cycle
         return before[u, v]
 
-    hidden = list(range(count))
-    drawn.shuffle(hidden)
-    for u, v, w in itertools.islice(triples(count, drawn), 2 * count if seed % 2 else 3 * count):
-        if seed % 2:
-            u, v, w = sorted((u, v, w), key=hidden.index)
+    for u, v, w in of:
         made.clause(pair(u, v), pair(w, v))
         made.clause(pair(v, u), pair(v, w))
         made.clause(-pair(u, v), pair(v, w))
@@ -38,7 +48,6 @@ def betweenness(count: int, seed: int) -> Encoding:
     return made
 
 
-def triples(count: int, drawn: random.Random) -> Iterator[list[int]]:
-    """Three elements each, without end."""
-    while True:
-        yield drawn.sample(range(count), 3)
+def triples(count: int, many: int, drawn: random.Random) -> Iterator[list[int]]:
+    """So many draws of three elements each."""
+    return (drawn.sample(range(count), 3) for _ in range(many))

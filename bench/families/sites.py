@@ -66,6 +66,12 @@ def wires(made: Encoding, sites: Sites, pairs: list[Pair]) -> tuple[int, dict[Pa
 
 def network(count: int, seed: int) -> Encoding:
     """A budget of links, so that each of some sites gets a flow from the first one."""
+    return network_within((count, count * (8 + seed % 4) // 16), seed)
+
+
+def network_within(size: tuple[int, int], seed: int) -> Encoding:
+    """So many sites, and at most so many links."""
+    count, budget = size
     drawn = random.Random(seed)
     sites = Sites(count, drawn)
     made = Encoding()
@@ -73,7 +79,7 @@ def network(count: int, seed: int) -> Encoding:
     links = [made.link(graph, u, v, drawn.randint(1, 9)) for u, v in sites.near_pairs(4)]
     for customer in drawn.sample(range(1, count), max(2, count // 8)):
         made.clause(made.predicate("maximum_flow_geq", graph, 0, customer, drawn.randint(3, 8)))
-    made.at_most(count * (8 + seed % 4) // 16, links)
+    made.at_most(budget, links)
     return made
 
 

@@ -227,6 +227,22 @@ class Runs(Case):
         self.assertEqual(len(told), len(set(told)))
         self.assertEqual(self.command("--judge", folder)[0], 0)
 
+    def test_a_run_that_goes_on_has_its_tries_behind_it(self):
+        problem = pigeons(4)
+        folder = Folder(self.root / "cubes", problem)
+        for variable in (1, 2):
+            cube = folder.tree.cubes[-1]
+            folder.tree.split(cube, variable)
+            folder.tell(cube, 0.5, on=variable)
+        folder.tell(folder.tree.cubes[-1], 0.5, probed=True)
+        folder.close()
+        folder = Folder(self.root / "cubes", problem)
+        run = Run(Plan(2, 10, 10, self.program, self.program), folder, Local(problem, 1), Splitting(problem))
+        self.assertEqual((run.tries, len(run.open), run.are_too_few()), (3, 3, False))
+        run = Run(Plan(9, 10, 10, self.program, self.program), folder, Local(problem, 1), Splitting(problem))
+        self.assertTrue(run.are_too_few())
+        folder.close()
+
     def test_a_folder_is_of_one_problem_and_one_run(self):
         folder = Folder(self.root / "cubes", b"1 0\n")
         with self.assertRaisesRegex(FolderError, "another run works"):

@@ -1,3 +1,3 @@
 pub mod CycleEvidence
-pub mod OrderLaws
+pub mod OrderStays
 pub mod Together

@@ -1,12 +1,12 @@
 -- Edges that come to a part with an order together, and go together.
-use Rattle.std.proofs.Common.{◌≡◌, ℕ, ◌+◌, ◌<◌, Bool, true, false, not, ◌&&◌, ◌||◌, List, [], ◌∷◌, ◌++◌, length, take, set, refl, sym, ap, subst, ◌∙◌, ◌⊎◌, inl, inr}
+use Rattle.std.proofs.Common.{◌≡◌, ℕ, ◌<◌, Bool, true, false, not, ◌&&◌, ◌||◌, List, [], ◌∷◌, ◌++◌, length, take, set, refl, sym, ap, subst, ◌∙◌, ◌⊎◌, inl, inr}
 use Rattle.std.specs.Prelude.{IsTrue, ◌==◌}
 use Rattle.std.proofs.lemmas.Bool.{cases_eq, eqb-true, eq-eqb, ne_eqb, or_cases, or_left, or_right}
 use Rattle.std.proofs.lemmas.List.Folds.{list_any-append}
 use Rattle.std.proofs.lemmas.List.{get_or-set_same, get_or-set_other}
 use Rattle.mono_graph.specs.Digraph.{Digraph, IsSubpart, present, has}
 use Rattle.mono_graph.specs.Cycles.{is_order, is_cycle}
-use Rattle.mono_graph.proofs.CycleLaws.{is_order-smaller, is_cycle-larger}
+use Rattle.mono_graph.proofs.RisingRanks.{is_order-smaller, is_cycle-larger}
 use Rattle.mono_graph.proofs.Prefixes.{take_has}
 use Rattle.mono_cycles.specs.Kept.{PartWithOrder, IsGrownBy}
 use Rattle.mono_dynamic.specs.Arrivals.{IsGrown}

@@ -1,11 +1,12 @@
 -- What is kept of the surely present edges: an order of the nodes in which each of them rises, or a cycle that one closed.
-use Rattle.std.specs.Prelude.{◌≡◌, ℕ, ◌+◌, ◌<◌, List, Option, Some, None, length, IsTrue}
+use Rattle.std.specs.Prelude.{◌≡◌, ℕ, ◌+◌, ◌<◌, Bool, List, Option, Some, None, length, IsTrue}
+use Rattle.std.specs.Option.{is_some}
 use Rattle.mono_graph.specs.Digraph.{present}
 use Rattle.mono_graph.specs.Cycles.{is_cycle, is_order}
 use Rattle.mono_cycles.specs.Kept.{PartWithOrder}
 use Rattle.mono_theory.specs.Bound.{edge_vars}
 use Rattle.mono_theory.specs.Theories.{Facts}
-use Rattle.mono_rows.specs.SureParts.{sure_parts}
+use Rattle.mono_theory.specs.SureParts.{sure_parts}
 use Rattle.mono_acyclic.specs.declared.ordered_edges.Closing.{Closing}
 
 -- the variables of the edges, edges with an order of the nodes, and the literal that closed a cycle, if one did
@@ -45,3 +46,7 @@ pub record AreEdgesTo (f : Facts) (n : ℕ) (s : OrderedView) : Type 0 where
 -- what is kept is right for all literals seen
 abbrev pub AreEdgesOf : OrderedView → Facts → Type 0
 AreEdgesOf s f = AreEdgesTo f (length f.seen) s
+
+-- a cycle is shown, of each atom alike
+abbrev pub shows_cycle : OrderedView → ℕ → Bool
+shows_cycle s a = is_some s.closing

@@ -14,10 +14,9 @@ use mono_base::Row;
 use mono_cycles::{CycleFinder, CycleOrOrder, rank};
 use mono_graph::{Graph, Part};
 use mono_problem::Predicate;
-use mono_rows::RowsSide;
 use mono_steps::Witness;
 use mono_theory::walks::edge_numbers;
-use mono_theory::{Evidence, GraphTheory, Kind};
+use mono_theory::{EitherSide, Evidence, GraphTheory, Kind};
 use std::alloc::{AllocError, Global};
 use std::marker::Model;
 
@@ -167,4 +166,4 @@ impl Kind for Acyclic {
 }
 
 /// Predicates on cycles over one graph.
-pub type AcyclicTheory = GraphTheory<Acyclic, RowsSide<OrderedEdges>>;
+pub type AcyclicTheory = GraphTheory<Acyclic, EitherSide<OrderedEdges>>;

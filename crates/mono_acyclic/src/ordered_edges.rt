@@ -3,8 +3,9 @@
 //! While literals come, the surely present edges only grow. As long as they have no cycle, a list of all nodes is kept in
 //! which each of them begins before it ends: an edge that agrees with it costs nothing, another one only the nodes between its
 //! ends (Marchetti-Spaccamela, Nanni and Rohnert 1996). The first literal whose edges close a cycle is kept with the cycle,
-//! and the edges of that literal and of the later ones aren't put in. Going back takes out the edges that came since, and
-//! leaves the order as it is: it is one of fewer edges too.
+//! and the edges of that literal and of the later ones aren't put in. Each atom asks for the same, so a cycle that closes makes
+//! all of them due. Going back takes out the edges that came since, and leaves the order as it is: it is one of fewer edges
+//! too.
 
 ghost use Rattle.std.specs.Prelude.{◌≡◌, ◌+◌, ◌<◌, ◌≤◌, true, length, int_lt, pos, slice_index_or, IfOk, OnErr};
 ghost use Rattle.mono_theory.specs.Bound.{edge_vars};
@@ -14,8 +15,7 @@ use crate::acyclic::{Acyclic, cycle_evidence};
 use crate::ordering::{insert_all, remove_all};
 use mono_base::Lit;
 use mono_cycles::OrderedPart;
-use mono_rows::Rows;
-use mono_theory::{Bounds, Evidence, Frame};
+use mono_theory::{Bounds, Due, Evidence, Frame, Rows};
 use std::alloc::{AllocError, Global};
 use std::marker::Model;
 
@@ -76,7 +76,7 @@ fn advance(
 }
 
 /// The edges of the literal at a place go.
-fn retreat_one(frame: &Frame, index: &Bounds, ordered: &mut OrderedPart, at: usize)
+fn undo_last(frame: &Frame, index: &Bounds, ordered: &mut OrderedPart, at: usize)
     requires vars { index.now.vars ≡ edge_vars frame.now.graph }
     requires ordered { IsOrderedTo frame.now (at + 1) ordered.old }
     requires at { at < length frame.now.seen }
@@ -92,7 +92,13 @@ fn retreat_one(frame: &Frame, index: &Bounds, ordered: &mut OrderedPart, at: usi
 }
 
 /// The edges of the literals from the first `kept` on go.
-fn retreat(frame: &Frame, index: &Bounds, ordered: &mut OrderedPart, looked: usize, kept: usize)
+fn undo_edges_to(
+    frame: &Frame,
+    index: &Bounds,
+    ordered: &mut OrderedPart,
+    looked: usize,
+    kept: usize,
+)
     requires vars { index.now.vars ≡ edge_vars frame.now.graph }
     requires ordered { IsOrderedTo frame.now looked ordered.old }
     requires looked { looked ≤ length frame.now.seen }
@@ -102,7 +108,7 @@ fn retreat(frame: &Frame, index: &Bounds, ordered: &mut OrderedPart, looked: usi
     let mut at = looked;
     'back: while at > kept {
         at -= 1;
-        retreat_one(frame, index, ordered, at);
+        undo_last(frame, index, ordered, at);
     }
 }
 
@@ -119,9 +125,18 @@ impl OrderedEdges {
 }
 
 impl Rows<Acyclic> for OrderedEdges {
-    ghost use Rattle.mono_acyclic.specs.Orders.{AreEdgesOf};
+    ghost use Rattle.std.specs.Prelude.{false};
+    ghost use Rattle.mono_acyclic.specs.Orders.{AreEdgesOf, shows_cycle};
+
+    const IS_POSSIBLE: bool = false;
+
+    ghost IS_POSSIBLE = { false };
 
     ghost are_right = { AreEdgesOf };
+
+    ghost shown = { shows_cycle };
+
+    ghost stand = { λ _ _. Unit {0} };
 
     fn are_few(alloc: Global, frame: &Frame) -> Result<bool, AllocError> {
         let _ = (alloc, frame.seen());
@@ -146,6 +161,7 @@ impl Rows<Acyclic> for OrderedEdges {
         bounds: &Bounds,
         looked: usize,
         lit: Lit,
+        due: &mut Due,
     ) -> Result<(), AllocError> {
         let _ = bounds.under();
         let _ = (frame.seen(), lit.var());
@@ -155,14 +171,24 @@ impl Rows<Acyclic> for OrderedEdges {
         if !lit.is_positive() {
             return Ok(());
         }
-        self.closing = advance(
-            self.alloc,
-            frame,
-            &self.index,
-            &mut self.ordered,
-            lit,
-            looked,
-        )?;
+        let ordered = &mut self.ordered;
+        let Some(closing) = advance(self.alloc, frame, &self.index, ordered, lit, looked)? else {
+            return Ok(());
+        };
+        self.closing = Some(closing);
+        due.fill();
+        Ok(())
+    }
+
+    fn settle(
+        &mut self,
+        alloc: Global,
+        frame: &Frame,
+        bounds: &Bounds,
+        looked: usize,
+        due: &mut Due,
+    ) -> Result<(), AllocError> {
+        let _ = (alloc, frame.seen(), looked);
         Ok(())
     }
 
@@ -172,7 +198,7 @@ impl Rows<Acyclic> for OrderedEdges {
             return;
         }
         self.closing = None;
-        retreat(frame, &self.index, &mut self.ordered, ordered, kept);
+        undo_edges_to(frame, &self.index, &mut self.ordered, ordered, kept);
     }
 
     fn shows(&self, frame: &Frame, looked: usize, place: usize) -> bool {

@@ -1,6 +1,6 @@
 //! Literals (DIMACS CNF): `x` says that variable x is true, `-x` that it is false.
 
-ghost use Rattle.std.specs.Prelude.{◌≡◌, ◌<◌, ◌≤◌, ◌↔◌, ℤ, pos, neg_ℤ, nat_abs, int_lt, IsSome, IfSome};
+ghost use Rattle.std.specs.Prelude.{◌≡◌, ◌<◌, ◌≤◌, ◌↔◌, if◌then◌else◌, ℤ, pos, neg_ℤ, nat_abs, int_lt, IsSome, IfSome};
 ghost use Rattle.mono_base.specs.Literal.{slot};
 
 use crate::limits::MAX_VARS;
@@ -37,6 +37,19 @@ impl Lit {
             Some(Lit { number: n })
         } else {
             None
+        }
+    }
+
+    /// The literal that says that the variable, from 1 to 1,000,000, is true, or that it is false.
+    pub fn of(var: u32, sign: bool) -> Lit
+        requires low { 0 < var }
+        requires high { var ≤ MAX_VARS }
+        ensures value { result ≡ (if sign then pos var else neg_ℤ (pos var)) }
+        ensures var { nat_abs result ≡ var }
+    {
+        let number = var as i32;
+        Lit {
+            number: if sign { number } else { -number },
         }
     }
 

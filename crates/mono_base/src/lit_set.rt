@@ -115,10 +115,7 @@ fn push_within(lits: &mut Vec<Lit>, lit: Lit)
     ensures items { lits.new.items ≡ lits.old.items ++ lit ∷ [] }
     ensures room { vec_capacity lits.old ≤ vec_capacity lits.new }
 {
-    match lits.push(lit) {
-        Ok(()) => {}
-        Err(_) => unreachable!(),
-    }
+    lits.push_reserved(lit);
 }
 
 /// Writes 0 at the slot of each of the literals.

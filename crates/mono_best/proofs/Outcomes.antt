@@ -4,7 +4,7 @@ use Rattle.std.specs.Prelude.{IsTrue, ◌⊎◌, int_lt}
 use Rattle.std.proofs.lemmas.Int.{ints}
 use Rattle.mono_base.specs.declared.limits.TheConstants.{MAX_BOUND}
 use Rattle.mono_base.specs.Literal.{value_in}
-use Rattle.mono_graph.proofs.WalkLaws.{lt_from_test}
+use Rattle.mono_graph.proofs.CutsBoundWalks.{lt_from_test}
 use Rattle.mono_problem.specs.declared.atom.Predicate.{Predicate}
 use Rattle.mono_problem.specs.declared.atom.Predicate.TheVariants as kind
 use Rattle.mono_problem.specs.Instance.{Instance}

@@ -25,7 +25,8 @@ use Rattle.mono_check.specs.declared.verdict.Verdict.{Verdict}
 use Rattle.mono_check.specs.declared.verdict.Verdict.TheVariants as verdict
 use Rattle.mono_check.specs.Lines.{first_fault, last_line}
 use Rattle.mono_check.specs.Values.{model_line_fault, literals_in, has_ended, end_line, model_of, false_clause}
-use Rattle.mono_check.specs.StepLines.{step_line_fault, steps_line_fault, reason_of, clauses_in, steps_in, step_in, chain_count}
+use Rattle.mono_check.specs.StepLines.{step_line_fault, steps_line_fault, reason_of, clauses_in, steps_in, step_in}
+use Rattle.mono_steps.specs.Journals.{chain_count}
 use Rattle.mono_check.specs.Verdicts.{Outcome, Decided, ValuesIn, IsOutcome, IsVerdict, outcome_of, items_outcome, values_outcome, ended_outcome, model_end, steps_verdict, steps_end, or_rejected}
 use Rattle.mono_check.specs.Migrations.{is_accepted}
 use Rattle.mono_check.specs.Answers.{step_item, HasSteps, HasModel}

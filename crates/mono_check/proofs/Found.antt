@@ -4,8 +4,8 @@ use Rattle.std.specs.Prelude.{IsTrue, ◌↔◌}
 use Rattle.std.proofs.lemmas.Bool.{and_parts, and_from}
 use Rattle.mono_graph.specs.Digraph.{Digraph, HasEnds}
 use Rattle.mono_graph.specs.Flows.{is_flow, value_of, amount_at}
-use Rattle.mono_graph.proofs.FlowLaws.{flow_cut_excludes}
-use Rattle.mono_graph.proofs.CycleLaws.{cycle_cyclic, order_acyclic}
+use Rattle.mono_graph.proofs.CutsBoundFlows.{flow_cut_excludes}
+use Rattle.mono_graph.proofs.RisingRanks.{cycle_cyclic, order_acyclic}
 use Rattle.mono_cycles.specs.declared.finder.CycleOrOrder.{CycleOrOrder}
 use Rattle.mono_cycles.specs.declared.finder.CycleOrOrder.TheVariants as cycles
 use Rattle.mono_cycles.specs.Found.{IsCycleOrOrder, is_cycle_found}

@@ -19,9 +19,9 @@ use Rattle.mono_check.specs.Questions.{asks, atom_at, no_question, question_at, 
 use Rattle.mono_check.proofs.WrongAtoms.{atom_known}
 
 -- what a predicate on walks is over
-pub most_over : (g : Digraph) (m : Measure) (u v : ℕ) (most : ℤ) → IsOver g (asks m u v most) → (m ≡ measure.Nothing → most ≡ pos 0) → IsMost most
-most_over g measure.Nothing u v most over free = let zero_is = free refl in (omega (arith, ints, zero_is), omega (arith, ints, zero_is))
-most_over g measure.Edges u v most over free = over.2
+pub most_over : (g : Digraph) (m : Measure) (u v : ℕ) (most : ℤ) → IsOver g (asks m u v most) → (m ≡ measure.Free → most ≡ pos 0) → IsMost most
+most_over g measure.Free u v most over free = let zero_is = free refl in (omega (arith, ints, zero_is), omega (arith, ints, zero_is))
+most_over g measure.Steps u v most over free = over.2
 most_over g measure.Weight u v most over free = over.2
 
 pub question_known : (p : Instance) (x : Atom) (k : ℕ) (q : WalkQuestion) → IsInstance p → k < length p.atoms → x ≡ atom_numbered p (k + 1) → IsQuestionOf x k q → IsQuestion p q
@@ -46,8 +46,8 @@ question_over p q ok of =
     (let lt = known.graph in let same = of.graph in omega arith, subst (λ (r : Predicate). IsOver (graph_at p q.graph) r) of.predicate over)
 
 nodes_over : (g : Digraph) (m : Measure) (u v : ℕ) (most : ℤ) → IsOver g (asks m u v most) → (u < g.nodes) × (v < g.nodes)
-nodes_over g measure.Nothing u v most over = over
-nodes_over g measure.Edges u v most over = (over.0, over.1)
+nodes_over g measure.Free u v most over = over
+nodes_over g measure.Steps u v most over = (over.0, over.1)
 nodes_over g measure.Weight u v most over = (over.0, over.1)
 
 pub graph_known : (p : Instance) (q : WalkQuestion) → IsInstance p → IsQuestion p q → q.graph < length p.graphs
@@ -70,8 +70,8 @@ targets_known p qs g ts ok known alike is targets = subst (λ (us : List Target)
 -- ---- answers become truths
 
 asked_holds : (g : Digraph) (P : List Bool) (m : Measure) (u v : ℕ) (most : ℤ) (b : Bool) → IsTrue b ↔ HasPath g P u v (limit_by m most) → IsTrue b ↔ Holds g P (asks m u v most)
-asked_holds g P measure.Nothing u v most b h = h
-asked_holds g P measure.Edges u v most b h = h
+asked_holds g P measure.Free u v most b h = h
+asked_holds g P measure.Steps u v most b h = h
 asked_holds g P measure.Weight u v most b h = h
 
 -- an answer is the truth of the predicate at the question's place

@@ -26,7 +26,9 @@ use Rattle.mono_answer.specs.declared.item.Item.{Item}
 use Rattle.mono_answer.specs.declared.item.Item.TheVariants as says
 use Rattle.mono_check.specs.declared.step_lines.StepLines.{StepLines}
 use Rattle.mono_check.specs.Values.{lits_in, ends_in, literals_in, has_ended, end_line}
-use Rattle.mono_check.specs.StepLines.{step_line_fault, reason_of, clauses_in, steps_in, step_in, is_chain, chain_count}
+use Rattle.mono_check.specs.StepLines.{step_line_fault, reason_of, clauses_in, steps_in, step_in, is_chain}
+use Rattle.mono_steps.specs.Journals.{chain_count}
+use Rattle.mono_steps.proofs.JournalSteps.{chains-lemmas, count-chain}
 use Rattle.mono_check.specs.Lines.{last_of, last_line}
 use Rattle.mono_check.specs.Seen.{AreStepsAfter, AreStepsKept, steps_kept}
 use Rattle.mono_check.specs.SoFar.{ModelSoFar, StepsSoFar, model_more, steps_more}
@@ -77,8 +79,8 @@ pub clauses_push : (before : List (ℕ × Option Item)) (n : ℕ) (s : Step) →
 clauses_push before n s = ap (map clause_of) (steps_push before n s) ∙ map-append clause_of (steps_in before) (s ∷ [])
 
 count_push : (ss : List Step) (s : Step) → (if is_chain s then chain_count ss + 1 else chain_count ss) ≡ chain_count (ss ++ s ∷ [])
-count_push ss (step.Lemma l) = sym (ap length (filter-append is_chain ss (step.Lemma l ∷ []) ∙ append-nil (filter is_chain ss)))
-count_push ss (step.Chain c) = sym (ap length (filter-append is_chain ss (step.Chain c ∷ [])) ∙ length-append (filter is_chain ss) (step.Chain c ∷ []))
+count_push ss (step.Lemma l) = sym (ap length (chains-lemmas ss (l ∷ [])))
+count_push ss (step.Chain c) = sym (count-chain ss c)
 
 few_more : (b : Bool) (k n : ℕ) → k ≤ n → (if b then k + 1 else k) ≤ n + 1
 few_more true k n h = omega arith

@@ -14,8 +14,8 @@ use Rattle.mono_check.specs.declared.question.WalkQuestion.{WalkQuestion}
 
 -- the predicate that the question is
 abbrev pub asks : Measure → ℕ → ℕ → ℤ → Predicate
-asks measure.Nothing u v most = kind.Reach u v
-asks measure.Edges u v most = kind.Steps u v most
+asks measure.Free u v most = kind.Reach u v
+asks measure.Steps u v most = kind.Steps u v most
 asks measure.Weight u v most = kind.Distance u v most
 
 -- it is the one at this place
@@ -23,7 +23,7 @@ pub record IsQuestionOf (x : Atom) (k : ℕ) (q : WalkQuestion) : Type 0 where
   pub graph : q.graph ≡ x.graph
   pub predicate : x.predicate ≡ asks q.measure q.from q.to q.most
   pub place : q.place ≡ k
-  pub free : q.measure ≡ measure.Nothing → q.most ≡ pos 0
+  pub free : q.measure ≡ measure.Free → q.most ≡ pos 0
 
 -- the atom at a place, from 0
 abbrev pub atom_at : Instance → ℕ → Atom
@@ -43,7 +43,7 @@ pub record AreAlike (q r : WalkQuestion) : Type 0 where
   pub measure : r.measure ≡ q.measure
 
 abbrev pub no_question : WalkQuestion
-no_question = record { graph = 0; from = 0; measure = measure.Nothing; to = 0; most = pos 0; place = 0 }
+no_question = record { graph = 0; from = 0; measure = measure.Free; to = 0; most = pos 0; place = 0 }
 
 abbrev pub question_at : List WalkQuestion → ℕ → WalkQuestion
 question_at qs i = slice_index_or qs i no_question

@@ -36,9 +36,6 @@ abbrev pub is_chain : Step → Bool
 is_chain (step.Lemma l) = false
 is_chain (step.Chain c) = true
 
-abbrev pub chain_count : List Step → ℕ
-chain_count steps = length (filter is_chain steps)
-
 -- the fault of a line behind steps with these clauses
 abbrev pub step_line_fault : Instance → List (List ℤ) → Option Item → Option Reason
 step_line_fault p earlier (Some (says.Step s)) = option_map reason_of (step_fault p (p.clauses ++ earlier) s)

@@ -14,7 +14,8 @@ use Rattle.mono_check.specs.declared.verdict.Verdict.{Verdict}
 use Rattle.mono_check.specs.declared.verdict.Verdict.TheVariants as verdict
 use Rattle.mono_check.specs.Lines.{first_fault, last_line}
 use Rattle.mono_check.specs.Values.{model_line_fault, literals_in, end_line, model_of, false_clause}
-use Rattle.mono_check.specs.StepLines.{steps_line_fault, steps_in, chain_count}
+use Rattle.mono_check.specs.StepLines.{steps_line_fault, steps_in}
+use Rattle.mono_steps.specs.Journals.{chain_count}
 use Rattle.mono_check.specs.Atoms.{IsFirstWrong}
 
 -- a verdict, or values without a false clause whose ending 0 stands in this line

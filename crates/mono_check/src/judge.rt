@@ -67,7 +67,8 @@ fn judge_line(
 ) -> Result<(), AllocError>
     requires { IsSound problem.now said.old }
     ensures sound { OnOk result (IsSound problem.now said.new) }
-    ensures behind { OnOk result ((ls : List (ℕ × List ℕ)) → behind problem.now (so_far said.new) ls ≡ behind problem.now (so_far said.old) ((line.entry.number, line.entry.text.now) ∷ ls)) }
+    ensures behind { OnOk result ((ls : List (ℕ × List ℕ))
+        → behind problem.now (so_far said.new) ls ≡ behind problem.now (so_far said.old) ((line.entry.number, line.entry.text.now) ∷ ls)) }
 {
     match reader.read(&line) {
         Ok(None) => Ok(()),
@@ -89,7 +90,8 @@ fn judge_other(
     requires kept { is_skipped (tokens_of line.text.now) ≡ false }
     requires other { item_of (tokens_of line.text.now) ≡ None }
     ensures sound { OnOk result (IsSound problem.now said.new) }
-    ensures behind { OnOk result ((ls : List (ℕ × List ℕ)) → behind problem.now (so_far said.new) ls ≡ behind problem.now (so_far said.old) ((line.entry.number, line.entry.text.now) ∷ ls)) }
+    ensures behind { OnOk result ((ls : List (ℕ × List ℕ))
+        → behind problem.now (so_far said.new) ls ≡ behind problem.now (so_far said.old) ((line.entry.number, line.entry.text.now) ∷ ls)) }
 {
     if said.is_nothing() && is_version_line(&line) {
         *said = Said::Version { line: line.number };
@@ -114,19 +116,27 @@ impl Judge {
         }
     }
 
-    /// Takes the last bytes of a line, which a line feed follows, and judges it.
+    /// Takes the last bytes of a line, which a line feed follows, and judges it. A line of which nothing came before is
+    /// judged where it lies.
     fn end_line(&mut self, problem: &Problem, end: &[u8]) -> Result<(), AllocError>
         requires kept { IsKept problem.now self.old }
         requires few { size_of self.old + length end.now + 1 < 2 ^ 63 }
         requires one_line { IsOneLine end.now }
         ensures kept { OnOk result (IsKept problem.now self.new) }
         ensures size { OnOk result (size_of self.new ≤ size_of self.old + length end.now + 1) }
-        ensures later { OnOk result ((rest : List ℕ) → later_by problem.now (judging self.new) rest ≡ later_by problem.now (judging self.old) (end.now ++ 10 ∷ rest)) }
+        ensures later { OnOk result ((rest : List ℕ)
+            → later_by problem.now (judging self.new) rest ≡ later_by problem.now (judging self.old) (end.now ++ 10 ∷ rest)) }
     {
         self.lines += 1;
+        let number = self.lines;
+        if self.unfinished.is_empty() {
+            let line = Line { number, text: end };
+            judge_line(self.alloc, &mut self.reader, &mut self.said, problem, line)?;
+            return Ok(());
+        }
         self.unfinished.extend_from_slice(end)?;
         let line = Line {
-            number: self.lines,
+            number,
             text: self.unfinished.as_slice(),
         };
         judge_line(self.alloc, &mut self.reader, &mut self.said, problem, line)?;
@@ -140,7 +150,8 @@ impl Judge {
         requires few { size_of self.old + length piece.now < 2 ^ 63 }
         ensures kept { OnOk result (IsKept problem.now self.new) }
         ensures size { OnOk result (size_of self.new ≤ size_of self.old + length piece.now) }
-        ensures later { OnOk result ((rest : List ℕ) → later_by problem.now (judging self.new) rest ≡ later_by problem.now (judging self.old) (piece.now ++ rest)) }
+        ensures later { OnOk result ((rest : List ℕ)
+            → later_by problem.now (judging self.new) rest ≡ later_by problem.now (judging self.old) (piece.now ++ rest)) }
     {
         if self.said.has_fault() {
             return Ok(());
@@ -182,7 +193,7 @@ impl Judge {
         self.said.verdict(self.alloc, problem)
     }
 
-    /// The same, and the values that a model gives to the variables, in their order.
+    /// Ends the text and says the verdict, with the values that a model gives to the variables, in their order.
     pub(crate) fn finish_with_values(
         mut self,
         problem: &Problem,
@@ -190,7 +201,8 @@ impl Judge {
         requires kept { IsKept problem.now self }
         requires few { size_of self < 2 ^ 63 }
         ensures verdict { IfOk result (λ found. IsOutcome problem.now (later_by problem.now (judging self) []) found.0) }
-        ensures values { IfOk result (λ found. found.0 ≡ Verdict.Model → (end : Option ℕ) × (last : ℕ) × (later_by problem.now (judging self) [] ≡ ended_outcome problem.now end last found.1.items)) }
+        ensures values { IfOk result (λ found. found.0 ≡ Verdict.Model
+            → (end : Option ℕ) × (last : ℕ) × (later_by problem.now (judging self) [] ≡ ended_outcome problem.now end last found.1.items)) }
     {
         self.end_text(problem)?;
         let verdict = self.said.verdict(self.alloc, problem)?;

@@ -14,7 +14,7 @@ ghost use Rattle.mono_answer.specs.Versions.{answer_names_earlier};
 ghost use Rattle.mono_answer.specs.Printed.{answer_text_as};
 ghost use Rattle.mono_check.specs.Answers.{HasModel, HasSteps};
 ghost use Rattle.mono_check.specs.Migrations.{FitsMemory, MigratesTo, one_line_later};
-ghost use Rattle.mono_check.specs.StepLines.{chain_count};
+ghost use Rattle.mono_steps.specs.Journals.{chain_count};
 ghost use Rattle.mono_check.specs.Verdicts.{IsVerdict};
 ghost use Rattle.mono_check.specs.declared.verdict.Verdict.{Verdict};
 ghost use Rattle.mono_check.specs.declared.verdict.Verdict.TheVariants as verdict;
@@ -26,13 +26,15 @@ pub fn one_verdict()
 
 /// The verdict is a refutation exactly where the text claims one, and its steps are one.
 pub fn accepted_refutations()
-    ensures { (p : Instance) (text : List ℕ) → IsVerdict p text verdict.Refutation ↔ ((steps : List Step) × HasSteps (length p.clauses) kind.Refutation text steps × IsTrue (is_refutation p steps)) }
+    ensures { (p : Instance) (text : List ℕ) → IsVerdict p text verdict.Refutation
+        ↔ ((steps : List Step) × HasSteps (length p.clauses) kind.Refutation text steps × IsTrue (is_refutation p steps)) }
 {}
 
 /// The verdict is progress exactly where the text claims it, and its steps are justified. The number is that of the steps
 /// that are chains.
 pub fn accepted_progress()
-    ensures { (p : Instance) (text : List ℕ) (n : ℕ) → IsVerdict p text (verdict.Progress n) ↔ ((steps : List Step) × HasSteps (length p.clauses) kind.Progress text steps × IsTrue (are_justified p steps) × (n ≡ chain_count steps)) }
+    ensures { (p : Instance) (text : List ℕ) (n : ℕ) → IsVerdict p text (verdict.Progress n)
+        ↔ ((steps : List Step) × HasSteps (length p.clauses) kind.Progress text steps × IsTrue (are_justified p steps) × (n ≡ chain_count steps)) }
 {}
 
 /// The verdict is a model exactly where the text gives values to the variables, and they satisfy the problem.
@@ -55,11 +57,13 @@ pub fn accepted_refutation_means_no_model()
 /// numbers beyond the format's limits.
 pub fn versions_are_judged_alike()
     ensures { (p : Instance) (a : Answer) (v : Verdict) → FitsMemory (length p.clauses) a → IsTrue (answer_names_earlier (length p.clauses) a)
-        → IsVerdict p (answer_text_as a version.One (length p.clauses)) v ↔ IsVerdict p (answer_text_as a version.Two (length p.clauses)) (one_line_later v) }
+        → IsVerdict p (answer_text_as a version.One (length p.clauses)) v
+        ↔ IsVerdict p (answer_text_as a version.Two (length p.clauses)) (one_line_later v) }
 {}
 
 /// An accepted answer of version 1 in its printed form, which is the text that it is migrated to in version 1, gives the same
 /// bytes again once it was migrated to version 2 and back. The text is no longer than any that memory holds.
 pub fn migrated_there_and_back()
-    ensures { (p : Instance) (text there back : List ℕ) → IsInstance p → length text < 2 ^ 63 → MigratesTo p text version.One text → MigratesTo p text version.Two there → MigratesTo p there version.One back → back ≡ text }
+    ensures { (p : Instance) (text there back : List ℕ) → IsInstance p → length text < 2 ^ 63 → MigratesTo p text version.One text
+        → MigratesTo p text version.Two there → MigratesTo p there version.One back → back ≡ text }
 {}

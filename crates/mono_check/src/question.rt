@@ -25,8 +25,8 @@ fn question_of(atom: Atom, place: u32) -> Option<WalkQuestion>
     ensures { IfSome result (IsQuestionOf atom place) }
 {
     let (from, to, measure, most) = match atom.predicate {
-        Predicate::Reach { from, to } => (from, to, Measure::Nothing, 0),
-        Predicate::Steps { from, to, most } => (from, to, Measure::Edges, most),
+        Predicate::Reach { from, to } => (from, to, Measure::Free, 0),
+        Predicate::Steps { from, to, most } => (from, to, Measure::Steps, most),
         Predicate::Distance { from, to, most } => (from, to, Measure::Weight, most),
         _ => return None,
     };
@@ -120,7 +120,8 @@ pub(crate) fn keep_answers(
     requires each { length answers.now ≡ length questions.now }
     requires places { All (λ q. q.place < vec_len truths.old) questions.now }
     ensures len { vec_len truths.new ≡ vec_len truths.old }
-    ensures kept { (k : ℕ) (b : Bool) → truth_at truths.new.items k ≡ Some b → (truth_at truths.old.items k ≡ Some b) ⊎ IsAnswered questions.now answers.now k b }
+    ensures kept { (k : ℕ) (b : Bool) → truth_at truths.new.items k ≡ Some b
+        → (truth_at truths.old.items k ≡ Some b) ⊎ IsAnswered questions.now answers.now k b }
 {
     for at in 0..questions.len() {
         truths[questions[at].place as usize] = Some(answers[at]);

@@ -54,7 +54,9 @@ fn begin(
     kind: Kind,
 ) -> Result<Said, AllocError>
     ensures sound { IfOk result (IsSound problem.now) }
-    ensures behind { IfOk result (λ said. (n : ℕ) (ls : List (ℕ × Option Item)) → behind_items problem.now (so_far said) ls ≡ items_outcome problem.now n (items_by version (length problem.now.clauses + 1) ((number, Some (says.Status kind)) ∷ ls))) }
+    ensures behind { IfOk result (λ said. (n : ℕ) (ls : List (ℕ × Option Item))
+        → behind_items problem.now (so_far said) ls
+        ≡ items_outcome problem.now n (items_by version (length problem.now.clauses + 1) ((number, Some (says.Status kind)) ∷ ls))) }
     ensures begun { IfOk result IsBegun }
 {
     match kind {
@@ -86,7 +88,9 @@ fn first_line(
     item: Option<Item>,
 ) -> Result<Said, AllocError>
     ensures sound { IfOk result (IsSound problem.now) }
-    ensures behind { IfOk result (λ said. (n : ℕ) (ls : List (ℕ × Option Item)) → behind_items problem.now (so_far said) ls ≡ items_outcome problem.now n (items_by version (length problem.now.clauses + 1) ((number, item) ∷ ls))) }
+    ensures behind { IfOk result (λ said. (n : ℕ) (ls : List (ℕ × Option Item))
+        → behind_items problem.now (so_far said) ls
+        ≡ items_outcome problem.now n (items_by version (length problem.now.clauses + 1) ((number, item) ∷ ls))) }
     ensures begun { IfOk result IsBegun }
 {
     match item {
@@ -101,7 +105,8 @@ fn first_line(
 impl Said {
     /// Whether a line was at fault.
     pub(crate) fn has_fault(&self) -> bool
-        ensures { IsTrue result → (ls : List (ℕ × List ℕ)) (ks : List (ℕ × List ℕ)) (p : Instance) → behind p (so_far self.now) ls ≡ behind p (so_far self.now) ks }
+        ensures { IsTrue result → (ls : List (ℕ × List ℕ)) (ks : List (ℕ × List ℕ)) (p : Instance)
+            → behind p (so_far self.now) ls ≡ behind p (so_far self.now) ks }
     {
         match self {
             Said::Fault { line: _, reason: _ } => true,
@@ -131,7 +136,8 @@ impl Said {
     ) -> Result<(), AllocError>
         requires { IsSound problem.now self.old }
         ensures sound { OnOk result (IsSound problem.now self.new) }
-        ensures behind { OnOk result ((ls : List (ℕ × Option Item)) → behind_items problem.now (so_far self.new) ls ≡ behind_items problem.now (so_far self.old) ((number, item) ∷ ls)) }
+        ensures behind { OnOk result ((ls : List (ℕ × Option Item))
+            → behind_items problem.now (so_far self.new) ls ≡ behind_items problem.now (so_far self.old) ((number, item) ∷ ls)) }
         ensures begun { OnOk result (IsBegun self.new) }
     {
         let fault = match self {
@@ -192,7 +198,8 @@ impl Said {
     /// The values that a model's lines give to the variables, in their order; none where they are no model's.
     pub(crate) fn values(&self, alloc: Global, problem: &Problem) -> Result<Vec<bool>, AllocError>
         requires { IsSound problem.now self.now }
-        ensures { IfOk result (λ values. IsOutcome problem.now (behind problem.now (so_far self.now) []) verdict.Model → (end : Option ℕ) × (last : ℕ) × (behind problem.now (so_far self.now) [] ≡ ended_outcome problem.now end last values.items)) }
+        ensures { IfOk result (λ values. IsOutcome problem.now (behind problem.now (so_far self.now) []) verdict.Model
+            → (end : Option ℕ) × (last : ℕ) × (behind problem.now (so_far self.now) [] ≡ ended_outcome problem.now end last values.items)) }
     {
         match self {
             Said::Values { status: _, values } => values.model(alloc, problem),

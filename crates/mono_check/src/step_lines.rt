@@ -98,7 +98,8 @@ impl StepLines {
         requires { AreStepsKept problem.now self.old }
         ensures fault { IfOk result (λ reason. reason ≡ step_line_fault problem.now self.old.earlier.items (Some (says.Step step))) }
         ensures kept { IfOk result (λ reason. IfNone reason (AreStepsKept problem.now self.new)) }
-        ensures more { IfOk result (λ reason. IfNone reason ((n : ℕ) → steps_kept n self.new ≡ steps_more number (Some (says.Step step)) (steps_kept n self.old))) }
+        ensures more { IfOk result (λ reason. IfNone reason ((n : ℕ)
+            → steps_kept n self.new ≡ steps_more number (Some (says.Step step)) (steps_kept n self.old))) }
     {
         if let Some(fault) = self.checker.fault(problem, self.earlier.as_slice(), &step)? {
             return Ok(Some(reason(fault)));
@@ -124,9 +125,13 @@ impl StepLines {
         step: Step,
     ) -> Result<Option<Reason>, AllocError>
         requires { AreStepsKept problem.now self.old }
-        ensures fault { IfOk result (λ reason. reason ≡ step_line_fault problem.now self.old.earlier.items (Some (says.Step (step_by version (next_number problem.now self.old.earlier.items) step)))) }
+        ensures fault { IfOk result (λ reason. reason
+            ≡ step_line_fault problem.now self.old.earlier.items
+            (Some (says.Step (step_by version (next_number problem.now self.old.earlier.items) step)))) }
         ensures kept { IfOk result (λ reason. IfNone reason (AreStepsKept problem.now self.new)) }
-        ensures more { IfOk result (λ reason. IfNone reason ((n : ℕ) → steps_kept n self.new ≡ steps_more number (Some (says.Step (step_by version (next_number problem.now self.old.earlier.items) step))) (steps_kept n self.old))) }
+        ensures more { IfOk result (λ reason. IfNone reason ((n : ℕ)
+            → steps_kept n self.new ≡ steps_more number (Some (says.Step (step_by version (next_number problem.now self.old.earlier.items) step)))
+            (steps_kept n self.old))) }
     {
         let own = self.next_number(problem);
         let step = named(version, own, step);
@@ -144,9 +149,12 @@ impl StepLines {
         item: Option<Item>,
     ) -> Result<Option<Reason>, AllocError>
         requires { AreStepsKept problem.now self.old }
-        ensures fault { IfOk result (λ reason. reason ≡ step_line_fault problem.now self.old.earlier.items (item_by version (next_number problem.now self.old.earlier.items) item)) }
+        ensures fault { IfOk result (λ reason. reason
+            ≡ step_line_fault problem.now self.old.earlier.items (item_by version (next_number problem.now self.old.earlier.items) item)) }
         ensures kept { IfOk result (λ reason. IfNone reason (AreStepsKept problem.now self.new)) }
-        ensures more { IfOk result (λ reason. IfNone reason ((n : ℕ) → steps_kept n self.new ≡ steps_more number (item_by version (next_number problem.now self.old.earlier.items) item) (steps_kept n self.old))) }
+        ensures more { IfOk result (λ reason. IfNone reason ((n : ℕ)
+            → steps_kept n self.new ≡ steps_more number (item_by version (next_number problem.now self.old.earlier.items) item)
+            (steps_kept n self.old))) }
     {
         match item {
             Some(Item::Step(step)) => self.add_written(reader, problem, version, number, step),

@@ -95,7 +95,8 @@ fn add_literals(set: &mut LitSet, problem: &Problem, numbers: &[i32]) -> bool
     requires { set.old.vars ≡ problem.now.vars }
     ensures vars { set.new.vars ≡ set.old.vars }
     ensures values { (lits : List ℤ) → AreMembers problem.now lits set.old → result ≡ are_values problem.now (lits ++ literals_among numbers.now) }
-    ensures members { (lits : List ℤ) → AreMembers problem.now lits set.old → IsTrue result → AreMembers problem.now (lits ++ literals_among numbers.now) set.new }
+    ensures members { (lits : List ℤ) → AreMembers problem.now lits set.old → IsTrue result
+        → AreMembers problem.now (lits ++ literals_among numbers.now) set.new }
 {
     for number in numbers {
         if !add_number(set, problem, *number) {
@@ -145,8 +146,10 @@ impl Values {
 
     fn add_values(&mut self, problem: &Problem, number: u64, values: &[i32]) -> Option<Reason>
         requires { self.old.set.vars ≡ problem.now.vars }
-        ensures fault { (lits : List ℤ) → AreMembers problem.now lits self.old.set → result ≡ value_fault problem.now lits (is_some self.old.end) (Some (says.Values values.now)) }
-        ensures after { (lits : List ℤ) → AreMembers problem.now lits self.old.set → IfNone result (AreValuesAfter problem.now lits self.old number (Some (says.Values values.now)) self.new) }
+        ensures fault { (lits : List ℤ) → AreMembers problem.now lits self.old.set
+            → result ≡ value_fault problem.now lits (is_some self.old.end) (Some (says.Values values.now)) }
+        ensures after { (lits : List ℤ) → AreMembers problem.now lits self.old.set
+            → IfNone result (AreValuesAfter problem.now lits self.old number (Some (says.Values values.now)) self.new) }
     {
         if passes_end(self.end.is_some(), values) {
             return Some(Reason::BadLine);
@@ -175,7 +178,8 @@ impl Values {
         requires { AreValuesKept problem.now self.old }
         ensures fault { result ≡ value_fault problem.now self.old.set.members (is_some self.old.end) item }
         ensures kept { IfNone result (AreValuesKept problem.now self.new) }
-        ensures behind { IfNone result ((n : ℕ) (ls : List (ℕ × Option Item)) → model_behind problem.now (model_kept n self.new) ls ≡ model_behind problem.now (model_more number item (model_kept n self.old)) ls) }
+        ensures behind { IfNone result ((n : ℕ) (ls : List (ℕ × Option Item))
+            → model_behind problem.now (model_kept n self.new) ls ≡ model_behind problem.now (model_more number item (model_kept n self.old)) ls) }
     {
         match item {
             Some(Item::Values(values)) => {
@@ -204,7 +208,8 @@ impl Values {
         status: u64,
     ) -> Result<Verdict, AllocError>
         requires { self.now.set.vars ≡ problem.now.vars }
-        ensures { IfOk result (IsOutcome problem.now (ended_outcome problem.now self.now.end (unwrap_or self.now.last status) (model_of problem.now self.now.set.members))) }
+        ensures { IfOk result (IsOutcome problem.now
+            (ended_outcome problem.now self.now.end (unwrap_or self.now.last status) (model_of problem.now self.now.set.members))) }
     {
         let Some(line) = self.end else {
             return Ok(Verdict::Rejected {

@@ -21,8 +21,10 @@ pub fn worked_steps()
     ensures no_steps { judged 1 ((pos 1 ∷ []) ∷ (negsuc 0 ∷ []) ∷ []) (codes "s UNKNOWN") ≡ Decided (verdict.Progress 0) }
     ensures empty_clause_counts { judged 1 ((pos 1 ∷ []) ∷ (negsuc 0 ∷ []) ∷ []) (codes "s UNKNOWN\nchain 0 1 2") ≡ Decided (verdict.Progress 1) }
     ensures one_clause { judged 2 ((pos 1 ∷ []) ∷ []) (codes "s UNKNOWN\nchain 2 1 0 1") ≡ Decided (verdict.Progress 1) }
-    ensures names_a_step { judged 2 ((pos 1 ∷ pos 2 ∷ []) ∷ (negsuc 0 ∷ pos 2 ∷ []) ∷ (negsuc 1 ∷ []) ∷ []) (codes "s UNSATISFIABLE\nc two steps\n\nchain 2 0 1 2\nchain 0 4 3\n") ≡ Decided verdict.Refutation }
-    ensures names_the_first_step { judged 2 ((pos 1 ∷ []) ∷ (negsuc 0 ∷ pos 2 ∷ []) ∷ (negsuc 1 ∷ []) ∷ []) (codes "s UNSATISFIABLE\nchain 2 0 1 2\nchain -2 0 3\nchain 0 4 3\n") ≡ Decided verdict.Refutation }
+    ensures names_a_step { judged 2 ((pos 1 ∷ pos 2 ∷ []) ∷ (negsuc 0 ∷ pos 2 ∷ [])
+        ∷ (negsuc 1 ∷ []) ∷ []) (codes "s UNSATISFIABLE\nc two steps\n\nchain 2 0 1 2\nchain 0 4 3\n") ≡ Decided verdict.Refutation }
+    ensures names_the_first_step { judged 2 ((pos 1 ∷ []) ∷ (negsuc 0 ∷ pos 2 ∷ [])
+        ∷ (negsuc 1 ∷ []) ∷ []) (codes "s UNSATISFIABLE\nchain 2 0 1 2\nchain -2 0 3\nchain 0 4 3\n") ≡ Decided verdict.Refutation }
     ensures blanks { judged 1 ((pos 1 ∷ []) ∷ (negsuc 0 ∷ []) ∷ []) (codes "c\n\n s\tUNSATISFIABLE\r\nchain  -0 001 2") ≡ Decided verdict.Refutation }
 {}
 
@@ -31,7 +33,8 @@ pub fn worked_models()
     ensures model { judged 2 ((pos 1 ∷ negsuc 1 ∷ []) ∷ []) (codes "s SATISFIABLE\nv 1 -2 0\n") ≡ ValuesIn 2 (true ∷ false ∷ []) }
     ensures lines { judged 2 ((pos 1 ∷ negsuc 1 ∷ []) ∷ []) (codes "s SATISFIABLE\nv\nv -2\nv 1\nv 0\nv\n") ≡ ValuesIn 5 (true ∷ false ∷ []) }
     ensures no_variables { judged 0 [] (codes "s SATISFIABLE\nv 0") ≡ ValuesIn 2 [] }
-    ensures clause_false { judged 2 ((pos 1 ∷ []) ∷ (pos 2 ∷ []) ∷ (negsuc 0 ∷ []) ∷ []) (codes "s SATISFIABLE\nv 1 -2 0") ≡ Decided (verdict.Rejected 2 (reason.ClauseFalse 2)) }
+    ensures clause_false { judged 2 ((pos 1 ∷ []) ∷ (pos 2 ∷ []) ∷ (negsuc 0 ∷ []) ∷ []) (codes "s SATISFIABLE\nv 1 -2 0")
+        ≡ Decided (verdict.Rejected 2 (reason.ClauseFalse 2)) }
     ensures missing { judged 2 [] (codes "s SATISFIABLE\nv 1 0") ≡ Decided (verdict.Rejected 2 reason.ModelVariables) }
     ensures twice { judged 2 [] (codes "s SATISFIABLE\nv 1 2\nv 2 0") ≡ Decided (verdict.Rejected 3 reason.ModelVariables) }
     ensures both_signs { judged 2 [] (codes "s SATISFIABLE\nv 1 2 -1 0") ≡ Decided (verdict.Rejected 2 reason.ModelVariables) }
@@ -63,8 +66,10 @@ pub fn worked_rejections()
     ensures values { judged 1 [] (codes "s UNKNOWN\nv 1 0\n") ≡ Decided (verdict.Rejected 2 reason.BadLine) }
     ensures unknown_word { judged 1 [] (codes "s UNKNOWN\nchains 0 1\n") ≡ Decided (verdict.Rejected 2 reason.BadLine) }
     ensures no_steps { judged 1 [] (codes "s UNSATISFIABLE\n") ≡ Decided (verdict.Rejected 1 reason.NoEmptyClause) }
-    ensures no_empty_clause { judged 2 ((pos 1 ∷ []) ∷ (negsuc 0 ∷ []) ∷ []) (codes "s UNSATISFIABLE\nchain 0 1 2\nchain 2 1 0 1\nc\n") ≡ Decided (verdict.Rejected 3 reason.NoEmptyClause) }
-    ensures stuck { judged 2 ((pos 1 ∷ pos 2 ∷ []) ∷ (negsuc 0 ∷ negsuc 1 ∷ []) ∷ []) (codes "s UNSATISFIABLE\nchain 0 1 2\n") ≡ Decided (verdict.Rejected 2 reason.ChainStuck) }
+    ensures no_empty_clause { judged 2 ((pos 1 ∷ []) ∷ (negsuc 0 ∷ []) ∷ []) (codes "s UNSATISFIABLE\nchain 0 1 2\nchain 2 1 0 1\nc\n")
+        ≡ Decided (verdict.Rejected 3 reason.NoEmptyClause) }
+    ensures stuck { judged 2 ((pos 1 ∷ pos 2 ∷ []) ∷ (negsuc 0 ∷ negsuc 1 ∷ []) ∷ []) (codes "s UNSATISFIABLE\nchain 0 1 2\n")
+        ≡ Decided (verdict.Rejected 2 reason.ChainStuck) }
     ensures uncovered { judged 1 ((pos 1 ∷ []) ∷ []) (codes "s UNSATISFIABLE\nchain 0 1\n") ≡ Decided (verdict.Rejected 2 reason.NotCovered) }
     ensures own_number { judged 1 ((pos 1 ∷ []) ∷ []) (codes "s UNSATISFIABLE\nchain 0 2\n") ≡ Decided (verdict.Rejected 2 reason.UnknownNumber) }
     ensures beyond { judged 1 ((pos 1 ∷ []) ∷ []) (codes "s UNKNOWN\nchain 1 -2 0 1\n") ≡ Decided (verdict.Rejected 2 reason.UnknownNumber) }
@@ -72,10 +77,14 @@ pub fn worked_rejections()
     ensures no_numbers { judged 1 ((pos 1 ∷ []) ∷ []) (codes "s UNKNOWN\nchain 1 0\n") ≡ Decided (verdict.Rejected 2 reason.BadLine) }
     ensures signed_number { judged 1 ((pos 1 ∷ []) ∷ []) (codes "s UNKNOWN\nchain 1 0 -1\n") ≡ Decided (verdict.Rejected 2 reason.BadLine) }
     ensures too_large { judged 1 ((pos 1 ∷ []) ∷ []) (codes "s UNKNOWN\nchain 1000001 0 1\n") ≡ Decided (verdict.Rejected 2 reason.BadLine) }
-    ensures greatest_number { judged 1 ((pos 1 ∷ []) ∷ []) (codes "s UNKNOWN\nchain 1 0 18446744073709551615\n") ≡ Decided (verdict.Rejected 2 reason.UnknownNumber) }
-    ensures number_too_large { judged 1 ((pos 1 ∷ []) ∷ []) (codes "s UNKNOWN\nchain 1 0 18446744073709551616\n") ≡ Decided (verdict.Rejected 2 reason.BadLine) }
-    ensures long_number { judged 1 ((pos 1 ∷ []) ∷ []) (codes "s UNKNOWN\nchain 1 0 0000000000000000000000000000000000000001\n") ≡ Decided (verdict.Progress 1) }
-    ensures long_literal { judged 1 ((pos 1 ∷ []) ∷ []) (codes "s UNKNOWN\nchain 1000000000000000000000000000000000000000 0 1\n") ≡ Decided (verdict.Rejected 2 reason.BadLine) }
+    ensures greatest_number { judged 1 ((pos 1 ∷ []) ∷ []) (codes "s UNKNOWN\nchain 1 0 18446744073709551615\n")
+        ≡ Decided (verdict.Rejected 2 reason.UnknownNumber) }
+    ensures number_too_large { judged 1 ((pos 1 ∷ []) ∷ []) (codes "s UNKNOWN\nchain 1 0 18446744073709551616\n")
+        ≡ Decided (verdict.Rejected 2 reason.BadLine) }
+    ensures long_number { judged 1 ((pos 1 ∷ []) ∷ []) (codes "s UNKNOWN\nchain 1 0 0000000000000000000000000000000000000001\n")
+        ≡ Decided (verdict.Progress 1) }
+    ensures long_literal { judged 1 ((pos 1 ∷ []) ∷ []) (codes "s UNKNOWN\nchain 1000000000000000000000000000000000000000 0 1\n")
+        ≡ Decided (verdict.Rejected 2 reason.BadLine) }
     ensures first_fault { judged 1 ((pos 1 ∷ []) ∷ []) (codes "s UNKNOWN\nchain 0 1\nbad\n") ≡ Decided (verdict.Rejected 2 reason.NotCovered) }
 {}
 
@@ -84,7 +93,8 @@ pub fn worked_lemmas()
     ensures refutation { reached (codes "s UNSATISFIABLE\npath 1 -1 -2 3 0 1 2\nchain 0 4 1 2 3\n") ≡ Decided verdict.Refutation }
     ensures progress { reached (codes "s UNKNOWN\npath 1 -1 -2 3 0 1 2\nchain 3 0 4 1 2\n") ≡ Decided (verdict.Progress 1) }
     ensures lemmas_alone { reached (codes "s UNKNOWN\ncut 1 1 -3 0 0\ncut 1 2 -3 0 1 0\n") ≡ Decided (verdict.Progress 0) }
-    ensures ends_in_lemma { reached (codes "s UNSATISFIABLE\npath 1 -1 -2 3 0 1 2\nchain 0 4 1 2 3\ncut 1 1 -3 0 0\n") ≡ Decided (verdict.Rejected 4 reason.NoEmptyClause) }
+    ensures ends_in_lemma { reached (codes "s UNSATISFIABLE\npath 1 -1 -2 3 0 1 2\nchain 0 4 1 2 3\ncut 1 1 -3 0 0\n")
+        ≡ Decided (verdict.Rejected 4 reason.NoEmptyClause) }
     ensures no_end { reached (codes "s UNSATISFIABLE\npath 1 -1 -2 3") ≡ Decided (verdict.Rejected 2 reason.BadLine) }
     ensures unknown_atom { reached (codes "s UNSATISFIABLE\npath 2 3 0") ≡ Decided (verdict.Rejected 2 reason.UnknownAtom) }
     ensures atom_from_one { reached (codes "s UNSATISFIABLE\npath 0 3 0") ≡ Decided (verdict.Rejected 2 reason.UnknownAtom) }
@@ -111,11 +121,19 @@ pub fn worked_pieces()
     ensures returns { left Nothing 0 (codes "s UNKNOWN\r") (codes "\nchain 0 1 2") ≡ Decided (verdict.Progress 1) }
     ensures blank { left Nothing 0 (codes "s UNKNOWN") (codes "\n\n bad") ≡ Decided (verdict.Rejected 3 reason.BadLine) }
     ensures token { left (OfSteps version.One false (no_steps 1)) 1 (codes "chain 0 1") (codes "2\n") ≡ Decided (verdict.Rejected 2 reason.UnknownNumber) }
-    ensures values { left (OfModel (record { lits = pos 1 ∷ []; end = None; last = 2 })) 2 (codes "v") (codes " 0\n") ≡ Decided (verdict.Rejected 3 (reason.ClauseFalse 2)) }
-    ensures twice { left (OfModel (record { lits = pos 1 ∷ []; end = None; last = 2 })) 2 (codes "v -1") (codes " 0") ≡ Decided (verdict.Rejected 3 reason.ModelVariables) }
+    ensures values { left (OfModel (record { lits = pos 1 ∷ []; end = None; last = 2 })) 2 (codes "v") (codes " 0\n")
+        ≡ Decided (verdict.Rejected 3 (reason.ClauseFalse 2)) }
+    ensures twice { left (OfModel (record { lits = pos 1 ∷ []; end = None; last = 2 })) 2 (codes "v -1") (codes " 0")
+        ≡ Decided (verdict.Rejected 3 reason.ModelVariables) }
     ensures no_end { left (OfModel (record { lits = pos 1 ∷ []; end = None; last = 2 })) 4 [] (codes "c 0") ≡ Decided (verdict.Rejected 2 reason.BadLine) }
-    ensures steps { left (OfSteps version.One true (record { clauses = (pos 1 ∷ []) ∷ []; chains = 1; ends_empty = false; last = 2 })) 2 (codes "chain 0 ") (codes "3 2") ≡ Decided verdict.Refutation }
-    ensures no_empty_clause { left (OfSteps version.One true (record { clauses = (pos 1 ∷ []) ∷ []; chains = 1; ends_empty = false; last = 2 })) 4 [] [] ≡ Decided (verdict.Rejected 2 reason.NoEmptyClause) }
+    ensures steps { left (OfSteps version.One true (record { clauses = (pos 1 ∷ []) ∷ []; chains = 1; ends_empty = false; last = 2 })) 2
+        (codes "chain 0 ") (codes "3 2") ≡ Decided verdict.Refutation }
+    ensures no_empty_clause { left (OfSteps version.One true (record {
+      clauses = (pos 1 ∷ []) ∷ [];
+      chains = 1;
+      ends_empty = false;
+      last = 2;
+    })) 4 [] [] ≡ Decided (verdict.Rejected 2 reason.NoEmptyClause) }
     ensures fault { left (AtFault 2 reason.BadLine) 9 (codes "s ") (codes "UNKNOWN\n") ≡ Decided (verdict.Rejected 2 reason.BadLine) }
 {}
 
@@ -123,10 +141,13 @@ pub fn worked_pieces()
 pub fn worked_versions()
     ensures refutation { reached (codes "version 2\ns UNSATISFIABLE\npath 1 -1 -2 3 0 1 2\nchain 0 1 4 3 2\n") ≡ Decided verdict.Refutation }
     ensures forwards { reached (codes "s UNSATISFIABLE\npath 1 -1 -2 3 0 1 2\nchain 0 4 3 2 1\n") ≡ Decided verdict.Refutation }
-    ensures not_backwards { reached (codes "version 2\ns UNSATISFIABLE\npath 1 -1 -2 3 0 1 2\nchain 0 4 3 2 1\n") ≡ Decided (verdict.Rejected 4 reason.ChainStuck) }
+    ensures not_backwards { reached (codes "version 2\ns UNSATISFIABLE\npath 1 -1 -2 3 0 1 2\nchain 0 4 3 2 1\n")
+        ≡ Decided (verdict.Rejected 4 reason.ChainStuck) }
     ensures own_number { reached (codes "version 2\ns UNSATISFIABLE\npath 1 -1 -2 3 0 1 2\nchain 0 0\n") ≡ Decided (verdict.Rejected 4 reason.UnknownNumber) }
-    ensures number_before_the_first { reached (codes "version 2\ns UNSATISFIABLE\npath 1 -1 -2 3 0 1 2\nchain 0 5\n") ≡ Decided (verdict.Rejected 4 reason.UnknownNumber) }
-    ensures progress { judged 2 ((pos 1 ∷ pos 2 ∷ []) ∷ (negsuc 0 ∷ pos 2 ∷ []) ∷ []) (codes "version 2\ns UNKNOWN\nchain 2 0 1 2\nchain 2 0 1\n") ≡ Decided (verdict.Progress 2) }
+    ensures number_before_the_first { reached (codes "version 2\ns UNSATISFIABLE\npath 1 -1 -2 3 0 1 2\nchain 0 5\n")
+        ≡ Decided (verdict.Rejected 4 reason.UnknownNumber) }
+    ensures progress { judged 2 ((pos 1 ∷ pos 2 ∷ []) ∷ (negsuc 0 ∷ pos 2 ∷ []) ∷ []) (codes "version 2\ns UNKNOWN\nchain 2 0 1 2\nchain 2 0 1\n")
+        ≡ Decided (verdict.Progress 2) }
     ensures model { judged 2 ((pos 1 ∷ negsuc 1 ∷ []) ∷ []) (codes "version 2\ns SATISFIABLE\nv 1 -2 0\n") ≡ ValuesIn 3 (true ∷ false ∷ []) }
     ensures version_alone { judged 1 [] (codes "c\nversion 2\n") ≡ Decided (verdict.Rejected 2 reason.NotAnswer) }
     ensures version_three { judged 1 [] (codes "version 3\ns UNKNOWN\n") ≡ Decided (verdict.Rejected 1 reason.NotAnswer) }
@@ -136,7 +157,8 @@ pub fn worked_versions()
     ensures pieces { left Nothing 0 (codes "vers") (codes "ion 2\ns UNSATISFIABLE\nchain 0 2 1") ≡ Decided verdict.Refutation }
     ensures version_kept { left (OfVersion 1) 1 [] (codes "s UNSATISFIABLE\nchain 0 2 1") ≡ Decided verdict.Refutation }
     ensures nothing_behind { left (OfVersion 3) 4 [] (codes "c\n") ≡ Decided (verdict.Rejected 3 reason.NotAnswer) }
-    ensures steps_kept { left (OfSteps version.Two true (record { clauses = (pos 1 ∷ []) ∷ []; chains = 1; ends_empty = false; last = 3 })) 3 (codes "chain 0 1 ") (codes "2") ≡ Decided verdict.Refutation }
+    ensures steps_kept { left (OfSteps version.Two true (record { clauses = (pos 1 ∷ []) ∷ []; chains = 1; ends_empty = false; last = 3 })) 3
+        (codes "chain 0 1 ") (codes "2") ≡ Decided verdict.Refutation }
 {}
 
 /// Worked migrations of answers to a problem without clauses or predicates over one variable, and what they don't give.

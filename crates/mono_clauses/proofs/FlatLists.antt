@@ -44,9 +44,9 @@ range_within vars flat s e r a b = record {
 }
 
 -- what contracts see of the clauses when one joins
-pub view_added : (vars n start end : ℕ) (third : ℤ) (flat more flat' : List ℤ) (held held' : List Entry) (v : ClausesView) → IsFlat vars flat held → record { vars = vars; list = map (clause_of flat) held } ≡ v
-    → flat' ≡ flat ++ more → held' ≡ held ++ record { number = n; start = start; end = end; third = third } ∷ [] → start ≡ length flat → end ≡ length flat' → record { vars = vars; list = map (clause_of flat') held' } ≡ with_clause v n more
-view_added vars n start end third flat more flat' held held' v f at ef eh es ee =
+pub view_added : (vars n start end : ℕ) (cached : ℤ) (flat more flat' : List ℤ) (held held' : List Entry) (v : ClausesView) → IsFlat vars flat held → record { vars = vars; list = map (clause_of flat) held } ≡ v
+    → flat' ≡ flat ++ more → held' ≡ held ++ record { number = n; start = start; end = end; cached = cached } ∷ [] → start ≡ length flat → end ≡ length flat' → record { vars = vars; list = map (clause_of flat') held' } ≡ with_clause v n more
+view_added vars n start end cached flat more flat' held held' v f at ef eh es ee =
     let new : end ≡ length flat + length more = ee ∙ ap length ef ∙ length-append flat more in
     rw (← at, ef, eh, map-append, held_stay flat more held f.starts f.ends, es, new, range_new flat more) refl
 
@@ -56,7 +56,7 @@ flat_less vars flat held less o e f = record {
   starts = λ k lt. subst (λ (h : Entry). h.start ≤ h.end) (same k lt) (f.starts k (longer k lt));
   ends = λ k lt. subst (λ (h : Entry). h.end ≤ length flat) (same k lt) (f.ends k (longer k lt));
   ranged = f.ranged;
-  thirds = λ k lt some. subst (λ (h : Entry). Stands (clause_of flat h).lits h.third) (same k lt) (f.thirds k (longer k lt) (subst (λ (h : Entry). 0 < length (clause_of flat h).lits) (sym (same k lt)) some));
+  are_cached = λ k lt some. subst (λ (h : Entry). Stands (clause_of flat h).lits h.cached) (same k lt) (f.are_cached k (longer k lt) (subst (λ (h : Entry). 0 < length (clause_of flat h).lits) (sym (same k lt)) some));
 }
   where
     same : (k : ℕ) → k < length less → get_or held k no_entry ≡ get_or less k no_entry
@@ -70,31 +70,31 @@ undone_of vars flat held less None v at e some = absurd cc
 undone_of vars flat held less (Some h) v at e some = subst (λ (q : ClausesView). Undone q (record { vars = vars; list = map (clause_of flat) less })) at (record { vars = refl; last = clause_of flat h; was = ap (map (clause_of flat)) e ∙ map-append (clause_of flat) less (h ∷ []) })
 
 abbrev pub newest : ℕ → ℤ → List ℤ → List ℤ → Entry
-newest n third flat more = record { number = n; start = length flat; end = length flat + length more; third = third }
+newest n cached flat more = record { number = n; start = length flat; end = length flat + length more; cached = cached }
 
 -- the clauses when one joins
-pub flat_added : (vars n : ℕ) (third : ℤ) (flat more : List ℤ) (held : List Entry) → IsFlat vars flat held → AllVars vars more → (0 < length more → Stands more third) → IsFlat vars (flat ++ more) (held ++ newest n third flat more ∷ [])
-flat_added vars n third flat more held f r s = record {
+pub flat_added : (vars n : ℕ) (cached : ℤ) (flat more : List ℤ) (held : List Entry) → IsFlat vars flat held → AllVars vars more → (0 < length more → Stands more cached) → IsFlat vars (flat ++ more) (held ++ newest n cached flat more ∷ [])
+flat_added vars n cached flat more held f r s = record {
   starts = λ k lt. by_start k (age k lt);
   ends = λ k lt. by_end k (age k lt);
   ranged = record { at = λ k lt. by_range k lt (ltb k (length flat)) refl };
-  thirds = λ k lt some. by_third k some (age k lt);
+  are_cached = λ k lt some. by_cached k some (age k lt);
 }
   where
-    age : (k : ℕ) → k < length (held ++ newest n third flat more ∷ []) → (k < length held) ⊎ (k ≡ length held)
-    age k lt = old_or_new k (length held) (omega (arith, lt, length-append held (newest n third flat more ∷ [])))
+    age : (k : ℕ) → k < length (held ++ newest n cached flat more ∷ []) → (k < length held) ⊎ (k ≡ length held)
+    age k lt = old_or_new k (length held) (omega (arith, lt, length-append held (newest n cached flat more ∷ [])))
 
-    was : (k : ℕ) → k < length held → get_or held k no_entry ≡ get_or (held ++ newest n third flat more ∷ []) k no_entry
-    was k lt = sym (get_or_append_left held (newest n third flat more ∷ []) no_entry k lt)
+    was : (k : ℕ) → k < length held → get_or held k no_entry ≡ get_or (held ++ newest n cached flat more ∷ []) k no_entry
+    was k lt = sym (get_or_append_left held (newest n cached flat more ∷ []) no_entry k lt)
 
-    new : (k : ℕ) → k ≡ length held → newest n third flat more ≡ get_or (held ++ newest n third flat more ∷ []) k no_entry
-    new k e = sym (ap (λ (j : ℕ). get_or (held ++ newest n third flat more ∷ []) j no_entry) e ∙ get_or-append_seam held (newest n third flat more) [] no_entry)
+    new : (k : ℕ) → k ≡ length held → newest n cached flat more ≡ get_or (held ++ newest n cached flat more ∷ []) k no_entry
+    new k e = sym (ap (λ (j : ℕ). get_or (held ++ newest n cached flat more ∷ []) j no_entry) e ∙ get_or-append_seam held (newest n cached flat more) [] no_entry)
 
-    by_start : (k : ℕ) → (k < length held) ⊎ (k ≡ length held) → (get_or (held ++ newest n third flat more ∷ []) k no_entry).start ≤ (get_or (held ++ newest n third flat more ∷ []) k no_entry).end
+    by_start : (k : ℕ) → (k < length held) ⊎ (k ≡ length held) → (get_or (held ++ newest n cached flat more ∷ []) k no_entry).start ≤ (get_or (held ++ newest n cached flat more ∷ []) k no_entry).end
     by_start k (inl lt) = subst (λ (h : Entry). h.start ≤ h.end) (was k lt) (f.starts k lt)
     by_start k (inr e) = subst (λ (h : Entry). h.start ≤ h.end) (new k e) (omega arith)
 
-    by_end : (k : ℕ) → (k < length held) ⊎ (k ≡ length held) → (get_or (held ++ newest n third flat more ∷ []) k no_entry).end ≤ length (flat ++ more)
+    by_end : (k : ℕ) → (k < length held) ⊎ (k ≡ length held) → (get_or (held ++ newest n cached flat more ∷ []) k no_entry).end ≤ length (flat ++ more)
     by_end k (inl lt) = subst (λ (h : Entry). h.end ≤ length (flat ++ more)) (was k lt) (omega (arith, f.ends k lt, length-append flat more))
     by_end k (inr e) = subst (λ (h : Entry). h.end ≤ length (flat ++ more)) (new k e) (omega (arith, length-append flat more))
 
@@ -105,27 +105,27 @@ flat_added vars n third flat more held f r s = record {
         let there : get_or (flat ++ more) k (pos 0) ≡ get_or more (k - length flat) (pos 0) = get_or-append_right flat more (length flat) k (pos 0) refl le in
         subst (λ (l : ℤ). (1 ≤ var_of l) × (var_of l ≤ vars)) (sym there) (r.at (k - length flat) (omega (arith, lt, le, length-append flat more)))
 
-    by_third : (k : ℕ) → 0 < length (clause_of (flat ++ more) (get_or (held ++ newest n third flat more ∷ []) k no_entry)).lits → (k < length held) ⊎ (k ≡ length held) → Stands (clause_of (flat ++ more) (get_or (held ++ newest n third flat more ∷ []) k no_entry)).lits (get_or (held ++ newest n third flat more ∷ []) k no_entry).third
-    by_third k some (inl lt) =
+    by_cached : (k : ℕ) → 0 < length (clause_of (flat ++ more) (get_or (held ++ newest n cached flat more ∷ []) k no_entry)).lits → (k < length held) ⊎ (k ≡ length held) → Stands (clause_of (flat ++ more) (get_or (held ++ newest n cached flat more ∷ []) k no_entry)).lits (get_or (held ++ newest n cached flat more ∷ []) k no_entry).cached
+    by_cached k some (inl lt) =
         let stays : slice_range (flat ++ more) (get_or held k no_entry).start (get_or held k no_entry).end ≡ slice_range flat (get_or held k no_entry).start (get_or held k no_entry).end = range_stays flat more (get_or held k no_entry).start (get_or held k no_entry).end (f.starts k lt) (f.ends k lt) in
         let here : 0 < length (clause_of (flat ++ more) (get_or held k no_entry)).lits = subst (λ (h : Entry). 0 < length (clause_of (flat ++ more) h).lits) (sym (was k lt)) some in
-        let old = f.thirds k lt (subst (λ (c : List ℤ). 0 < length c) stays here) in
-        subst (λ (h : Entry). Stands (clause_of (flat ++ more) h).lits h.third) (was k lt) (subst (λ (c : List ℤ). Stands c (get_or held k no_entry).third) (sym stays) old)
-    by_third k some (inr e) =
-        let here : 0 < length (clause_of (flat ++ more) (newest n third flat more)).lits = subst (λ (h : Entry). 0 < length (clause_of (flat ++ more) h).lits) (sym (new k e)) some in
+        let old = f.are_cached k lt (subst (λ (c : List ℤ). 0 < length c) stays here) in
+        subst (λ (h : Entry). Stands (clause_of (flat ++ more) h).lits h.cached) (was k lt) (subst (λ (c : List ℤ). Stands c (get_or held k no_entry).cached) (sym stays) old)
+    by_cached k some (inr e) =
+        let here : 0 < length (clause_of (flat ++ more) (newest n cached flat more)).lits = subst (λ (h : Entry). 0 < length (clause_of (flat ++ more) h).lits) (sym (new k e)) some in
         let own : slice_range (flat ++ more) (length flat) (length flat + length more) ≡ more = range_new flat more in
-        subst (λ (h : Entry). Stands (clause_of (flat ++ more) h).lits h.third) (new k e) (subst (λ (c : List ℤ). Stands c third) (sym own) (s (subst (λ (c : List ℤ). 0 < length c) own here)))
+        subst (λ (h : Entry). Stands (clause_of (flat ++ more) h).lits h.cached) (new k e) (subst (λ (c : List ℤ). Stands c cached) (sym own) (s (subst (λ (c : List ℤ). 0 < length c) own here)))
 
 abbrev pub renewed : Entry → ℤ → Entry
-renewed h lit = record { number = h.number; start = h.start; end = h.end; third = lit }
+renewed h lit = record { number = h.number; start = h.start; end = h.end; cached = lit }
 
 -- another third literal
-pub flat_third : (vars k : ℕ) (lit : ℤ) (flat : List ℤ) (held : List Entry) → IsFlat vars flat held → k < length held → Stands (clause_of flat (get_or held k no_entry)).lits lit → IsFlat vars flat (set held k (renewed (get_or held k no_entry) lit))
-flat_third vars k lit flat held f lt s = record {
+pub flat_cached : (vars k : ℕ) (lit : ℤ) (flat : List ℤ) (held : List Entry) → IsFlat vars flat held → k < length held → Stands (clause_of flat (get_or held k no_entry)).lits lit → IsFlat vars flat (set held k (renewed (get_or held k no_entry) lit))
+flat_cached vars k lit flat held f lt s = record {
   starts = λ j l. by_start j (rw length-set at l) (eqb_tells k j);
   ends = λ j l. by_end j (rw length-set at l) (eqb_tells k j);
   ranged = f.ranged;
-  thirds = λ j l some. by_third j (rw length-set at l) some (eqb_tells k j);
+  are_cached = λ j l some. by_cached j (rw length-set at l) some (eqb_tells k j);
 }
   where
     own : (j : ℕ) → k ≡ j → renewed (get_or held k no_entry) lit ≡ get_or (set held k (renewed (get_or held k no_entry) lit)) j no_entry
@@ -142,16 +142,16 @@ flat_third vars k lit flat held f lt s = record {
     by_end j l (inl q) = subst (λ (h : Entry). h.end ≤ length flat) (own j q.1) (f.ends k lt)
     by_end j l (inr o) = subst (λ (h : Entry). h.end ≤ length flat) (others j o.1) (f.ends j l)
 
-    by_third : (j : ℕ) → j < length held → 0 < length (clause_of flat (get_or (set held k (renewed (get_or held k no_entry) lit)) j no_entry)).lits → ((eqb k j ≡ true) × (k ≡ j)) ⊎ ((eqb k j ≡ false) × (k ≢ j)) → Stands (clause_of flat (get_or (set held k (renewed (get_or held k no_entry) lit)) j no_entry)).lits (get_or (set held k (renewed (get_or held k no_entry) lit)) j no_entry).third
-    by_third j l some (inl q) = subst (λ (h : Entry). Stands (clause_of flat h).lits h.third) (own j q.1) s
-    by_third j l some (inr o) = subst (λ (h : Entry). Stands (clause_of flat h).lits h.third) (others j o.1) (f.thirds j l (subst (λ (h : Entry). 0 < length (clause_of flat h).lits) (sym (others j o.1)) some))
+    by_cached : (j : ℕ) → j < length held → 0 < length (clause_of flat (get_or (set held k (renewed (get_or held k no_entry) lit)) j no_entry)).lits → ((eqb k j ≡ true) × (k ≡ j)) ⊎ ((eqb k j ≡ false) × (k ≢ j)) → Stands (clause_of flat (get_or (set held k (renewed (get_or held k no_entry) lit)) j no_entry)).lits (get_or (set held k (renewed (get_or held k no_entry) lit)) j no_entry).cached
+    by_cached j l some (inl q) = subst (λ (h : Entry). Stands (clause_of flat h).lits h.cached) (own j q.1) s
+    by_cached j l some (inr o) = subst (λ (h : Entry). Stands (clause_of flat h).lits h.cached) (others j o.1) (f.are_cached j l (subst (λ (h : Entry). 0 < length (clause_of flat h).lits) (sym (others j o.1)) some))
 
 pub clause_is : (flat : List ℤ) (held : List Entry) (k : ℕ) → k < length held → clause_at (map (clause_of flat) held) k ≡ clause_of flat (get_or held k no_entry)
 clause_is flat held k lt = get_or-map (clause_of flat) held k no_entry no_clause lt
 
 -- contracts see no change
-pub view_third : (flat : List ℤ) (held : List Entry) (k : ℕ) (lit : ℤ) → map (clause_of flat) (set held k (record { number = (get_or held k no_entry).number; start = (get_or held k no_entry).start; end = (get_or held k no_entry).end; third = lit })) ≡ map (clause_of flat) held
-view_third flat held k lit = map-set_same (clause_of flat) held k (record { number = (get_or held k no_entry).number; start = (get_or held k no_entry).start; end = (get_or held k no_entry).end; third = lit }) no_entry refl
+pub view_cached : (flat : List ℤ) (held : List Entry) (k : ℕ) (lit : ℤ) → map (clause_of flat) (set held k (record { number = (get_or held k no_entry).number; start = (get_or held k no_entry).start; end = (get_or held k no_entry).end; cached = lit })) ≡ map (clause_of flat) held
+view_cached flat held k lit = map-set_same (clause_of flat) held k (record { number = (get_or held k no_entry).number; start = (get_or held k no_entry).start; end = (get_or held k no_entry).end; cached = lit }) no_entry refl
 
 length_range : (flat : List ℤ) (s e : ℕ) → s ≤ e → e ≤ length flat → length (slice_range flat s e) ≡ e - s
 length_range flat s e a b = length-take (e - s) (drop s flat) ∙ (let l : length (drop s flat) ≡ length flat - s = length-drop s flat in let m : min (e - s) (length (drop s flat)) ≡ e - s = omega (arith, l, a, b) in m)

@@ -1,19 +1,19 @@
-mod AheadLemmas
-mod ChunkLemmas
-mod DueLemmas
+mod PlacesAhead
+mod WatchLists
+mod DueClauses
 mod FlatLists
-pub mod FollowLaws
+pub mod FollowsKept
 pub mod Growth
-mod LateLemmas
+mod LateWatches
 mod Levels
 mod Literals
-mod LookLemmas
+mod OneWatcher
 mod OldAndNew
-mod PoolLemmas
+mod ChunkPool
 mod ShortClauses
-mod StackLemmas
-mod StoreLemmas
+mod ChunkStacks
+mod WholeStore
 mod Times
-mod VisitLemmas
-mod WalkLemmas
+mod AllWatchers
+mod WatchGuards
 mod Watched

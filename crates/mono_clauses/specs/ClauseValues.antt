@@ -42,7 +42,7 @@ pub record IsUnfalse (t c : List ℤ) (x : ℤ) : Type 0 where
   pub unfalse : value_by t x ≢ No
 
 -- and that is another
-pub record IsSpare (t c : List ℤ) (skip x : ℤ) : Type 0 where
+pub record IsAnotherUnfalse (t c : List ℤ) (skip x : ℤ) : Type 0 where
   pub has : Stands c x
   pub unfalse : value_by t x ≢ No
   pub other : x ≢ skip

@@ -6,4 +6,4 @@ pub mod ClauseList
 pub mod FlatList
 pub mod Watching
 pub mod Stacks
-pub mod Walk
+pub mod Visits

@@ -96,72 +96,72 @@ busy [] = 0
 busy (None ∷ ws) = busy ws
 busy (Some a ∷ ws) = suc (busy ws)
 
--- the stacks at these places, and the spare chunks: no place is in use twice
-pub record IsPool (slots : ℕ) (links spare heads : List ℕ) (lists : List (List ℕ)) : Type 0 where
+-- the stacks at these places, and the free chunks: no place is in use twice
+pub record IsPool (slots : ℕ) (links free_chunks heads : List ℕ) (lists : List (List ℕ)) : Type 0 where
   pub few : 8 * length links ≤ 4294967295
   pub many : length heads ≡ slots
   pub as_many : length lists ≡ slots
   pub stacks : (k : ℕ) → k < slots → IsStack links (get_or heads k 4294967295) (list_at lists k)
-  pub once : (x : ℕ) → sum_of (times x) lists + times x spare ≤ 1
-  pub spares : (x : ℕ) → 1 ≤ times x spare → (x % 8 ≡ 0) × (x < 8 * length links)
-  pub chunks : sum_of bottoms lists + length spare ≡ length links
+  pub once : (x : ℕ) → sum_of (times x) lists + times x free_chunks ≤ 1
+  pub are_free : (x : ℕ) → 1 ≤ times x free_chunks → (x % 8 ≡ 0) × (x < 8 * length links)
+  pub chunks : sum_of bottoms lists + length free_chunks ≡ length links
 
 -- a watcher stands once in the list of what it watches, and in no other
 pub record IsThere (o : Option ℤ) (ls : List (List ℕ)) (w : ℕ) : Type 0 where
   pub at : (k : ℕ) → times w (list_at ls k) ≡ (if is_watching o k then 1 else 0)
 
--- the list is walked: a part is passed, and the rest is ahead
-pub record IsWalked (lists : List (List ℕ)) (list : ℕ) (ahead : List ℕ) : Type 0 where
+-- the list is visited: a part is passed, and the rest is ahead
+pub record IsBeingVisited (lists : List (List ℕ)) (list : ℕ) (ahead : List ℕ) : Type 0 where
   pub within : list < length lists
   pub kept : List ℕ
   pub split : list_at lists list ≡ kept ++ ahead
 
 -- the chunks have room for each watcher, though the top chunk of each stack may lack seven
-pub record IsChunked (vars : ℕ) (links cells spare heads : List ℕ) (watched : List (Option ℤ)) (list : ℕ) (ahead : List ℕ) : Type 0 where
+pub record IsChunked (vars : ℕ) (links cells free_chunks heads : List ℕ) (watched : List (Option ℤ)) (list : ℕ) (ahead : List ℕ) : Type 0 where
   pub lists : List (List ℕ)
-  pub pool : IsPool (2 * vars + 2) links spare heads lists
+  pub pool : IsPool (2 * vars + 2) links free_chunks heads lists
   pub size : length cells ≡ 8 * length links
   pub room : length watched + 7 * (2 * vars + 2) ≤ 8 * length links
   pub entries : sum_of length lists ≡ busy watched
   pub there : (w : ℕ) → IsThere (watch_at watched w) (all_watchers cells lists) w
-  pub walked : 0 < length ahead → IsWalked lists list ahead
+  pub being_visited : 0 < length ahead → IsBeingVisited lists list ahead
 
 -- the next cell of the top chunk
-pub record Higher (links spare : List ℕ) (top : ℕ) (links' spare' : List ℕ) (x : ℕ) : Type 0 where
+pub record Higher (links free_chunks : List ℕ) (top : ℕ) (links' free_chunks' : List ℕ) (x : ℕ) : Type 0 where
   pub inside : top % 8 ≢ 7
   pub place : x ≡ top + 1
   pub same_links : links' ≡ links
-  pub same_spare : spare' ≡ spare
+  pub same_free : free_chunks' ≡ free_chunks
 
--- the first cell of a spare chunk
-pub record Fresh (links spare : List ℕ) (top : ℕ) (links' spare' : List ℕ) (x : ℕ) : Type 0 where
+-- the first cell of a free chunk
+pub record Fresh (links free_chunks : List ℕ) (top : ℕ) (links' free_chunks' : List ℕ) (x : ℕ) : Type 0 where
   pub full : top % 8 ≡ 7
-  pub taken : spare ≡ spare' ++ x ∷ []
+  pub taken : free_chunks ≡ free_chunks' ++ x ∷ []
   pub linked : links' ≡ set links (x / 8) top
 
 -- a place was found on top of a stack
-pub record Climbed (links spare : List ℕ) (top : ℕ) (links' spare' : List ℕ) (x : ℕ) : Type 0 where
-  pub is : Higher links spare top links' spare' x ⊎ Fresh links spare top links' spare' x
+pub record Climbed (links free_chunks : List ℕ) (top : ℕ) (links' free_chunks' : List ℕ) (x : ℕ) : Type 0 where
+  pub is : Higher links free_chunks top links' free_chunks' x ⊎ Fresh links free_chunks top links' free_chunks' x
 
 -- a watcher came onto a stack
-pub record Put (cells links spare heads : List ℕ) (slot watcher : ℕ) (cells' links' spare' heads' : List ℕ) : Type 0 where
+pub record Put (cells links free_chunks heads : List ℕ) (slot watcher : ℕ) (cells' links' free_chunks' heads' : List ℕ) : Type 0 where
   pub place : ℕ
-  pub climbed : Climbed links spare (get_or heads slot 4294967295) links' spare' place
+  pub climbed : Climbed links free_chunks (get_or heads slot 4294967295) links' free_chunks' place
   pub written : cells' ≡ set cells place watcher
   pub headed : heads' ≡ set heads slot place
 
-abbrev pub spared : List ℕ → ℕ → List ℕ
-spared spare x = if x % 8 == 0 then spare ++ x ∷ [] else spare
+abbrev pub freed : List ℕ → ℕ → List ℕ
+freed free_chunks x = if x % 8 == 0 then free_chunks ++ x ∷ [] else free_chunks
 
 -- the watcher at a place left a stack: the top one took its place
-pub record Removed (cells links spare heads : List ℕ) (slot place : ℕ) (cells' spare' heads' : List ℕ) : Type 0 where
+pub record Removed (cells links free_chunks heads : List ℕ) (slot place : ℕ) (cells' free_chunks' heads' : List ℕ) : Type 0 where
   pub moved : cells' ≡ set cells place (watcher_at cells (get_or heads slot 4294967295))
   pub headed : heads' ≡ set heads slot (below links (get_or heads slot 4294967295))
-  pub spares : spare' ≡ spared spare (get_or heads slot 4294967295)
+  pub are_free : free_chunks' ≡ freed free_chunks (get_or heads slot 4294967295)
 
 -- a watcher is in no stack, and comes onto one next
-pub record IsLoose (vars : ℕ) (links cells spare heads : List ℕ) (watched : List (Option ℤ)) (w : ℕ) (lists : List (List ℕ)) : Type 0 where
-  pub pool : IsPool (2 * vars + 2) links spare heads lists
+pub record IsLoose (vars : ℕ) (links cells free_chunks heads : List ℕ) (watched : List (Option ℤ)) (w : ℕ) (lists : List (List ℕ)) : Type 0 where
+  pub pool : IsPool (2 * vars + 2) links free_chunks heads lists
   pub size : length cells ≡ 8 * length links
   pub room : length watched + 7 * (2 * vars + 2) ≤ 8 * length links
   pub within : w < length watched
@@ -170,5 +170,5 @@ pub record IsLoose (vars : ℕ) (links cells spare heads : List ℕ) (watched : 
   pub there : (v : ℕ) → v ≢ w → IsThere (watch_at watched v) (all_watchers cells lists) v
 
 -- a chunk more where the cells were fewer
-pub record Widened (cells links spare : List ℕ) (least : ℕ) (cells' links' spare' : List ℕ) : Type 0 where
-  pub is : ((cells' ≡ cells) × (links' ≡ links) × (spare' ≡ spare) × (least ≤ length cells)) ⊎ ((cells' ≡ cells ++ replicate 8 0) × (links' ≡ links ++ 4294967295 ∷ []) × (spare' ≡ spare ++ (8 * length links) ∷ []) × (length cells < least))
+pub record Widened (cells links free_chunks : List ℕ) (least : ℕ) (cells' links' free_chunks' : List ℕ) : Type 0 where
+  pub is : ((cells' ≡ cells) × (links' ≡ links) × (free_chunks' ≡ free_chunks) × (least ≤ length cells)) ⊎ ((cells' ≡ cells ++ replicate 8 0) × (links' ≡ links ++ 4294967295 ∷ []) × (free_chunks' ≡ free_chunks ++ (8 * length links) ∷ []) × (length cells < least))

@@ -34,7 +34,7 @@ abbrev pub emptied : WatchesView → WatchesView
 emptied v = record v { ahead = [] }
 
 -- the watchers of the literal are ahead, each once
-pub record StartsWalk (v u : WatchesView) (l : ℤ) : Type 0 where
+pub record StartsVisits (v u : WatchesView) (l : ℤ) : Type 0 where
   pub vars : u.vars ≡ v.vars
   pub watched : u.watched ≡ v.watched
   pub those : (w : ℕ) → slice_index_or v.watched w None ≡ Some l → times w u.ahead ≡ 1

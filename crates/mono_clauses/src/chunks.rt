@@ -26,17 +26,17 @@ pub fn place_below(links: &Vec<u32>, place: u32) -> u32
     }
 }
 
-/// A place on top of a stack: the next cell of its top chunk, or the first one of a spare chunk.
-fn climb(links: &mut Vec<u32>, spare: &mut Vec<u32>, top: u32) -> u32
-    requires some { top % 8 ≡ 7 → 0 < length spare.old.items }
-    requires spare { (x : ℕ) → 1 ≤ times x spare.old.items → (x % 8 ≡ 0) × (x < 8 * length links.old.items) }
-    ensures is { Climbed links.old.items spare.old.items top links.new.items spare.new.items result }
-    ensures capacity { vec_capacity spare.new ≡ vec_capacity spare.old }
+/// A place on top of a stack: the next cell of its top chunk, or the first one of a free chunk.
+fn climb(links: &mut Vec<u32>, free_chunks: &mut Vec<u32>, top: u32) -> u32
+    requires some { top % 8 ≡ 7 → 0 < length free_chunks.old.items }
+    requires free_chunks { (x : ℕ) → 1 ≤ times x free_chunks.old.items → (x % 8 ≡ 0) × (x < 8 * length links.old.items) }
+    ensures is { Climbed links.old.items free_chunks.old.items top links.new.items free_chunks.new.items result }
+    ensures capacity { vec_capacity free_chunks.new ≡ vec_capacity free_chunks.old }
 {
     if top % 8 != 7 {
         return top + 1;
     }
-    match spare.pop() {
+    match free_chunks.pop() {
         Some(place) => {
             links[place as usize / 8] = top;
             place
@@ -49,7 +49,7 @@ fn climb(links: &mut Vec<u32>, spare: &mut Vec<u32>, top: u32) -> u32
 pub fn put(
     cells: &mut Vec<u32>,
     links: &mut Vec<u32>,
-    spare: &mut Vec<u32>,
+    free_chunks: &mut Vec<u32>,
     heads: &mut Vec<u32>,
     slot: usize,
     watcher: u32,
@@ -57,13 +57,13 @@ pub fn put(
     requires in_range { slot < length heads.old.items }
     requires size { length cells.old.items ≡ 8 * length links.old.items }
     requires top { slice_index_or heads.old.items slot 4294967295 % 8 ≢ 7 → slice_index_or heads.old.items slot 4294967295 < 8 * length links.old.items }
-    requires some { slice_index_or heads.old.items slot 4294967295 % 8 ≡ 7 → 0 < length spare.old.items }
-    requires spare { (x : ℕ) → 1 ≤ times x spare.old.items → (x % 8 ≡ 0) × (x < 8 * length links.old.items) }
-    ensures is { Put cells.old.items links.old.items spare.old.items heads.old.items slot watcher cells.new.items links.new.items spare.new.items heads.new.items }
-    ensures capacity { vec_capacity spare.new ≡ vec_capacity spare.old }
+    requires some { slice_index_or heads.old.items slot 4294967295 % 8 ≡ 7 → 0 < length free_chunks.old.items }
+    requires free_chunks { (x : ℕ) → 1 ≤ times x free_chunks.old.items → (x % 8 ≡ 0) × (x < 8 * length links.old.items) }
+    ensures is { Put cells.old.items links.old.items free_chunks.old.items heads.old.items slot watcher cells.new.items links.new.items free_chunks.new.items heads.new.items }
+    ensures capacity { vec_capacity free_chunks.new ≡ vec_capacity free_chunks.old }
 {
     let top = heads[slot];
-    let place = climb(links, spare, top);
+    let place = climb(links, free_chunks, top);
     cells[place as usize] = watcher;
     heads[slot] = place;
 }
@@ -72,7 +72,7 @@ pub fn put(
 pub fn remove(
     cells: &mut Vec<u32>,
     links: &Vec<u32>,
-    spare: &mut Vec<u32>,
+    free_chunks: &mut Vec<u32>,
     heads: &mut Vec<u32>,
     slot: usize,
     place: u32,
@@ -81,15 +81,15 @@ pub fn remove(
     requires size { length cells.old.items ≡ 8 * length links.now.items }
     requires place { place < 8 * length links.now.items }
     requires top { slice_index_or heads.old.items slot 4294967295 < 8 * length links.now.items }
-    requires room { slice_index_or heads.old.items slot 4294967295 % 8 ≡ 0 → vec_len spare.old < vec_capacity spare.old }
-    ensures is { Removed cells.old.items links.now.items spare.old.items heads.old.items slot place cells.new.items spare.new.items heads.new.items }
-    ensures capacity { vec_capacity spare.old ≤ vec_capacity spare.new }
+    requires room { slice_index_or heads.old.items slot 4294967295 % 8 ≡ 0 → vec_len free_chunks.old < vec_capacity free_chunks.old }
+    ensures is { Removed cells.old.items links.now.items free_chunks.old.items heads.old.items slot place cells.new.items free_chunks.new.items heads.new.items }
+    ensures capacity { vec_capacity free_chunks.old ≤ vec_capacity free_chunks.new }
 {
     let top = heads[slot];
     cells[place as usize] = cells[top as usize];
     heads[slot] = place_below(links, top);
     if top % 8 == 0 {
-        push_within(spare, top);
+        push_within(free_chunks, top);
     }
 }
 
@@ -99,41 +99,38 @@ fn push_within(items: &mut Vec<u32>, item: u32)
     ensures items { items.new.items ≡ items.old.items ++ item ∷ [] }
     ensures capacity { vec_capacity items.old ≤ vec_capacity items.new }
 {
-    match items.push(item) {
-        Ok(()) => {}
-        Err(_) => unreachable!(),
-    }
+    items.push_reserved(item);
 }
 
 /// Room for a chunk more.
 pub fn reserve_chunk(
     cells: &mut Vec<u32>,
     links: &mut Vec<u32>,
-    spare: &mut Vec<u32>,
+    free_chunks: &mut Vec<u32>,
 ) -> Result<(), AllocError>
-    requires { length spare.old.items ≤ length links.old.items }
+    requires { length free_chunks.old.items ≤ length links.old.items }
     ensures cells { cells.new.items ≡ cells.old.items }
     ensures links { links.new.items ≡ links.old.items }
-    ensures spare { spare.new.items ≡ spare.old.items }
-    ensures room { OnOk result ((vec_len cells.new + 8 ≤ vec_capacity cells.new) × (vec_len links.new < vec_capacity links.new) × (vec_len links.new < vec_capacity spare.new)) }
-    ensures capacity { vec_capacity spare.old ≤ vec_capacity spare.new }
+    ensures free_chunks { free_chunks.new.items ≡ free_chunks.old.items }
+    ensures room { OnOk result ((vec_len cells.new + 8 ≤ vec_capacity cells.new) × (vec_len links.new < vec_capacity links.new) × (vec_len links.new < vec_capacity free_chunks.new)) }
+    ensures capacity { vec_capacity free_chunks.old ≤ vec_capacity free_chunks.new }
 {
     cells.reserve(8)?;
     links.reserve(1)?;
-    spare.reserve(links.len() - spare.len() + 1)?;
+    free_chunks.reserve(links.len() - free_chunks.len() + 1)?;
     Ok(())
 }
 
-/// One chunk more, which is spare.
-fn add_chunk(cells: &mut Vec<u32>, links: &mut Vec<u32>, spare: &mut Vec<u32>)
+/// One chunk more, which is free.
+fn add_chunk(cells: &mut Vec<u32>, links: &mut Vec<u32>, free_chunks: &mut Vec<u32>)
     requires cells { vec_len cells.old + 8 ≤ vec_capacity cells.old }
     requires links { vec_len links.old < vec_capacity links.old }
-    requires spare { vec_len spare.old < vec_capacity spare.old }
+    requires free_chunks { vec_len free_chunks.old < vec_capacity free_chunks.old }
     requires few { length links.old.items ≤ 536870896 }
     ensures cells { cells.new.items ≡ cells.old.items ++ replicate 8 0 }
     ensures links { links.new.items ≡ links.old.items ++ 4294967295 ∷ [] }
-    ensures spare { spare.new.items ≡ spare.old.items ++ (8 * length links.old.items) ∷ [] }
-    ensures capacity { vec_capacity spare.old ≤ vec_capacity spare.new }
+    ensures free_chunks { free_chunks.new.items ≡ free_chunks.old.items ++ (8 * length links.old.items) ∷ [] }
+    ensures capacity { vec_capacity free_chunks.old ≤ vec_capacity free_chunks.new }
 {
     let place = 8 * links.len() as u32;
     match cells.extend_from_slice(&[0; 8]) {
@@ -141,40 +138,40 @@ fn add_chunk(cells: &mut Vec<u32>, links: &mut Vec<u32>, spare: &mut Vec<u32>)
         Err(_) => unreachable!(),
     }
     push_within(links, END);
-    push_within(spare, place);
+    push_within(free_chunks, place);
 }
 
 /// One chunk more where there are fewer cells than needed.
-pub fn widen(cells: &mut Vec<u32>, links: &mut Vec<u32>, spare: &mut Vec<u32>, least: usize)
+pub fn widen(cells: &mut Vec<u32>, links: &mut Vec<u32>, free_chunks: &mut Vec<u32>, least: usize)
     requires cells { vec_len cells.old + 8 ≤ vec_capacity cells.old }
     requires links { vec_len links.old < vec_capacity links.old }
-    requires spare { vec_len spare.old < vec_capacity spare.old }
+    requires free_chunks { vec_len free_chunks.old < vec_capacity free_chunks.old }
     requires few { length links.old.items ≤ 536870896 }
-    ensures is { Widened cells.old.items links.old.items spare.old.items least cells.new.items links.new.items spare.new.items }
-    ensures capacity { vec_capacity spare.old ≤ vec_capacity spare.new }
+    ensures is { Widened cells.old.items links.old.items free_chunks.old.items least cells.new.items links.new.items free_chunks.new.items }
+    ensures capacity { vec_capacity free_chunks.old ≤ vec_capacity free_chunks.new }
 {
     if least > cells.len() {
-        add_chunk(cells, links, spare);
+        add_chunk(cells, links, free_chunks);
     }
 }
 
-/// So many chunks, which are spare.
+/// So many chunks, which are free.
 pub fn add_chunks(
     cells: &mut Vec<u32>,
     links: &mut Vec<u32>,
-    spare: &mut Vec<u32>,
+    free_chunks: &mut Vec<u32>,
     count: usize,
 ) -> Result<(), AllocError>
     requires few { count ≤ 2000002 }
-    requires empty { (cells.old.items ≡ []) × (links.old.items ≡ []) × (spare.old.items ≡ []) }
-    ensures pool { OnOk result (IsPool count links.new.items spare.new.items (replicate count 4294967295) (replicate count [])) }
+    requires empty { (cells.old.items ≡ []) × (links.old.items ≡ []) × (free_chunks.old.items ≡ []) }
+    ensures pool { OnOk result (IsPool count links.new.items free_chunks.new.items (replicate count 4294967295) (replicate count [])) }
     ensures size { OnOk result (length cells.new.items ≡ 8 * length links.new.items) }
     ensures count { OnOk result (length links.new.items ≡ count) }
-    ensures capacity { length links.new.items ≤ vec_capacity spare.new }
+    ensures capacity { length links.new.items ≤ vec_capacity free_chunks.new }
 {
     'chunks: while links.len() < count {
-        reserve_chunk(cells, links, spare)?;
-        add_chunk(cells, links, spare);
+        reserve_chunk(cells, links, free_chunks)?;
+        add_chunk(cells, links, free_chunks);
     }
     Ok(())
 }

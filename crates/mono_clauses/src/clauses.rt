@@ -1,7 +1,7 @@
 //! Clauses in one flat list of literals.
 //!
 //! At the head of each clause stands one of its literals beside its length, so that a clause of two or three is looked at
-//! without its part of the list: its two watched literals and a third one are all that it has.
+//! without its part of the list: its two watched literals and the cached one are all that it has.
 
 ghost use Rattle.std.specs.Prelude.{◌≡◌, ℕ, ◌<◌, ◌≤◌, ◌+◌, ◌++◌, ◌∷◌, [], length, OnOk, OnErr, vec_len, vec_capacity};
 ghost use Rattle.mono_clauses.specs.ClauseValues.{AllVars};
@@ -18,7 +18,7 @@ pub struct Entry {
     number: u64,
     start: usize,
     end: usize,
-    third: Lit,
+    cached: Lit,
 }
 
 /// What stands at the head of a clause: its number, how many literals it has, and one of them.
@@ -26,7 +26,7 @@ pub struct Entry {
 pub struct Head {
     pub number: u64,
     pub len: usize,
-    pub third: Lit,
+    pub cached: Lit,
 }
 
 /// Clauses with their numbers, in the order in which they were added.
@@ -100,18 +100,18 @@ impl Clauses {
         requires { place < length self.now.list }
         ensures number { result.number ≡ (clause_at self.now.list place).number }
         ensures len { result.len ≡ length (clause_at self.now.list place).lits }
-        ensures third { 0 < length (clause_at self.now.list place).lits → Stands (clause_at self.now.list place).lits result.third }
+        ensures cached { 0 < length (clause_at self.now.list place).lits → Stands (clause_at self.now.list place).lits result.cached }
     {
         let held = &self.held[place];
         Head {
             number: held.number,
             len: held.end - held.start,
-            third: held.third,
+            cached: held.cached,
         }
     }
 
     /// Another literal of the clause stands at its head from now on. Contracts do not see it.
-    pub fn set_third(&mut self, place: usize, lit: Lit)
+    pub fn set_cached(&mut self, place: usize, lit: Lit)
         requires in_range { place < length self.old.list }
         requires has { Stands (clause_at self.old.list place).lits lit }
         ensures { self.new ≡ self.old }
@@ -121,7 +121,7 @@ impl Clauses {
             number: held.number,
             start: held.start,
             end: held.end,
-            third: lit,
+            cached: lit,
         };
     }
 
@@ -135,14 +135,14 @@ impl Clauses {
         let start = self.lits.len();
         self.lits.extend_from_slice(lits)?;
         let end = self.lits.len();
-        let third = last_or_first(lits);
+        let cached = last_or_first(lits);
         put(
             &mut self.held,
             Entry {
                 number,
                 start,
                 end,
-                third,
+                cached,
             },
         );
         Ok(())
@@ -162,10 +162,7 @@ fn put(items: &mut Vec<Entry>, item: Entry)
     requires { vec_len items.old < vec_capacity items.old }
     ensures { items.new.items ≡ items.old.items ++ item ∷ [] }
 {
-    match items.push(item) {
-        Ok(()) => {}
-        Err(_) => unreachable!(),
-    }
+    items.push_reserved(item);
 }
 
 /// The last literal, if there is one.

@@ -13,10 +13,10 @@ ghost use Rattle.mono_base.specs.declared.value.Value.TheVariants.{Yes};
 ghost use Rattle.mono_clauses.specs.ClauseValues.{AllVars};
 ghost use Rattle.mono_clauses.specs.Lists.{Stands};
 ghost use Rattle.mono_clauses.specs.Store.{clause_at, watch_at};
-ghost use Rattle.mono_clauses.specs.Walk.{FellAt, IsLate, IsFollowing, Tried, Watched, Failed, Settled, DueKept, Sifted};
+ghost use Rattle.mono_clauses.specs.Visits.{FellAt, IsLate, IsFollowing, Tried, Watched, Failed, DueVisited, DueKept, WatchedDropped};
 
 use crate::clauses::Clauses;
-use crate::scan::{first_unfalse, spare};
+use crate::scan::{another_unfalse, first_unfalse};
 use crate::watches::Watches;
 use mono_base::{Lit, Value};
 use mono_trail::{Reason, Trail};
@@ -36,7 +36,7 @@ pub fn try_watch(clauses: &Clauses, watches: &mut Watches, trail: &Trail, place:
     let Some(first) = first_unfalse(clause, trail) else {
         return false;
     };
-    let Some(second) = spare(clause, trail, first) else {
+    let Some(second) = another_unfalse(clause, trail, first) else {
         return false;
     };
     watches.attach_both(place, first, second);
@@ -61,7 +61,7 @@ fn try_due(clauses: &Clauses, watches: &mut Watches, trail: &mut Trail, place: u
     let Some(first) = first_unfalse(clause, trail) else {
         return Some(clauses.number(place));
     };
-    if let Some(second) = spare(clause, trail, first) {
+    if let Some(second) = another_unfalse(clause, trail, first) {
         watches.attach_both(place, first, second);
         return None;
     }
@@ -133,7 +133,7 @@ fn watch_late(clauses: &Clauses, watches: &mut Watches, trail: &Trail, place: us
 }
 
 /// Looks at each clause that may be due. Those that are watched now leave the list.
-pub fn settle(
+pub fn visit_due(
     clauses: &Clauses,
     watches: &mut Watches,
     trail: &mut Trail,
@@ -142,7 +142,7 @@ pub fn settle(
     requires following { IsFollowing clauses.now.list watches.old trail.old }
     requires vars { clauses.now.vars ≡ watches.old.vars }
     requires due { DueKept clauses.now.list watches.old due.old.items }
-    ensures none { IfNone result (Settled clauses.now.list watches.old watches.new trail.old trail.new due.new.items) }
+    ensures none { IfNone result (DueVisited clauses.now.list watches.old watches.new trail.old trail.new due.new.items) }
     ensures some { IfSome result (Failed clauses.now.list watches.old watches.new trail.old trail.new) }
     ensures due { DueKept clauses.now.list watches.new due.new.items }
 {
@@ -152,13 +152,13 @@ pub fn settle(
         if let Some(number) = try_due(clauses, watches, trail, place) {
             return Some(number);
         }
-        next = sift(clauses, watches, due, next, place);
+        next = drop_watched(clauses, watches, due, next, place);
     }
     None
 }
 
 /// The clause at the index leaves the list if it is watched. The answer is the next index to look at.
-fn sift(
+fn drop_watched(
     clauses: &Clauses,
     watches: &Watches,
     due: &mut Vec<usize>,
@@ -169,7 +169,7 @@ fn sift(
     requires place { slice_index_or due.old.items next 0 ≡ place }
     requires due { DueKept clauses.now.list watches.now due.old.items }
     requires count { 2 * length clauses.now.list ≡ length watches.now.watched }
-    ensures { Sifted clauses.now.list watches.now due.old.items due.new.items next result }
+    ensures { WatchedDropped clauses.now.list watches.now due.old.items due.new.items next result }
 {
     let _ = watches.len();
     if let Some(_) = watches.watch_of(2 * place) {

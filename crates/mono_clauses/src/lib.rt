@@ -19,7 +19,7 @@ mod scan;
 /// The store.
 mod store;
 /// Clauses one of whose watched literals became false.
-mod walk;
+mod propagate;
 /// Watch lists.
 mod watches;
 

@@ -3,7 +3,7 @@
 ghost use Rattle.std.specs.Prelude.{◌≡◌, ◌≢◌, ◌≤◌, ◌<◌, ◌↔◌, length, IsTrue, IfSome, IfNone, ℤ};
 ghost use Rattle.mono_base.specs.Literal.{IsLitWithin};
 ghost use Rattle.mono_base.specs.Partial.{value_by};
-ghost use Rattle.mono_clauses.specs.ClauseValues.{AllVars, AllFalse, FalseBut, IsUnfalse, IsSpare};
+ghost use Rattle.mono_clauses.specs.ClauseValues.{AllVars, AllFalse, FalseBut, IsUnfalse, IsAnotherUnfalse};
 ghost use Rattle.mono_base.specs.declared.value.Value.TheVariants.{No};
 ghost use Rattle.mono_clauses.specs.Lists.{Stands};
 ghost use Rattle.mono_clauses.specs.Store.{clause_at};
@@ -27,10 +27,10 @@ pub fn first_unfalse(clause: &[Lit], trail: &Trail) -> Option<Lit>
 }
 
 /// The first literal of the clause that is not false and is another one.
-pub fn spare(clause: &[Lit], trail: &Trail, skip: Lit) -> Option<Lit>
+pub fn another_unfalse(clause: &[Lit], trail: &Trail, skip: Lit) -> Option<Lit>
     requires { AllVars trail.now.vars clause.now }
     ensures none { IfNone result (FalseBut trail.now.lits clause.now skip) }
-    ensures some { IfSome result (IsSpare trail.now.lits clause.now skip) }
+    ensures some { IfSome result (IsAnotherUnfalse trail.now.lits clause.now skip) }
 {
     for lit in clause {
         if lit.number() != skip.number() && !is_false(trail, *lit) {
@@ -63,20 +63,20 @@ pub fn next_watch(
     requires differ { lit ≢ mate }
     requires falsified { value_by trail.now.lits lit ≡ No }
     ensures none { IfNone result (FalseBut trail.now.lits (clause_at clauses.now.list place).lits mate) }
-    ensures some { IfSome result (IsSpare trail.now.lits (clause_at clauses.now.list place).lits mate) }
+    ensures some { IfSome result (IsAnotherUnfalse trail.now.lits (clause_at clauses.now.list place).lits mate) }
 {
     let _ = clauses.vars();
     let head = clauses.head(place);
     if head.len == 2 {
         return None;
     }
-    if head.third.number() != mate.number() {
-        if !is_false(trail, head.third) {
-            return Some(head.third);
+    if head.cached.number() != mate.number() {
+        if !is_false(trail, head.cached) {
+            return Some(head.cached);
         }
-        if head.len == 3 && head.third.number() != lit.number() {
+        if head.len == 3 && head.cached.number() != lit.number() {
             return None;
         }
     }
-    spare(clauses.literals(place), trail, mate)
+    another_unfalse(clauses.literals(place), trail, mate)
 }

@@ -5,9 +5,9 @@ ghost use Rattle.mono_base.specs.declared.limits.TheConstants.{MAX_VARS};
 ghost use Rattle.mono_base.specs.Literal.{IsLitWithin};
 
 use crate::clauses::Clauses;
-use crate::due::{settle, try_watch};
+use crate::due::{try_watch, visit_due};
 use crate::found::Found;
-use crate::walk::follow;
+use crate::propagate::follow;
 use crate::watches::Watches;
 use mono_base::Lit;
 use mono_trail::Trail;
@@ -28,7 +28,7 @@ pub struct ClauseStore {
 
 impl Model for ClauseStore {
     ghost use Rattle.mono_clauses.specs.Store.{StoreView};
-    ghost use Rattle.mono_clauses.specs.Walk.{IsStore};
+    ghost use Rattle.mono_clauses.specs.Visits.{IsStore};
 
     ghost Value = { StoreView };
 
@@ -99,7 +99,7 @@ impl ClauseStore {
         ensures grows { Grows self.old.clauses trail.old trail.new }
         ensures found { FoundIs self.new trail.new result }
     {
-        if let Some(number) = settle(&self.clauses, &mut self.watches, trail, &mut self.due) {
+        if let Some(number) = visit_due(&self.clauses, &mut self.watches, trail, &mut self.due) {
             return Found::False(number);
         }
         if let Some(number) = follow(&mut self.clauses, &mut self.watches, trail) {
@@ -115,8 +115,5 @@ fn put(items: &mut Vec<usize>, item: usize)
     requires { vec_len items.old < vec_capacity items.old }
     ensures { items.new.items ≡ items.old.items ++ item ∷ [] }
 {
-    match items.push(item) {
-        Ok(()) => {}
-        Err(_) => unreachable!(),
-    }
+    items.push_reserved(item);
 }

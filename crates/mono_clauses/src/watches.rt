@@ -1,11 +1,11 @@
 //! The watch lists.
 //!
 //! A clause has two watchers. A watcher that is busy watches a literal, and stands in the list of that literal, and
-//! nowhere else. While one list is walked from its top down, the watchers still to come are those ahead; those passed stay
+//! nowhere else. While the watchers of one list are visited from its top down, the watchers still to come are those ahead; those passed stay
 //! in it. One that leaves is replaced by the top one, which is itself or was passed, so no watcher ahead moves.
 //!
 //! The room that the lists can need is made with the watchers: a cell for each watcher, and seven for each list, whose top
-//! chunk may lack as many. So a walk takes no memory.
+//! chunk may lack as many. So no visit takes memory.
 
 ghost use Rattle.std.specs.Prelude.{◌≡◌, ◌≢◌, ℕ, ◌+◌, ◌*◌, ◌<◌, ◌≤◌, ◌++◌, ◌∷◌, [], length, slice_index_or, replicate, Some, None, IfOk, OnOk, OnErr, vec_len, vec_capacity, pos, false};
 ghost use Rattle.mono_base.specs.declared.limits.TheConstants.{MAX_VARS};
@@ -30,10 +30,10 @@ pub struct Watches {
     /// By chunk: the top place of the chunk below it.
     links: Vec<u32>,
     /// The first places of the chunks in no list.
-    spare: Vec<u32>,
+    free_chunks: Vec<u32>,
     /// By literal: the top place of its list.
     heads: Vec<u32>,
-    /// Whose list is walked, and the place in it to look at.
+    /// Whose list is visited, and the place in it to look at.
     list: usize,
     here: u32,
     ghost rest: { Rest links.items here } by { Rest-prop links.items here },
@@ -48,11 +48,11 @@ impl Model for Watches {
 
     ghost view = { λ s. record { vars = s.vars; watched = watched_of s.busy.items s.lits.items; ahead = watchers_at s.cells.items s.rest.places } };
 
-    ghost invariant = { λ s. IsChunked s.vars s.links.items s.cells.items s.spare.items s.heads.items (watched_of s.busy.items s.lits.items) s.list s.rest.places × (length s.links.items ≤ vec_capacity s.spare) × (length s.busy.items ≡ length s.lits.items) × (8 * length s.links.items ≤ length s.lits.items + 8 * (2 * s.vars + 2) + 7) };
+    ghost invariant = { λ s. IsChunked s.vars s.links.items s.cells.items s.free_chunks.items s.heads.items (watched_of s.busy.items s.lits.items) s.list s.rest.places × (length s.links.items ≤ vec_capacity s.free_chunks) × (length s.busy.items ≡ length s.lits.items) × (8 * length s.links.items ≤ length s.lits.items + 8 * (2 * s.vars + 2) + 7) };
 }
 
 impl Watches {
-    ghost use Rattle.mono_clauses.specs.Watching.{no_watches, more_watches, attached, emptied, Placed, Kept, StartsWalk};
+    ghost use Rattle.mono_clauses.specs.Watching.{no_watches, more_watches, attached, emptied, Placed, Kept, StartsVisits};
     ghost use Rattle.mono_clauses.specs.Lists.{first_of};
 
     /// No watchers.
@@ -64,15 +64,15 @@ impl Watches {
         let heads = ends(alloc, count)?;
         let mut cells = Vec::new(alloc);
         let mut links = Vec::new(alloc);
-        let mut spare = Vec::new(alloc);
-        add_chunks(&mut cells, &mut links, &mut spare, count)?;
+        let mut free_chunks = Vec::new(alloc);
+        add_chunks(&mut cells, &mut links, &mut free_chunks, count)?;
         Ok(Watches {
             vars,
             busy: Vec::new(alloc),
             lits: Vec::new(alloc),
             cells,
             links,
-            spare,
+            free_chunks,
             heads,
             list: 0,
             here: END,
@@ -94,12 +94,17 @@ impl Watches {
             &mut self.lits,
             &mut self.cells,
             &mut self.links,
-            &mut self.spare,
+            &mut self.free_chunks,
         )?;
         self.here = END;
         let count = 2 * self.vars as usize + 2;
         let least = self.lits.len() + 2 + 7 * count;
-        widen(&mut self.cells, &mut self.links, &mut self.spare, least);
+        widen(
+            &mut self.cells,
+            &mut self.links,
+            &mut self.free_chunks,
+            least,
+        );
         add_idle(&mut self.busy, &mut self.lits);
         add_idle(&mut self.busy, &mut self.lits);
         Ok(())
@@ -161,7 +166,7 @@ impl Watches {
         put(
             &mut self.cells,
             &mut self.links,
-            &mut self.spare,
+            &mut self.free_chunks,
             &mut self.heads,
             slot,
             watcher as u32,
@@ -170,10 +175,10 @@ impl Watches {
         self.lits[watcher] = lit;
     }
 
-    /// The list of the literal is walked from now on: its watchers are ahead.
-    pub fn start_walk(&mut self, lit: Lit)
+    /// The list of the literal is visited from now on: its watchers are ahead.
+    pub fn start_visits(&mut self, lit: Lit)
         requires in_range { IsLitWithin self.old.vars lit }
-        ensures { StartsWalk self.old self.new lit }
+        ensures { StartsVisits self.old self.new lit }
     {
         self.list = lit.slot();
         self.here = self.heads[self.list];
@@ -211,7 +216,7 @@ impl Watches {
         remove(
             &mut self.cells,
             &self.links,
-            &mut self.spare,
+            &mut self.free_chunks,
             &mut self.heads,
             self.list,
             here,
@@ -221,7 +226,7 @@ impl Watches {
         put(
             &mut self.cells,
             &mut self.links,
-            &mut self.spare,
+            &mut self.free_chunks,
             &mut self.heads,
             slot,
             watcher,
@@ -229,7 +234,7 @@ impl Watches {
         self.lits[watcher as usize] = lit;
     }
 
-    /// The walk ends: the watchers ahead stay where they are.
+    /// The visits end: the watchers ahead stay where they are.
     pub fn close(&mut self)
         ensures { self.new ≡ emptied self.old }
     {
@@ -243,20 +248,20 @@ fn reserve_watchers(
     lits: &mut Vec<Lit>,
     cells: &mut Vec<u32>,
     links: &mut Vec<u32>,
-    spare: &mut Vec<u32>,
+    free_chunks: &mut Vec<u32>,
 ) -> Result<(), AllocError>
-    requires { length spare.old.items ≤ length links.old.items }
+    requires { length free_chunks.old.items ≤ length links.old.items }
     ensures busy { busy.new.items ≡ busy.old.items }
     ensures lits { lits.new.items ≡ lits.old.items }
     ensures cells { cells.new.items ≡ cells.old.items }
     ensures links { links.new.items ≡ links.old.items }
-    ensures spare { spare.new.items ≡ spare.old.items }
-    ensures room { OnOk result ((vec_len busy.new + 2 ≤ vec_capacity busy.new) × (vec_len lits.new + 2 ≤ vec_capacity lits.new) × (vec_len cells.new + 8 ≤ vec_capacity cells.new) × (vec_len links.new < vec_capacity links.new) × (vec_len links.new < vec_capacity spare.new)) }
-    ensures capacity { vec_capacity spare.old ≤ vec_capacity spare.new }
+    ensures free_chunks { free_chunks.new.items ≡ free_chunks.old.items }
+    ensures room { OnOk result ((vec_len busy.new + 2 ≤ vec_capacity busy.new) × (vec_len lits.new + 2 ≤ vec_capacity lits.new) × (vec_len cells.new + 8 ≤ vec_capacity cells.new) × (vec_len links.new < vec_capacity links.new) × (vec_len links.new < vec_capacity free_chunks.new)) }
+    ensures capacity { vec_capacity free_chunks.old ≤ vec_capacity free_chunks.new }
 {
     busy.reserve(2)?;
     lits.reserve(2)?;
-    reserve_chunk(cells, links, spare)
+    reserve_chunk(cells, links, free_chunks)
 }
 
 /// Pushes a watcher that watches nothing where there is room.
@@ -267,14 +272,8 @@ fn add_idle(busy: &mut Vec<bool>, lits: &mut Vec<Lit>)
     ensures lits { lits.new.items ≡ lits.old.items ++ pos 1 ∷ [] }
     ensures room { (vec_capacity busy.old ≤ vec_capacity busy.new) × (vec_capacity lits.old ≤ vec_capacity lits.new) }
 {
-    match busy.push(false) {
-        Ok(()) => {}
-        Err(_) => unreachable!(),
-    }
-    match lits.push(Lit::default()) {
-        Ok(()) => {}
-        Err(_) => unreachable!(),
-    }
+    busy.push_reserved(false);
+    lits.push_reserved(Lit::default());
 }
 
 /// So many stacks with no watcher.

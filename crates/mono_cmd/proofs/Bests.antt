@@ -51,7 +51,7 @@ use Rattle.mono_cmd.specs.Solved.{IsBounding}
 use Rattle.mono_cmd.specs.Runs.{ComesTo, Ends, Writes, Runs, HasProblem, Bounds, Asks, IsBestBy, AreConsistentBounds}
 use Rattle.mono_cmd.proofs.Format.{steps_within}
 use Rattle.mono_cmd.proofs.Notes.{KeepsSteps, keeps_both, keeps_note, keeps_model, open_word}
-use Rattle.mono_cmd.proofs.Solutions.{printed_model, printed_steps, few_steps, same_count}
+use Rattle.mono_cmd.proofs.Solutions.{printed_model, printed_steps, few_steps}
 use Rattle.mono_cmd.proofs.Solves.{is_answer_status, answered}
 use Rattle.mono_cmd.proofs.Sound.{appended, its_problem}
 
@@ -99,7 +99,7 @@ progress_accepted q budget notes steps ok few keeps h =
     let within = steps_within q q.clauses steps ok (few_steps q steps ok few) h.justified in
     let alone = printed_steps (length q.clauses) kind.Progress (answer.Progress steps) steps refl within in
     (progress_iff q (notes ++ answer_text (answer.Progress steps)) (chain_count steps)).1
-    (steps, keeps (length q.clauses) kind.Progress (answer_text (answer.Progress steps)) steps alone, h.justified, same_count steps)
+    (steps, keeps (length q.clauses) kind.Progress (answer_text (answer.Progress steps)) steps alone, h.justified, refl)
 
 model_accepted : (q : Instance) (ts : List (List ℕ)) (values : List Bool) → IsInstance q → AreTokens ts → HasModel q values → IsVerdict q (note ts ++ answer_text (answer.Model values)) verdict.Model
 model_accepted q ts values ok tokens h =

@@ -21,7 +21,7 @@ use Rattle.mono_cmd.specs.declared.ending.Ending.TheVariants as ending
 use Rattle.mono_cmd.specs.Endings.{status_of, answer_status, verdict_status, outcome_status, best_status}
 use Rattle.mono_cmd.specs.Runs.{ComesTo, Ends, Writes}
 use Rattle.mono_cmd.proofs.Needs.{its_read_fault}
-use Rattle.mono_cmd.proofs.PlaceLaws.{past_limit}
+use Rattle.mono_cmd.proofs.PlaceByEnding.{past_limit}
 
 -- ---- read faults
 

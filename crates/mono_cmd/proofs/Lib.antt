@@ -10,7 +10,7 @@ mod Needs
 mod Notes
 mod OneEnding
 mod OutOfMemory
-mod PlaceLaws
+mod PlaceByEnding
 mod Solutions
 mod Solves
 mod Sound

@@ -19,7 +19,7 @@ use Rattle.mono_cmd.specs.declared.ending.Ending.TheVariants as ending
 use Rattle.mono_cmd.specs.Endings.{TakesMemory, unjudged_ending}
 use Rattle.mono_cmd.specs.Runs.{EndsAtText, EndsAtFile, HasProblem, ComesTo, Ends, IsOutOfMemory, Writes}
 use Rattle.mono_cmd.proofs.Stages.{ends_cases}
-use Rattle.mono_cmd.proofs.PlaceLaws.{read_place}
+use Rattle.mono_cmd.proofs.PlaceByEnding.{read_place}
 
 -- ---- one file
 

@@ -18,7 +18,6 @@ use Rattle.mono_answer.specs.declared.answer.Answer.{Answer}
 use Rattle.mono_answer.specs.declared.answer.Answer.TheVariants as answer
 use Rattle.mono_answer.specs.Printed.{literals_from, with_zero, answer_text, answer_items, in_lines, is_within_format}
 use Rattle.mono_answer.proofs.RoundTrip.{printed_is_read}
-use Rattle.mono_check.specs.StepLines.{chain_count as count_of_chains}
 use Rattle.mono_check.specs.Answers.{step_item, HasSteps, HasModel}
 use Rattle.mono_check.proofs.Accepted.{refutation_iff, progress_iff, model_iff}
 use Rattle.mono_search.specs.Outcomes.{HasModel as HasModelOf}
@@ -64,11 +63,6 @@ pub printed_steps : (c : ℕ) (k : Kind) (a : Answer) (steps : List Step) → an
 printed_steps c k a steps is within =
     (enumerate_from 2 (map Some (map says.Step steps)), (1, printed_is_read c a within ∙ ap in_lines is), seconds 2 (map Some (map says.Step steps)) ∙ step_items steps)
 
-pub same_count : (steps : List Step) → chain_count steps ≡ count_of_chains steps
-same_count [] = refl
-same_count (step.Lemma l ∷ ss) = same_count ss
-same_count (step.Chain c ∷ ss) = ap (λ (n : ℕ). suc n) (same_count ss)
-
 -- so many steps have clause numbers that the format can write
 pub few_steps : (p : Instance) (steps : List Step) → IsInstance p → length steps < 2 ^ 63 → length p.clauses + length steps < 2 ^ 64
 few_steps p steps ok few = omega (arith, few, ok.few_clauses)
@@ -87,5 +81,5 @@ progress_solves p budget steps ok few h =
     let within = steps_within p p.clauses steps ok (few_steps p steps ok few) h.justified in
     record {
       right = h;
-      accepted = (progress_iff p (answer_text (answer.Progress steps)) (chain_count steps)).1 (steps, printed_steps (length p.clauses) kind.Progress (answer.Progress steps) steps refl within, h.justified, same_count steps);
+      accepted = (progress_iff p (answer_text (answer.Progress steps)) (chain_count steps)).1 (steps, printed_steps (length p.clauses) kind.Progress (answer.Progress steps) steps refl within, h.justified, refl);
     }

@@ -13,7 +13,7 @@ use Rattle.mono_search.specs.Solving.{IsTrimRefutation}
 use Rattle.mono_portfolio.specs.Outcomes.{IsBoardOfRounds}
 use Rattle.mono_cmd.specs.Teams.{IsTeamSolution}
 use Rattle.mono_cmd.proofs.Format.{steps_within}
-use Rattle.mono_cmd.proofs.Solutions.{model_solves, refutation_solves, printed_steps, few_steps, same_count}
+use Rattle.mono_cmd.proofs.Solutions.{model_solves, refutation_solves, printed_steps, few_steps}
 
 pub team_model_solves : (p : Instance) (workers rounds : ℕ) (values : List Bool) → IsInstance p → HasModel p values → IsTeamSolution p workers rounds (answer.Model values)
 team_model_solves p workers rounds values ok h = record { right = h; accepted = (model_solves p 1 values ok h).accepted }
@@ -26,5 +26,5 @@ team_board_solves p workers rounds board ok few h =
     let within = steps_within p p.clauses board ok (few_steps p board ok few) h.justified in
     record {
       right = h;
-      accepted = (progress_iff p (answer_text (answer.Progress board)) (chain_count board)).1 (board, printed_steps (length p.clauses) kind.Progress (answer.Progress board) board refl within, h.justified, same_count board);
+      accepted = (progress_iff p (answer_text (answer.Progress board)) (chain_count board)).1 (board, printed_steps (length p.clauses) kind.Progress (answer.Progress board) board refl within, h.justified, refl);
     }

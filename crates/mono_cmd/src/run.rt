@@ -123,7 +123,7 @@ pub fn run<S: Shelf, K: Sink>(alloc: Global, words: &[String], shelf: &mut S, ou
     ensures refutes { (p : Instance) → CheckWrote (command_of (map string_bytes words.now)) (S.seen shelf.old).texts (K.written out.old) (K.written out.new) p (codes "accepted refutation\n") → HasNoModel p }
     ensures models { (p : Instance) → CheckWrote (command_of (map string_bytes words.now)) (S.seen shelf.old).texts (K.written out.old) (K.written out.new) p (codes "accepted model\n") → (a : ℕ → Bool) × Satisfies p a }
 
-    // The same of the problem under the assumptions of `check-with`.
+    // What these texts say by `check-with`, of the problem under its assumptions.
     ensures refutes_with { (p : Instance) (lits : List ℤ) → CheckWithWrote (command_of (map string_bytes words.now)) (S.seen shelf.old).texts (K.written out.old) (K.written out.new) p lits (codes "accepted refutation\n") → HasNoModel (assuming p lits) }
     ensures models_with { (p : Instance) (lits : List ℤ) → CheckWithWrote (command_of (map string_bytes words.now)) (S.seen shelf.old).texts (K.written out.old) (K.written out.new) p lits (codes "accepted model\n") → (a : ℕ → Bool) × Satisfies (assuming p lits) a }
 {

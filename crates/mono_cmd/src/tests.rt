@@ -85,7 +85,7 @@ fn outcome_in(
     Ok(Outcome { status, text })
 }
 
-/// The same, into an output of two million bytes.
+/// The status and the text of a run over a shelf, into an output of two million bytes.
 fn outcome_over(
     alloc: Global,
     line: &[&str],
@@ -108,7 +108,7 @@ fn outcome_by(
     outcome_over(alloc, line, &mut shelf)
 }
 
-/// The same, by pieces as large as any.
+/// The status and the text of a run over files that are read in pieces as large as any.
 fn outcome_of(
     alloc: Global,
     line: &[&str],

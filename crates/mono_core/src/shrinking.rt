@@ -19,7 +19,7 @@ pub(crate) struct Refuted {
     pub(crate) steps: Row<Step>,
 }
 
-/// The same under those of the assumptions alone that the refutation names.
+/// The refutation under those of the assumptions alone that it names.
 ///
 /// Where a clause of it speaks of a variable that no other part of the problem has, all stay.
 pub(crate) fn shrunk(

@@ -6,7 +6,7 @@ use Rattle.mono_graph.specs.Cycles.{IsAcyclic}
 use Rattle.mono_cycles.specs.Found.{IsCycleOrOrder, is_cycle_found}
 use Rattle.mono_cycles.specs.declared.finder.CycleOrOrder.{CycleOrOrder}
 use Rattle.mono_cycles.specs.declared.finder.CycleOrOrder.TheVariants as found
-use Rattle.mono_graph.proofs.CycleLaws.{cycle_cyclic, order_acyclic}
+use Rattle.mono_graph.proofs.RisingRanks.{cycle_cyclic, order_acyclic}
 
 pub cycle_decides : (g : Digraph) (P : List Bool) (f : CycleOrOrder) → IsCycleOrOrder g P f → IsTrue (is_cycle_found f) ↔ ¬ IsAcyclic g P
 cycle_decides g P (found.Cycle ks) passes = (λ yes. cycle_cyclic g P ks.items passes, λ cyclic. refl)

@@ -14,7 +14,7 @@ use Rattle.mono_graph.specs.Cycles.{rank_in, all_rise, is_order}
 use Rattle.mono_cycles.specs.Arranged.{AreRanks, arranged, parted, is_marked}
 use Rattle.mono_cycles.specs.Behind.{AllClear, IsClosed}
 use Rattle.mono_cycles.specs.Kept.{IsGrownBy, AreKept}
-use Rattle.mono_graph.proofs.CycleLaws.{climbs, all_climb}
+use Rattle.mono_graph.proofs.RisingRanks.{climbs, all_climb}
 use Rattle.mono_cycles.proofs.Ranked.{rank_at}
 use Rattle.mono_cycles.proofs.Arranged.{before, before_ranks, ranks_before, before_left, before_right, arranged_before, arranged_has, parted_across, window_split, window_index, window_has, distinct_ranked}
 

@@ -5,7 +5,7 @@ use Rattle.std.proofs.lemmas.Bool.{cases_eq, eq-eqb, ne_eqb, and_parts}
 use Rattle.mono_graph.specs.Digraph.{Digraph, IsSubpart, present}
 use Rattle.mono_graph.specs.Cycles.{is_order}
 use Rattle.mono_cycles.specs.Kept.{IsGrownBy}
-use Rattle.mono_graph.proofs.CycleLaws.{is_order-smaller}
+use Rattle.mono_graph.proofs.RisingRanks.{is_order-smaller}
 
 or_swap : (a b : Bool) → (a || b) ≡ (b || a)
 or_swap true true = refl

@@ -11,7 +11,7 @@ use Rattle.mono_graph.proofs.Membership.{has_cons, has_here, has_there}
 use Rattle.mono_graph.proofs.Prefixes.{distinct_new, distinct_take, not_distinct, take_has, has_new, has_other}
 use Rattle.mono_graph.specs.Cycles.{rank_in, rises, all_rise, is_order}
 use Rattle.mono_cycles.specs.Searches.{IsRising}
-use Rattle.mono_graph.proofs.CycleLaws.{all_climb}
+use Rattle.mono_graph.proofs.RisingRanks.{all_climb}
 
 pub rank_here : (v u : ℕ) (vs : List ℕ) → v ≡ u → rank_in (v ∷ vs) u ≡ 0
 rank_here v u vs e = ap (λ (b : Bool). cond b 0 (suc (rank_in vs u))) (eq-eqb v u e)

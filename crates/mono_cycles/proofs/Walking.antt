@@ -10,7 +10,7 @@ use Rattle.mono_graph.specs.Walks.{leads, is_walk}
 use Rattle.mono_graph.proofs.Membership.{has_append_cases, has_cons}
 use Rattle.mono_graph.specs.Cycles.{is_cycle}
 use Rattle.mono_cycles.specs.Searches.{IsStep, IsPath}
-use Rattle.mono_graph.proofs.CycleLaws.{is_cycle_of}
+use Rattle.mono_graph.proofs.RisingRanks.{is_cycle_of}
 
 list_all_push : (p : ℕ → Bool) (xs : List ℕ) (x : ℕ) → IsTrue (list_all p xs) → IsTrue (p x) → IsTrue (list_all p (xs ++ x ∷ []))
 list_all_push p [] x h t = and_from (p x) true t refl

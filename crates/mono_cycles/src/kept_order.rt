@@ -84,10 +84,7 @@ fn add(places: &mut Vec<u32>, place: u32)
     ensures items { places.new.items ≡ places.old.items ++ place ∷ [] }
     ensures capacity { vec_capacity places.old ≤ vec_capacity places.new }
 {
-    match places.push(place) {
-        Ok(()) => {}
-        Err(_) => unreachable!(),
-    }
+    places.push_reserved(place);
 }
 
 impl KeptOrder {

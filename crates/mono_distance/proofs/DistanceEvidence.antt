@@ -21,8 +21,8 @@ use Rattle.mono_steps.specs.Witnesses.{passes, rests_on_present}
 use Rattle.mono_theory.specs.declared.evidence.Evidence.{Evidence}
 use Rattle.mono_theory.specs.Evidences.{IsEvidence}
 use Rattle.mono_theory.specs.Walked.{walk_evidence}
-use Rattle.mono_theory.proofs.RestingLaws.{alike_none, evidence_within, resting_evidence}
-use Rattle.mono_theory.proofs.WalkedLaws.{walk_is_evidence}
+use Rattle.mono_theory.proofs.RestingOnAbsent.{alike_none, evidence_within, resting_evidence}
+use Rattle.mono_theory.proofs.WalksAsEvidence.{walk_is_evidence}
 use Rattle.mono_distance.specs.Distances.{is_distance, predicate_of, IsLabelEvidence}
 
 -- ---- what a predicate asks for

@@ -1,6 +1,6 @@
-pub mod LabelLaws
+pub mod TableLabels
 pub mod DistanceEvidence
-pub mod SureLaws
-pub mod SourceLaws
-pub mod ReadingLaws
+pub mod SureLabels
+pub mod RowsBySource
+pub mod KnownLabels
 pub mod WorkedRows

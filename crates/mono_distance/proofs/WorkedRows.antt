@@ -6,10 +6,9 @@ use Rattle.std.proofs.lemmas.Bool.{and_parts, ltb-true}
 use Rattle.std.proofs.lemmas.List.Sums.{sum_by-cons}
 use Rattle.mono_graph.specs.declared.limit.Limit.TheVariants as limit
 use Rattle.mono_graph.specs.Digraph.{Digraph, edge_at, is_place, present}
-use Rattle.mono_graph.specs.Walks.{cost_of, is_walk, leads}
+use Rattle.mono_graph.specs.Walks.{cost_of, is_walk, leads, cost_along}
 use Rattle.mono_graph.specs.Worked.{edge, single}
-use Rattle.mono_graph.proofs.WalkLaws.{cut_excludes}
-use Rattle.mono_dynamic.specs.Costs.{cost_along}
+use Rattle.mono_graph.proofs.CutsBoundWalks.{cut_excludes}
 use Rattle.mono_problem.specs.declared.atom.Predicate.TheVariants as kind
 use Rattle.mono_theory.specs.declared.stage.Stage.{Stage}
 use Rattle.mono_theory.specs.declared.stage.Stage.TheVariants as stage

@@ -1,10 +1,9 @@
 -- What a theory of distances knows of nodes, for its atoms.
-use Rattle.std.specs.Prelude.{ℕ, suc, ◌≤◌, ◌==◌, ◌&&◌, Bool, true, ℤ, pos, negsuc, ◌+ℤ◌, int_le, min, List, Option, None, Some, IsTrue, if◌then◌else◌}
+use Rattle.std.specs.Prelude.{ℕ, suc, ◌≤◌, ◌==◌, ◌&&◌, Bool, true, false, ℤ, pos, negsuc, ◌+ℤ◌, int_le, min, List, Option, None, Some, IsTrue, if◌then◌else◌}
 use Rattle.mono_graph.specs.declared.label.Label.{Label}
 use Rattle.mono_graph.specs.declared.limit.Limit.{Limit}
 use Rattle.mono_graph.specs.Digraph.{Digraph}
-use Rattle.mono_graph.specs.Walks.{is_walk, bound_of}
-use Rattle.mono_dynamic.specs.Costs.{cost_along}
+use Rattle.mono_graph.specs.Walks.{is_walk, bound_of, cost_along}
 use Rattle.mono_problem.specs.declared.atom.Predicate.{Predicate}
 use Rattle.mono_steps.specs.declared.lemma.Witness.{Witness}
 use Rattle.mono_steps.specs.declared.lemma.Witness.TheVariants as by
@@ -14,15 +13,15 @@ use Rattle.mono_theory.specs.declared.stage.Stage.TheVariants as stage
 use Rattle.mono_theory.specs.AtomPlaces.{place_of_atom}
 use Rattle.mono_theory.specs.Sound.{evidence_at}
 use Rattle.mono_theory.specs.Stages.{NoneWaits, shows, stage_at}
-use Rattle.mono_theory.specs.Supports.{GraphTheoryView, atom_at, facts_in}
+use Rattle.mono_theory.specs.Supports.{GraphTheoryView, SideView, atom_at, facts_in}
 use Rattle.mono_theory.specs.Theories.{Facts}
-use Rattle.mono_rows.specs.declared.either_side.EitherSide.{EitherSide}
-use Rattle.mono_rows.specs.declared.either_side.EitherSide.TheVariants as side
-use Rattle.mono_rows.specs.EitherSides.{IsEitherDecided, IsEitherRight}
+use Rattle.mono_theory.specs.declared.either_side.EitherSide.{EitherSide}
+use Rattle.mono_theory.specs.declared.either_side.EitherSide.TheVariants as side
+use Rattle.mono_theory.specs.EitherSides.{IsEitherDecided, IsEitherRight}
 use Rattle.mono_distance.specs.Distances.{is_distance}
 use Rattle.mono_distance.specs.declared.node_labels.Labels.{Labels}
 use Rattle.mono_distance.specs.Labels.{entry_in, value_by}
-use Rattle.mono_distance.specs.SureLabels.{SureLabels, AreSureLabels, first_node, is_within, last_node, limit_of, under_label}
+use Rattle.mono_distance.specs.SureLabels.{SureLabels, AlwaysStand, AreSureLabels, shows_last, first_node, is_within, last_node, limit_of, under_label}
 
 -- the label is within the predicate's bound, and a walk in the part from its first node to the node costs at most so much
 pub record IsReached (g : Digraph) (P : List Bool) (q : Predicate) (v d : ℕ) : Type 0 where
@@ -43,7 +42,11 @@ above (negsuc n) = 0
 
 -- what is kept with the surely present edges is right
 abbrev pub IsRightSide : Facts → EitherSide SureLabels → Type 0
-IsRightSide f s = IsEitherRight is_distance true AreSureLabels f s
+IsRightSide f s = IsEitherRight is_distance false true AreSureLabels shows_last f s
+
+-- what is kept with the surely present edges decides each predicate
+abbrev pub IsDecidedSide : Facts → EitherSide SureLabels → Type 0
+IsDecidedSide f s = IsEitherDecided AlwaysStand f s
 
 -- the label with the surely present edges, where it is within the bound
 abbrev pub under_at : SureLabels → ℕ → Predicate → ℕ → Option ℕ
@@ -70,17 +73,17 @@ over_by l v w = 0
 
 -- the label by what is shown against a predicate
 abbrev pub over_of : Limit → ℕ → Stage → Option Evidence → ℕ
-over_of l v (stage.Shows m) (Some e) = over_by l v e.witness
+over_of l v (stage.Forcing m) (Some e) = over_by l v e.witness
 over_of l v s o = 0
 
 -- what is known of a node for the atom of a number
-abbrev pub labels_at : GraphTheoryView (EitherSide SureLabels) → ℕ → Predicate → ℕ → Labels
+abbrev pub labels_at : GraphTheoryView (EitherSide SureLabels) SideView → ℕ → Predicate → ℕ → Labels
 labels_at s a q v = record { under = under_in s.surely a q v; over = over_of (limit_of q) v (stage_at s.possibly.stages a) (evidence_at s.possibly.shown a) }
 
-abbrev pub labels_in : GraphTheoryView (EitherSide SureLabels) → ℕ → ℕ → Labels
+abbrev pub labels_in : GraphTheoryView (EitherSide SureLabels) SideView → ℕ → ℕ → Labels
 labels_in s n v = labels_at s (place_of_atom s.atoms n) (atom_at s.atoms (place_of_atom s.atoms n)).predicate v
 
 -- what is kept decides each predicate with the surely present edges, and with the possibly present ones
-pub record AreBothDecided (s : GraphTheoryView (EitherSide SureLabels)) : Type 0 where
-  pub surely : IsEitherDecided (facts_in s) s.surely
+pub record AreBothDecided (s : GraphTheoryView (EitherSide SureLabels) SideView) : Type 0 where
+  pub surely : IsDecidedSide (facts_in s) s.surely
   pub possibly : NoneWaits s.possibly.stages

@@ -1,20 +1,17 @@
 -- What is kept of the labels of nodes along the surely present edges: a row for each first node and measure of an atom.
-use Rattle.std.specs.Prelude.{◌≡◌, ℕ, ◌<◌, ◌≤◌, Bool, true, false, pos, int_lt, int_le, List, Option, None, Some, IfSome, length, slice_index_or, All}
+use Rattle.std.specs.Prelude.{◌≡◌, ℕ, ◌<◌, ◌≤◌, Bool, true, false, pos, int_lt, int_le, List, length, slice_index, slice_index_or}
 use Rattle.mono_graph.specs.declared.limit.Limit.{Limit}
 use Rattle.mono_graph.specs.declared.limit.Limit.TheVariants as limit
-use Rattle.mono_graph.specs.Digraph.{Digraph}
 use Rattle.mono_graph.specs.Walks.{bound_of}
 use Rattle.mono_dynamic.specs.declared.cost_source.CostSource.{CostSource}
-use Rattle.mono_dynamic.specs.Arrivals.{GrowsAfter}
 use Rattle.mono_dynamic.specs.Costs.{Costs, label_of}
-use Rattle.mono_dynamic.specs.LeastRows.{costs_at, AreAllLeast, AreLaterRows}
+use Rattle.mono_dynamic.specs.LeastRows.{costs_at, AreAllLeast}
 use Rattle.mono_problem.specs.declared.atom.Atom.{Atom}
 use Rattle.mono_problem.specs.declared.atom.Predicate.{Predicate}
 use Rattle.mono_problem.specs.declared.atom.Predicate.TheVariants as kind
 use Rattle.mono_theory.specs.Supports.{atom_at}
 use Rattle.mono_theory.specs.Theories.{Facts}
-use Rattle.mono_rows.specs.SureParts.{sure_parts}
-use Rattle.mono_distance.specs.declared.sources.NodeRows.{NodeRows}
+use Rattle.mono_theory.specs.SureParts.{sure_parts}
 
 -- the nodes between which a walk is to lead, and its limit
 abbrev pub first_node : Predicate → ℕ
@@ -45,10 +42,12 @@ is_alike l k = false
 abbrev pub is_within : ℕ → Limit → Bool
 is_within label l = int_le (pos label) (bound_of l)
 
--- rows of labels, and by place of an atom its row
+-- rows of labels, and by place of an atom its row, its last node and its limit
 pub record SureLabels : Type 0 where
   pub rows : List Costs
   pub row_of : List ℕ
+  pub lasts : List ℕ
+  pub limits : List Limit
 
 abbrev pub row_of_atom : SureLabels → ℕ → ℕ
 row_of_atom s a = slice_index_or s.row_of a 0
@@ -56,6 +55,22 @@ row_of_atom s a = slice_index_or s.row_of a 0
 -- the label of a node in the row of an atom
 abbrev pub under_label : SureLabels → ℕ → ℕ → ℕ
 under_label s a v = label_of (costs_at s.rows (row_of_atom s a)).labels v
+
+-- whether the label of the last node of the atom at a place is within its limit
+abbrev pub shows_last : SureLabels → ℕ → Bool
+shows_last s a = is_within (under_label s a (slice_index s.lasts a)) (slice_index_or s.limits a limit.Free)
+
+-- of the first n atoms, what is such of their predicates
+pub record AreOfAtoms {X : Type 0} (Is : Predicate → X → Type 0) (atoms : List Atom) (n : ℕ) (xs : List X) : Type 0 where
+  pub len : length xs ≡ n
+  pub each : (a : ℕ) (d : X) → a < n → Is (atom_at atoms a).predicate (slice_index_or xs a d)
+
+-- it is the last node of the predicate, or its limit
+abbrev pub HasLast : Predicate → ℕ → Type 0
+HasLast q v = v ≡ last_node q
+
+abbrev pub HasLimit : Predicate → Limit → Type 0
+HasLimit q l = l ≡ limit_of q
 
 -- the row is from the predicate's first node, by its measure, and has labels beyond its bound
 pub record IsRowFor (sources : List ℕ) (rows : List Costs) (r : ℕ) (q : Predicate) : Type 0 where
@@ -69,16 +84,17 @@ pub record AreLabelsAfter (f : Facts) (n : ℕ) (s : SureLabels) : Type 0 where
   pub sources : List ℕ
   pub rows : AreAllLeast f.graph (sure_parts f) n sources s.rows
   pub row_of_len : length s.row_of ≡ length f.atoms
+  pub lasts : AreOfAtoms HasLast f.atoms (length f.atoms) s.lasts
+  pub limits : AreOfAtoms HasLimit f.atoms (length f.atoms) s.limits
   pub each : (a : ℕ) → a < length f.atoms → IsRowFor sources s.rows (row_of_atom s a) (atom_at f.atoms a).predicate
 
 -- so it is after each number of literals up to all of them
 abbrev pub AreSureLabels : SureLabels → Facts → Type 0
 AreSureLabels s f = AreLabelsAfter f (length f.seen) s
 
--- edges have come, and the rows have grown
-pub record AreGrownLabels (g : Digraph) (Q : List Bool) (ks : List ℕ) (stamp : ℕ) (olds news : List Costs) : Type 0 where
-  pub later : AreLaterRows stamp olds news
-  pub along : (parts : ℕ → List Bool) (n : ℕ) (sources : List ℕ) → AreAllLeast g parts n sources olds → GrowsAfter parts n stamp Q ks → AreAllLeast g parts stamp sources news
+-- rows that change with each literal are always up to date
+abbrev pub AlwaysStand : SureLabels → Facts → Type 0
+AlwaysStand s f = Unit {0}
 
 -- ---- the rows of the atoms at first
 
@@ -87,38 +103,6 @@ no_source = record { node = 0; limit = limit.Free; cap = 0 }
 
 abbrev pub source_at : List CostSource → ℕ → CostSource
 source_at ss r = slice_index_or ss r no_source
-
--- the row is that of the node, by the measure
-pub record IsRowOf (sources : List CostSource) (u : ℕ) (l : Limit) (r : ℕ) : Type 0 where
-  pub held : r < length sources
-  pub node : (source_at sources r).node ≡ u
-  pub alike : is_alike (source_at sources r).limit l ≡ true
-
--- the rows of the node
-pub record AreRowsOf (sources : List CostSource) (u : ℕ) (n : NodeRows) : Type 0 where
-  pub steps : IfSome n.steps (IsRowOf sources u (limit.Steps (pos 0)))
-  pub weight : IfSome n.weight (IsRowOf sources u (limit.Weight (pos 0)))
-
-abbrev pub no_rows : NodeRows
-no_rows = record { steps = None; weight = None }
-
--- the node's row by the measure of a limit
-abbrev pub row_by : NodeRows → Limit → Option ℕ
-row_by n limit.Free = None
-row_by n (limit.Steps most) = n.steps
-row_by n (limit.Weight most) = n.weight
-
--- with this row by the measure of a limit
-abbrev pub with_row : NodeRows → Limit → ℕ → NodeRows
-with_row n limit.Free r = n
-with_row n (limit.Steps most) r = record { steps = Some r; weight = n.weight }
-with_row n (limit.Weight most) r = record { steps = n.steps; weight = Some r }
-
--- by node its rows, and each row is that of its node and measure
-pub record IsRowTable (table : List NodeRows) (sources : List CostSource) : Type 0 where
-  pub known : All (λ s. s.node < length table) sources
-  pub each : (u : ℕ) → u < length table → AreRowsOf sources u (slice_index_or table u no_rows)
-  pub listed : (r : ℕ) → r < length sources → row_by (slice_index_or table (source_at sources r).node no_rows) (source_at sources r).limit ≡ Some r
 
 -- no two rows are from the same node by the same measure
 abbrev pub AreApart : List CostSource → Type 0
@@ -129,13 +113,6 @@ pub record IsSourceFor (q : Predicate) (s : CostSource) : Type 0 where
   pub node : s.node ≡ first_node q
   pub alike : is_alike s.limit (limit_of q) ≡ true
   pub beyond : int_lt (bound_of (limit_of q)) (pos s.cap) ≡ true
-
--- more rows are there, and greater caps
-pub record AreMoreSources (olds news : List CostSource) : Type 0 where
-  pub len : length olds ≤ length news
-  pub node : (r : ℕ) → r < length olds → (source_at news r).node ≡ (source_at olds r).node
-  pub limit : (r : ℕ) → r < length olds → (source_at news r).limit ≡ (source_at olds r).limit
-  pub cap : (r : ℕ) → r < length olds → (source_at olds r).cap ≤ (source_at news r).cap
 
 -- each of the first n atoms has a row that serves its predicate
 pub record HaveRows (atoms : List Atom) (n : ℕ) (row_of : List ℕ) (sources : List CostSource) : Type 0 where

@@ -20,10 +20,9 @@ use mono_base::limits::MAX_WITNESS_VALUE;
 use mono_graph::{Graph, Label, Limit, Part};
 use mono_paths::{PathOrLabels, WalkFinder};
 use mono_problem::Predicate;
-use mono_rows::EitherSide;
 use mono_steps::Witness;
 use mono_theory::walks::walk_evidence;
-use mono_theory::{Evidence, GraphTheory, Kind};
+use mono_theory::{EitherSide, Evidence, GraphTheory, Kind};
 use std::alloc::{AllocError, Global};
 use std::marker::Model;
 

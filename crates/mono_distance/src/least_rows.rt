@@ -5,24 +5,26 @@
 //! predicate holds with the surely present edges exactly where the label of its last node is within its bound, and the walk
 //! that is kept with the label shows this for as many literals as it needed. So neither asks for a search.
 
-ghost use Rattle.std.specs.Prelude.{◌≡◌, ◌+◌, ◌<◌, ◌≤◌, ◌^◌, ℕ, List, int_le, length, pos, IfOk, IfSome, IsTrue, OnErr, OnOk};
+ghost use Rattle.std.specs.Prelude.{◌≡◌, ◌+◌, ◌<◌, ◌≤◌, ◌^◌, ℕ, List, All, int_le, length, map, pos, IfOk, IfSome, IsTrue, OnErr, OnOk};
 ghost use Rattle.mono_graph.specs.Walks.{is_path};
-ghost use Rattle.mono_dynamic.specs.LeastRows.{costs_at, AreCostRows};
+ghost use Rattle.std.specs.List.{AllZip};
+ghost use Rattle.mono_dynamic.specs.Costs.{made_after};
+ghost use Rattle.mono_dynamic.specs.LeastRows.{costs_at, IsCostRow, IsGrownCosts};
+ghost use Rattle.mono_theory.specs.DueNodes.{PutsNodes, PutsRows};
 ghost use Rattle.mono_theory.specs.Bound.{edge_vars};
 ghost use Rattle.mono_theory.specs.Index.{ArePlacesOf};
 ghost use Rattle.mono_theory.specs.Supports.{atom_at};
-ghost use Rattle.mono_rows.specs.SureParts.{sure_parts};
+ghost use Rattle.mono_theory.specs.SureParts.{sure_parts};
 ghost use Rattle.mono_distance.specs.Distances.{predicate_of};
-ghost use Rattle.mono_distance.specs.SureLabels.{is_within as is_within_of, row_of_atom, under_label, AreGrownLabels, AreLabelsAfter};
+ghost use Rattle.mono_distance.specs.SureLabels.{is_within as is_within_of, row_of_atom, under_label, AreLabelsAfter};
 
 use crate::distance::{Asked, Distance, what_is_asked};
-use crate::sources::Sources;
+use crate::sources::{last_nodes, limits_of, sources_of};
 use mono_base::Lit;
-use mono_dynamic::LeastBySource;
+use mono_dynamic::{BySource, LeastCosts, Sources};
 use mono_graph::{Graph, Limit};
-use mono_rows::Rows;
 use mono_theory::walks::walk_evidence;
-use mono_theory::{Bounds, Evidence, Frame};
+use mono_theory::{AtomsByNode, Bounds, Due, Evidence, Frame, Rows};
 use std::alloc::{AllocError, Global};
 use std::marker::Model;
 
@@ -35,9 +37,13 @@ pub const MAX_LABELS: usize = 4_000_000;
 /// The rows of labels from the atoms' first nodes.
 #[derive(Drop)]
 pub struct LeastRows {
-    rows: LeastBySource,
+    rows: BySource<LeastCosts>,
     /// By place of an atom its row.
     row_of: Vec<u32>,
+    /// The atoms by their last nodes.
+    lasts: AtomsByNode,
+    /// By place of an atom its limit.
+    limits: Vec<Limit>,
 }
 
 impl Model for LeastRows {
@@ -45,7 +51,7 @@ impl Model for LeastRows {
 
     ghost Value = { SureLabels };
 
-    ghost view = { λ s. record { rows = s.rows; row_of = s.row_of.items } };
+    ghost view = { λ s. record { rows = s.rows; row_of = s.row_of.items; lasts = s.lasts; limits = s.limits.items } };
 }
 
 /// Whether a number is at most a bound.
@@ -66,6 +72,26 @@ pub(crate) fn is_within(label: u64, limit: Limit) -> bool
     }
 }
 
+/// Puts the atoms in `due` whose last nodes have labels that fell after the first `looked` steps.
+fn put_due(lasts: &AtomsByNode, row: &LeastCosts, looked: u32, due: &mut Due)
+    requires { length due.old ≡ length lasts.now }
+    ensures { PutsNodes lasts.now (map (λ c. c.node) (made_after looked row.now.changes)) due.old due.new }
+{
+    for change in row.changes_after(looked) {
+        lasts.insert(change.node, due);
+    }
+}
+
+/// So it is in each row.
+fn put_each_due(lasts: &AtomsByNode, rows: &BySource<LeastCosts>, looked: u32, due: &mut Due)
+    requires { length due.old ≡ length lasts.now }
+    ensures { PutsRows lasts.now (λ i. map (λ c. c.node) (made_after looked (costs_at rows.now i).changes)) (length rows.now) due.old due.new }
+{
+    for i in 0..rows.count() {
+        put_due(lasts, rows.row(i), looked, due);
+    }
+}
+
 impl LeastRows {
     /// The edges of a variable have come, with the literal after the first `looked`, which leaves these bounds.
     fn grow(
@@ -75,11 +101,11 @@ impl LeastRows {
         looked: usize,
         var: u32,
     ) -> Result<(), AllocError>
-        requires rows { AreCostRows graph.now.nodes looked self.old.rows }
+        requires rows { All (IsCostRow graph.now.nodes looked) self.old.rows }
         requires looked { looked + 1 < 2 ^ 32 }
         requires vars { bounds.now.vars ≡ edge_vars graph.now }
         ensures same { OnOk result (self.new ≡ record self.old { rows = self.new.rows }) }
-        ensures grown { OnOk result ((ks : List ℕ) × ArePlacesOf bounds.now.vars var ks × AreGrownLabels graph.now bounds.now.under ks (looked + 1) self.old.rows self.new.rows) }
+        ensures grown { OnOk result ((ks : List ℕ) × ArePlacesOf bounds.now.vars var ks × AllZip (IsGrownCosts graph.now bounds.now.under ks (looked + 1)) self.old.rows self.new.rows) }
         ensures unchanged { OnErr result (self.new ≡ self.old) }
     {
         let _ = graph.nodes();
@@ -105,7 +131,7 @@ impl LeastRows {
         ensures { result ≡ under_label self.now place node }
     {
         let row = self.row(place);
-        self.rows.label(row, node)
+        self.rows.row(row).label(node)
     }
 
     /// The walk that is kept for the atom at a place, if it is one within its limit with the surely present edges of the
@@ -127,24 +153,33 @@ impl LeastRows {
         ensures { IfOk result (λ found. IfSome found (λ walk. IsTrue (is_path frame.now.graph (sure_parts frame.now kept) asked.from asked.to asked.limit walk.items))) }
     {
         let _ = frame.seen();
-        let row = self.row(place);
+        let row = self.rows.row(self.row(place));
         let stamp = kept.min(looked) as u32;
-        let label = self.rows.label_after(row, asked.to, stamp);
+        let label = row.label_after(asked.to, stamp);
         if !is_within(label, asked.limit) {
             return Ok(None);
         }
-        let walk = self.rows.walk_to(alloc, row, asked.to, stamp)?;
+        let walk = row.walk_to(alloc, asked.to, stamp)?;
         Ok(Some(walk))
     }
 }
 
 impl Rows<Distance> for LeastRows {
-    ghost use Rattle.mono_distance.specs.SureLabels.{AreSureLabels};
+    ghost use Rattle.std.specs.Prelude.{false};
+    ghost use Rattle.mono_distance.specs.SureLabels.{AlwaysStand, shows_last, AreSureLabels};
+
+    const IS_POSSIBLE: bool = false;
+
+    ghost IS_POSSIBLE = { false };
 
     ghost are_right = { AreSureLabels };
 
+    ghost shown = { shows_last };
+
+    ghost stand = { AlwaysStand };
+
     fn are_few(alloc: Global, frame: &Frame) -> Result<bool, AllocError> {
-        let sources = Sources::of_frame(alloc, frame)?;
+        let sources = sources_of(alloc, frame)?;
         let nodes = frame.graph().nodes() as usize;
         let labels = sources.rows.len().saturating_mul(nodes);
         Ok(labels <= MAX_LABELS)
@@ -152,10 +187,19 @@ impl Rows<Distance> for LeastRows {
 
     fn of_frame(alloc: Global, frame: &Frame) -> Result<Self, AllocError> {
         let graph = frame.graph();
-        let sources = Sources::of_frame(alloc, frame)?;
+        let _ = frame.atom_count();
+        let sources = sources_of(alloc, frame)?;
+        let nodes = last_nodes(alloc, frame)?;
+        let lasts = AtomsByNode::new(alloc, nodes)?;
+        let limits = limits_of(alloc, frame)?;
         let Sources { rows, row_of } = sources;
-        let rows = LeastBySource::new(alloc, graph.nodes(), rows.as_slice())?;
-        Ok(LeastRows { rows, row_of })
+        let rows = BySource::new(alloc, graph.nodes(), rows.as_slice())?;
+        Ok(LeastRows {
+            rows,
+            row_of,
+            lasts,
+            limits,
+        })
     }
 
     fn look_at(
@@ -164,6 +208,7 @@ impl Rows<Distance> for LeastRows {
         bounds: &Bounds,
         looked: usize,
         lit: Lit,
+        due: &mut Due,
     ) -> Result<(), AllocError> {
         let _ = frame.seen();
         // The variable of a literal isn't 0.
@@ -172,6 +217,19 @@ impl Rows<Distance> for LeastRows {
             return Ok(());
         }
         self.grow(frame.graph(), bounds, looked, var)?;
+        put_each_due(&self.lasts, &self.rows, looked as u32, due);
+        Ok(())
+    }
+
+    fn settle(
+        &mut self,
+        alloc: Global,
+        frame: &Frame,
+        bounds: &Bounds,
+        looked: usize,
+        due: &mut Due,
+    ) -> Result<(), AllocError> {
+        let _ = frame.seen();
         Ok(())
     }
 

@@ -15,9 +15,8 @@ use crate::distance::{Asked, Distance, what_is_asked};
 use crate::label_table::others_of;
 use crate::least_rows::{LeastRows, is_within};
 use mono_graph::{Label, Limit};
-use mono_rows::EitherSide;
 use mono_steps::Witness;
-use mono_theory::{Frame, GraphTheory, KeptSide};
+use mono_theory::{EitherSide, Frame, GraphTheory, KeptSide};
 
 /// What a theory knows of a node, for one of its atoms.
 #[derive(Clone, Copy, Debug, PartialEq, Eq)]
@@ -154,7 +153,7 @@ fn under_by_searches(
     if node != asked.to {
         return None;
     }
-    match kept.shown_witness(frame, false, place) {
+    match kept.shown_witness(place) {
         Some(_) => Some(number_of(asked.limit)),
         None => None,
     }
@@ -202,7 +201,7 @@ impl HasLabels for GraphTheory<Distance, EitherSide<LeastRows>> {
         let side = self.surely();
         let held = frame.atom_at(place as usize);
         let asked = what_is_asked(held.predicate);
-        let witness = self.possibly().shown_witness(frame, true, place);
+        let witness = self.possibly().shown_witness(place);
         Labels {
             under: under_by(side, frame, place, asked, node),
             over: over_by(witness, asked.limit, node),

@@ -41,10 +41,10 @@ pub fn labels_with_surely_present_edges()
     ensures first_node { (labels_in (keeping within_7 (rows_with 1 (0 ∷ 5 ∷ [])) (labelled [])) 4 0).under ≡ Some 0 }
     ensures at_the_bound { (labels_in (keeping within_7 (rows_with 1 (0 ∷ 7 ∷ [])) (labelled [])) 4 1).under ≡ Some 7 }
     ensures beyond { (labels_in (keeping within_7 (rows_with 1 (0 ∷ 8 ∷ [])) (labelled [])) 4 1).under ≡ None }
-    ensures found { (labels_in (keeping within_7 (searched (stage.Shows 1)) (labelled [])) 4 1).under ≡ Some 7 }
-    ensures found_in_steps { (labels_in (keeping (kind.Steps 0 1 (pos 3)) (searched (stage.Shows 1)) (labelled [])) 4 1).under ≡ Some 3 }
-    ensures found_elsewhere { (labels_in (keeping within_7 (searched (stage.Shows 1)) (labelled [])) 4 0).under ≡ None }
-    ensures stands { (labels_in (keeping within_7 (searched stage.Stands) (labelled [])) 4 1).under ≡ None }
+    ensures found { (labels_in (keeping within_7 (searched (stage.Forcing 1)) (labelled [])) 4 1).under ≡ Some 7 }
+    ensures found_in_steps { (labels_in (keeping (kind.Steps 0 1 (pos 3)) (searched (stage.Forcing 1)) (labelled [])) 4 1).under ≡ Some 3 }
+    ensures found_elsewhere { (labels_in (keeping within_7 (searched (stage.Forcing 1)) (labelled [])) 4 0).under ≡ None }
+    ensures stands { (labels_in (keeping within_7 (searched stage.Supported) (labelled [])) 4 1).under ≡ None }
     ensures waits { (labels_in (keeping within_7 (searched stage.Waits) (labelled [])) 4 1).under ≡ None }
 {}
 
@@ -57,17 +57,17 @@ pub fn labels_with_possibly_present_edges()
     ensures cut { (labels_in (keeping within_7 (searched stage.Waits) (labelled (label 1 20 ∷ []))) 4 1).over ≡ 8 }
     ensures never_met { (labels_in (keeping (kind.Distance 0 1 (negsuc 0)) (searched stage.Waits) (labelled (label 1 20 ∷ []))) 4 1).over ≡ 0 }
     ensures waits { (labels_in (keeping within_7 (searched stage.Waits) (showing stage.Waits (Some (by.Label (label 1 5 ∷ []))))) 4 1).over ≡ 0 }
-    ensures stands { (labels_in (keeping within_7 (searched stage.Waits) (showing stage.Stands (Some (by.Label (label 1 5 ∷ []))))) 4 1).over ≡ 0 }
-    ensures other_witness { (labels_in (keeping within_7 (searched stage.Waits) (showing (stage.Shows 0) (Some (by.Path [])))) 4 1).over ≡ 0 }
-    ensures nothing_shown { (labels_in (keeping within_7 (searched stage.Waits) (showing (stage.Shows 0) None)) 4 1).over ≡ 0 }
+    ensures stands { (labels_in (keeping within_7 (searched stage.Waits) (showing stage.Supported (Some (by.Label (label 1 5 ∷ []))))) 4 1).over ≡ 0 }
+    ensures other_witness { (labels_in (keeping within_7 (searched stage.Waits) (showing (stage.Forcing 0) (Some (by.Path [])))) 4 1).over ≡ 0 }
+    ensures nothing_shown { (labels_in (keeping within_7 (searched stage.Waits) (showing (stage.Forcing 0) None)) 4 1).over ≡ 0 }
 {}
 
 /// What is kept decides where rows are those of all literals seen, or searches leave no atom waiting, and none waits with the
 /// possibly present edges.
 pub fn theories_that_decide()
-    ensures rows { AreBothDecided (keeping within_7 (rows_with 1 (0 ∷ 5 ∷ [])) (showing stage.Stands None)) }
-    ensures searches { AreBothDecided (keeping within_7 (searched stage.Stands) (showing (stage.Shows 1) None)) }
-    ensures rows_behind { AreBothDecided (keeping within_7 (rows_with 0 (0 ∷ 5 ∷ [])) (showing stage.Stands None)) → ⊥ }
-    ensures surely_waits { AreBothDecided (keeping within_7 (searched stage.Waits) (showing stage.Stands None)) → ⊥ }
+    ensures rows { AreBothDecided (keeping within_7 (rows_with 1 (0 ∷ 5 ∷ [])) (showing stage.Supported None)) }
+    ensures searches { AreBothDecided (keeping within_7 (searched stage.Supported) (showing (stage.Forcing 1) None)) }
+    ensures rows_behind { AreBothDecided (keeping within_7 (rows_with 0 (0 ∷ 5 ∷ [])) (showing stage.Supported None)) → ⊥ }
+    ensures surely_waits { AreBothDecided (keeping within_7 (searched stage.Waits) (showing stage.Supported None)) → ⊥ }
     ensures possibly_waits { AreBothDecided (keeping within_7 (rows_with 1 (0 ∷ 5 ∷ [])) (showing stage.Waits None)) → ⊥ }
 {}

@@ -1,10 +1,12 @@
 -- Changes that are taken back, and lists of them by stamp.
-use Rattle.std.proofs.Common.{◌≡◌, ℕ, zero, suc, ◌+◌, ◌-◌, ◌<◌, ◌≤◌, ◌⊎◌, true, false, not, List, [], ◌∷◌, ◌++◌, length, set, take, drop, refl, sym, ap, subst, ◌∙◌, inl, inr, arith}
-use Rattle.std.specs.Prelude.{All, nat_le}
-use Rattle.std.proofs.lemmas.Bool.{le-leb, lt-leb, cases_lt, cases_eq}
+use Rattle.std.proofs.Common.{◌≡◌, ℕ, zero, suc, ◌+◌, ◌-◌, ◌<◌, ◌≤◌, ◌⊎◌, true, false, not, List, [], ◌∷◌, ◌++◌, length, map, set, take, drop, refl, sym, ap, subst, ◌∙◌, inl, inr, arith}
+use Rattle.std.specs.Prelude.{All, IsTrue, nat_le}
+use Rattle.std.proofs.lemmas.Bool.{le-leb, lt-leb, cases_lt, cases_eq, both_ways, false_from_ne_true}
 use Rattle.std.proofs.lemmas.List.{length-set, take-append-drop, append_assoc, get_or-set_same, get_or-set_other, get_or_past, set-set, set-get_or, append-nil, take_at, drop_at, get_or-take, get_or-drop, length-take, length-drop, length-append, get_or_append_left}
 use Rattle.std.proofs.Math.Seq.{get_or-append_seam}
 use Rattle.std.proofs.lemmas.List.Elements.{filter-append, All-append, All-cons, All-nil}
+use Rattle.mono_graph.specs.Digraph.{has}
+use Rattle.mono_graph.proofs.Membership.{has_here, has_there}
 use Rattle.mono_graph.specs.declared.limit.Limit.{Limit}
 use Rattle.mono_dynamic.specs.declared.change.Change.{Change}
 use Rattle.mono_dynamic.specs.Costs.{Costs, no_change, change_at, label_of, unwound, made_by, made_after, labels_after, IsLater, AreKept, AreLinked}
@@ -18,6 +20,13 @@ length-unwound labels [] = refl
 length-unwound labels (c ∷ cs) = length-set (unwound labels cs) c.node c.old ∙ length-unwound labels cs
 
 -- a lowered label is raised again by its change
+-- a node without a change keeps its label
+pub unwound_other : (labels : List ℕ) (cs : List Change) (v : ℕ) → has (map (λ c. c.node) cs) v ≡ false → label_of (unwound labels cs) v ≡ label_of labels v
+unwound_other labels [] v none = refl
+unwound_other labels (c ∷ cs) v none =
+    get_or-set_other (unwound labels cs) c.node v c.old 0 (λ same. both_ways (has (map (λ (d : Change). d.node) (c ∷ cs)) v) none (subst (λ (w : ℕ). IsTrue (has (c.node ∷ map (λ (d : Change). d.node) cs) w)) (sym same) (has_here c.node (map (λ (d : Change). d.node) cs))))
+    ∙ unwound_other labels cs v (false_from_ne_true (has (map (λ (d : Change). d.node) cs) v) (λ later. both_ways (has (map (λ (d : Change). d.node) (c ∷ cs)) v) none (has_there c.node v (map (λ (d : Change). d.node) cs) later)))
+
 pub unwound_one : (labels : List ℕ) (c : Change) → c.old ≡ label_of labels c.node → unwound (set labels c.node c.label) (c ∷ []) ≡ labels
 unwound_one labels c old = set-set labels c.node c.label c.old ∙ (ap (λ (l : ℕ). set labels c.node l) old ∙ set-get_or labels c.node 0)
 
@@ -208,3 +217,9 @@ kept_pushed most labels cs latest now c k room old below stamps linked =
       ];
       linked = linked;
     }
+
+-- a node that the last step doesn't change keeps its label
+pub label_same : (looked stamp v : ℕ) (old new : Costs) → looked < stamp → All (λ (c : Change). c.stamp ≤ looked) old.changes → IsLater stamp old new → has (map (λ c. c.node) (made_after looked new.changes)) v ≡ false → label_of new.labels v ≡ label_of old.labels v
+label_same looked stamp v old new less early later none =
+    sym (unwound_other new.labels (made_after looked new.changes) v none)
+    ∙ (ap (λ (ls : List ℕ). label_of ls v) (later_earlier stamp looked old new later less) ∙ ap (λ (cs : List Change). label_of (unwound old.labels cs) v) (after_none looked old.changes early))

@@ -2,9 +2,9 @@
 use Rattle.std.proofs.Common.{◌≡◌, ℕ, zero, suc, ◌<◌, [], ◌∷◌, List, refl, arith, pos}
 use Rattle.std.specs.Prelude.{IsTrue}
 use Rattle.mono_graph.specs.declared.limit.Limit.TheVariants.{Steps, Weight}
-use Rattle.mono_graph.specs.Walks.{is_walk}
+use Rattle.mono_graph.specs.Walks.{is_walk, cost_along}
 use Rattle.mono_graph.specs.Worked.{parallel, both, last_alone, neither}
-use Rattle.mono_dynamic.specs.Costs.{label_of, cost_along, AreLeast}
+use Rattle.mono_dynamic.specs.Costs.{label_of, AreLeast}
 use Rattle.mono_dynamic.proofs.Rows.{least_by_test}
 
 pub least_both : AreLeast (parallel 1 4) both (Weight (pos 9)) 0 10 (0 ∷ 1 ∷ [])

@@ -7,10 +7,10 @@ use Rattle.std.proofs.lemmas.List.Sums.{sum_by-cons}
 use Rattle.std.proofs.Math.Seq.{get_or-append_seam}
 use Rattle.mono_graph.specs.declared.limit.Limit.{Limit}
 use Rattle.mono_graph.specs.Digraph.{Digraph, edge_at, present, has}
-use Rattle.mono_graph.specs.Walks.{is_walk, cost_of}
+use Rattle.mono_graph.specs.Walks.{is_walk, cost_of, cost_along}
 use Rattle.mono_dynamic.specs.declared.change.Change.{Change}
 use Rattle.mono_dynamic.specs.Arrivals.{IsGrown}
-use Rattle.mono_dynamic.specs.Costs.{Costs, no_change, change_at, label_of, unwound, cost_along, made_after, node_by, label_by, labels_after, IsLast, IsLed, HasSource, AreLed, IsGiven, AreLeastAlong}
+use Rattle.mono_dynamic.specs.Costs.{Costs, no_change, change_at, label_of, unwound, made_after, node_by, label_by, labels_after, IsLast, IsLed, HasSource, AreLed, IsGiven, AreLeastAlong}
 use Rattle.mono_dynamic.proofs.CostLists.{unwound-append, unwound_one, length-unwound}
 use Rattle.mono_dynamic.proofs.CostLinks.{unwound_untouched}
 use Rattle.mono_dynamic.proofs.Exact.{walk_front, walk_none}

@@ -7,7 +7,7 @@ use Rattle.std.proofs.lemmas.List.{drop_all}
 use Rattle.std.proofs.lemmas.List.Elements.{All-cons, All-nil}
 use Rattle.mono_graph.specs.Digraph.{Digraph, edge_at, present, has, is_place}
 use Rattle.mono_graph.specs.Walks.{leads, is_walk}
-use Rattle.mono_graph.proofs.WalkLaws.{IsClosed, stays}
+use Rattle.mono_graph.proofs.CutsBoundWalks.{IsClosed, stays}
 use Rattle.mono_dynamic.specs.declared.arrival.Arrival.{Arrival}
 use Rattle.mono_dynamic.specs.Arrivals.{arrival_at, at_source, reached, is_reached, within, IsTree, AreReached, AreReachedAlong, IsGrown, GrowsAfter}
 use Rattle.mono_dynamic.specs.Reached.{Reached, IsSpread}

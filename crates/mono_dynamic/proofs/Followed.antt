@@ -55,7 +55,7 @@ reached_old xs a v h = subst (λ (us : List ℕ). IsTrue (has us v)) (sym (reach
 pub reached_new : (xs : List Arrival) (a : Arrival) → IsTrue (is_reached (xs ++ a ∷ []) a.node)
 reached_new xs a = subst (λ (us : List ℕ). IsTrue (has us a.node)) (sym (reached_push xs a)) (has_new (reached xs) a.node)
 
-reached_cases : (xs : List Arrival) (a : Arrival) (v : ℕ) → IsTrue (is_reached (xs ++ a ∷ []) v) → IsTrue (is_reached xs v) ⊎ (a.node ≡ v)
+pub reached_cases : (xs : List Arrival) (a : Arrival) (v : ℕ) → IsTrue (is_reached (xs ++ a ∷ []) v) → IsTrue (is_reached xs v) ⊎ (a.node ≡ v)
 reached_cases xs a v h = elim (has_append_cases (reached xs) (a.node ∷ []) v (subst (λ (us : List ℕ). IsTrue (has us v)) (reached_push xs a) h)) [
   | inl old ↦ inl old
   | inr new ↦ elim (has_cons a.node v [] new) [ inl e ↦ inr e | inr none ↦ absurd cc ]
@@ -177,7 +177,7 @@ growing g P stamp places old new head at f = record {
 }
 
 -- the edges of the next arrival are those to look at now
-spread_head : (g : Digraph) (P : List Bool) (xs : List Arrival) (head : ℕ) → head < length xs → IsSpread g P xs head [] → IsSpread g P xs (head + 1) (leaving g (arrival_at xs head).node)
+pub spread_head : (g : Digraph) (P : List Bool) (xs : List Arrival) (head : ℕ) → head < length xs → IsSpread g P xs head [] → IsSpread g P xs (head + 1) (leaving g (arrival_at xs head).node)
 spread_head g P xs head lt s =
     let front : drop head (reached xs) ≡ (arrival_at xs head).node ∷ drop (head + 1) (reached xs) =
     drop_more (reached xs) head 0 (omega (arith, count_of xs)) ∙ ap (λ (v : ℕ). v ∷ drop (head + 1) (reached xs)) (node_at xs head lt)

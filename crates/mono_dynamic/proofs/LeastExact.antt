@@ -8,10 +8,10 @@ use Rattle.std.proofs.lemmas.List.Sums.{sum_by_push, sum_by-cons}
 use Rattle.std.proofs.lemmas.List.Elements.{All-nil}
 use Rattle.mono_graph.specs.declared.limit.Limit.{Limit}
 use Rattle.mono_graph.specs.Digraph.{Digraph, edge_at, present, has, is_place}
-use Rattle.mono_graph.specs.Walks.{is_walk, leads, cost_of}
+use Rattle.mono_graph.specs.Walks.{is_walk, leads, cost_of, cost_along}
 use Rattle.mono_dynamic.specs.declared.change.Change.{Change}
 use Rattle.mono_dynamic.specs.Arrivals.{IsGrown, GrowsAfter}
-use Rattle.mono_dynamic.specs.Costs.{Costs, label_of, cost_along, AreAttained, AreLeast, AreLeastAlong, IsTight, AreTight, AreRelaxed, IsLater, unwound, made_by, made_after, labels_after, no_change, change_at, IsLed, AreLed}
+use Rattle.mono_dynamic.specs.Costs.{Costs, label_of, AreAttained, AreLeast, AreLeastAlong, IsTight, AreTight, AreRelaxed, IsLater, unwound, made_by, made_after, labels_after, no_change, change_at, IsLed, AreLed}
 use Rattle.mono_dynamic.proofs.Exact.{walks, is_walk_of, walk_push, walk_none}
 use Rattle.mono_dynamic.proofs.CostWalks.{led_same, led_grown}
 use Rattle.mono_dynamic.proofs.CostLists.{after_none, after_parts, by_latest, unwound-append, later_earlier}

@@ -11,4 +11,8 @@ pub mod Tight
 pub mod LeastExact
 pub mod CostRows
 pub mod RowLists
-pub mod LeastRowLists
+pub mod RowsUndone
+pub mod CostsRestored
+pub mod SearchTrees
+pub mod RowTables
+pub mod Lacking

@@ -1,12 +1,13 @@
 -- The list of arrivals, and its first parts by stamp.
-use Rattle.std.proofs.Common.{◌≡◌, ℕ, zero, suc, ◌<◌, ◌≤◌, ◌-◌, ◌⊎◌, true, false, List, [], ◌∷◌, ◌++◌, length, get_or, set, take, refl, sym, ap, subst, ◌∙◌, inl, inr, arith, length-append}
+use Rattle.std.proofs.Common.{◌≡◌, ℕ, zero, suc, ◌<◌, ◌≤◌, ◌-◌, ◌⊎◌, true, false, List, [], ◌∷◌, ◌++◌, length, get_or, set, take, drop, refl, sym, ap, subst, ◌∙◌, inl, inr, arith, length-append}
 use Rattle.std.specs.Prelude.{IsTrue, All, nat_le}
 use Rattle.std.proofs.lemmas.Bool.{le-leb, lt-leb, leb-true, cases_lt, false_from_ne_true, both_ways}
 use Rattle.std.proofs.lemmas.List.{map-append, length-map, get_or-map, get_or_append_left, get_or_push, get_or-set_same, get_or-set_other, length-set, get_or-take, append-nil}
 use Rattle.std.proofs.lemmas.List.Elements.{filter-append}
+use Rattle.mono_graph.specs.Digraph.{has}
 use Rattle.mono_graph.proofs.Membership.{has_get_or, has_cons, has_here, has_there, same_truth}
 use Rattle.mono_dynamic.specs.declared.arrival.Arrival.{Arrival}
-use Rattle.mono_dynamic.specs.Arrivals.{no_arrival, arrival_at, reached, is_reached, within}
+use Rattle.mono_dynamic.specs.Arrivals.{no_arrival, after, arrival_at, reached, is_reached, within}
 use Rattle.mono_dynamic.specs.Reached.{ArePlaced, AreOrdered, IsKept}
 use Rattle.mono_dynamic.proofs.Lists.{index_of, NamesPlaces, no_more, has_room}
 
@@ -121,6 +122,55 @@ within_split m (suc n) (x ∷ xs) low high =
     within_here m x xs (low 0 (omega arith) (omega arith))
     ∙ ap (λ (ys : List Arrival). x ∷ ys) (within_split m n xs (λ i lt here. low (suc i) (omega arith) (omega arith)) (λ i le here. high (suc i) (omega arith) (omega arith)))
 
+-- ---- and what is later
+
+past_here : (m : ℕ) (x : Arrival) (xs : List Arrival) → x.stamp ≤ m → after m (x ∷ xs) ≡ after m xs
+past_here m x xs le = let on : nat_le x.stamp m ≡ true = le-leb x.stamp m le in rw on refl
+
+past_more : (m : ℕ) (x : Arrival) (xs : List Arrival) → m < x.stamp → after m (x ∷ xs) ≡ x ∷ after m xs
+past_more m x xs lt = let off : nat_le x.stamp m ≡ false = lt-leb x.stamp m lt in rw off refl
+
+past_all : (m : ℕ) (xs : List Arrival) → ((i : ℕ) → i < length xs → m < (arrival_at xs i).stamp) → after m xs ≡ xs
+past_all m [] h = refl
+past_all m (x ∷ xs) h = past_more m x xs (h 0 (omega arith)) ∙ ap (λ (ys : List Arrival). x ∷ ys) (past_all m xs (λ i lt. h (suc i) (omega arith)))
+
+past_split : (m n : ℕ) (xs : List Arrival) → ((i : ℕ) → i < n → i < length xs → (arrival_at xs i).stamp ≤ m) → ((i : ℕ) → n ≤ i → i < length xs → m < (arrival_at xs i).stamp) → after m xs ≡ drop n xs
+past_split m zero xs low high = past_all m xs (λ i lt. high i (omega arith) lt)
+past_split m (suc n) [] low high = refl
+past_split m (suc n) (x ∷ xs) low high =
+    past_here m x xs (low 0 (omega arith) (omega arith)) ∙ past_split m n xs (λ i lt here. low (suc i) (omega arith) (omega arith)) (λ i le here. high (suc i) (omega arith) (omega arith))
+
+-- the arrivals before a place have stamps up to m, and the others later ones
+pub both_cut : (m n : ℕ) (xs : List Arrival) → ((i j : ℕ) → i ≤ j → j < length xs → (arrival_at xs i).stamp ≤ (arrival_at xs j).stamp) → n ≤ length xs → (n ≡ 0) ⊎ ((arrival_at xs (n - 1)).stamp ≤ m)
+    → ((i : ℕ) → n ≤ i → i < length xs → m < (arrival_at xs i).stamp) → (take n xs ≡ within m xs) × (drop n xs ≡ after m xs)
+both_cut m n xs rising le last high = (sym (within_split m n xs low high), sym (past_split m n xs low high))
+  where
+    low : (i : ℕ) → i < n → i < length xs → (arrival_at xs i).stamp ≤ m
+    low i lt here = elim last [
+      | inl none ↦ absurd (omega arith)
+      | inr top ↦ let r = rising i (n - 1) (omega arith) (omega arith) in omega (arith, r, top)
+    ]
+
+-- a node that was reached, and by none of the later steps, was reached by the first ones
+pub reached_before : (m : ℕ) (xs : List Arrival) (v : ℕ) → IsTrue (is_reached xs v) → has (reached (after m xs)) v ≡ false → IsTrue (is_reached (within m xs) v)
+reached_before m [] v h none = absurd cc
+reached_before m (x ∷ xs) v h none = elim (cases_lt m x.stamp) [
+  | inl lt ↦
+      let others : has (x.node ∷ reached (after m xs)) v ≡ false = subst (λ (ys : List Arrival). has (reached ys) v ≡ false) (past_more m x xs lt) none in
+      subst (λ (ys : List Arrival). IsTrue (is_reached ys v)) (sym (within_past m x xs lt))
+      (elim (has_cons x.node v (reached xs) h) [
+        | inl e ↦ absurd (both_ways (has (x.node ∷ reached (after m xs)) v) others (subst (λ (w : ℕ). IsTrue (has (x.node ∷ reached (after m xs)) w)) e (has_here x.node (reached (after m xs)))))
+        | inr t ↦ reached_before m xs v t (false_from_ne_true (has (reached (after m xs)) v) (λ later. both_ways (has (x.node ∷ reached (after m xs)) v) others (has_there x.node v (reached (after m xs)) later)))
+      ])
+  | inr le ↦
+      let rest : has (reached (after m xs)) v ≡ false = subst (λ (ys : List Arrival). has (reached ys) v ≡ false) (past_here m x xs le) none in
+      subst (λ (ys : List Arrival). IsTrue (is_reached ys v)) (sym (within_here m x xs le))
+      (elim (has_cons x.node v (reached xs) h) [
+        | inl e ↦ subst (λ (w : ℕ). IsTrue (has (x.node ∷ reached (within m xs)) w)) e (has_here x.node (reached (within m xs)))
+        | inr t ↦ has_there x.node v (reached (within m xs)) (reached_before m xs v t rest)
+      ])
+]
+
 pub within_prefix : (m : ℕ) (xs : List Arrival) → ((i j : ℕ) → i ≤ j → j < length xs → (arrival_at xs i).stamp ≤ (arrival_at xs j).stamp)
     → (length (within m xs) ≤ length xs) × (within m xs ≡ take (length (within m xs)) xs)
 within_prefix m [] rising = (omega arith, refl)
@@ -218,16 +268,6 @@ kept_within m u ps xs room k = record {
   };
   ordered = ordered_within m u xs k.ordered;
 }
-
--- the arrivals before a place have stamps up to m, and the others later ones
-pub within_cut : (m n u : ℕ) (xs : List Arrival) → AreOrdered u xs → n ≤ length xs → (n ≡ 0) ⊎ ((arrival_at xs (n - 1)).stamp ≤ m) → ((i : ℕ) → n ≤ i → i < length xs → m < (arrival_at xs i).stamp)
-    → within m xs ≡ take n xs
-within_cut m n u xs o le last high = within_split m n xs
-    (λ i low lt. elim last [
-      | inl none ↦ absurd (omega arith)
-      | inr top ↦ let r = o.rising i (n - 1) (omega arith) (omega arith) in omega (arith, r, top)
-    ])
-    high
 
 -- a node whose arrival is known was reached by the steps up to m where the arrival is among theirs
 pub arrival_within : (u m : ℕ) (ps : List ℕ) (xs : List Arrival) (v i room : ℕ) → IsKept u ps xs room → i < length xs → (arrival_at xs i).node ≡ v → IsTrue (is_reached (within m xs) v) → i < length (within m xs)

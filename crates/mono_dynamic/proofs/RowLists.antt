@@ -1,68 +1,69 @@
 -- Rows that change one after another.
-use Rattle.std.proofs.Common.{◌≡◌, ℕ, ◌+◌, ◌<◌, ◌≤◌, Bool, List, length, map, get_or, set, refl, sym, subst, ◌∙◌, inl, inr, arith}
-use Rattle.std.proofs.lemmas.Bool.{cases_eq}
-use Rattle.std.proofs.lemmas.List.{length-set, length-map, get_or-map, get_or-set_same, get_or-set_other, get_or_read, ext_get_or}
+use Rattle.std.proofs.Common.{◌≡◌, ℕ, suc, ◌+◌, ◌<◌, ◌≤◌, Bool, List, [], ◌∷◌, length, get_or, set, refl, sym, ap, subst, ◌∙◌, inl, inr, arith}
+use Rattle.std.specs.Prelude.{All}
+use Rattle.std.specs.List.{AllZip, each_same}
+use Rattle.std.proofs.lemmas.Bool.{cases_lt, cases_eq}
+use Rattle.std.proofs.lemmas.List.{length-set, set-get_or, get_or-set_same, get_or-set_other, get_or_read}
+use Rattle.std.proofs.lemmas.List.Elements.{length_all_zip, AllZip-get_or}
 use Rattle.mono_graph.specs.Digraph.{Digraph}
-use Rattle.mono_dynamic.specs.Arrivals.{AreReachedAlong, GrowsAfter}
-use Rattle.mono_dynamic.specs.Reached.{Reached}
-use Rattle.mono_dynamic.specs.Rows.{no_row, row_at, back_to, sources_of, AreAllReached, IsGrownRow, AreGrownRows}
-use Rattle.mono_dynamic.proofs.Exact.{along_undone}
+use Rattle.mono_dynamic.specs.BySource.{IsBack, OrSame}
 
 -- the rows before a place have changed, and the others have not
-pub record AreChanged (Is : Reached → Reached → Type 0) (olds nows : List Reached) (i : ℕ) : Type 0 where
+pub record AreChanged {X : Type 0} (Is : X → X → Type 0) (olds nows : List X) (i : ℕ) : Type 0 where
   pub len : length nows ≡ length olds
-  pub done : (j : ℕ) → j < i → j < length olds → Is (row_at olds j) (row_at nows j)
-  pub rest : (j : ℕ) → i ≤ j → row_at nows j ≡ row_at olds j
+  pub done : (j : ℕ) (d : X) → j < i → j < length olds → Is (get_or olds j d) (get_or nows j d)
+  pub rest : (j : ℕ) (d : X) → i ≤ j → get_or nows j d ≡ get_or olds j d
 
-pub changed_none : (Is : Reached → Reached → Type 0) (olds : List Reached) → AreChanged Is olds olds 0
-changed_none Is olds = record { len = refl; done = λ j lt low. absurd (omega arith); rest = λ j le. refl }
+pub changed_none : {X : Type 0} (Is : X → X → Type 0) (olds : List X) → AreChanged Is olds olds 0
+changed_none Is olds = record { len = refl; done = λ j d lt low. absurd (omega arith); rest = λ j d le. refl }
 
-pub row_read : (nows : List Reached) (i : ℕ) (r : Reached) → i < length nows → r ≡ get_or nows i r → r ≡ row_at nows i
-row_read nows i r lt is = get_or_read nows i r lt is no_row
+-- the row at the place is one of those at the beginning
+pub row_before : {X : Type 0} {Is : X → X → Type 0} {olds nows : List X} {i : ℕ} (r : X) → AreChanged Is olds nows i → r ≡ get_or nows i r → r ≡ get_or olds i r
+row_before {i = i} r c is = is ∙ c.rest i r (omega arith)
 
-pub changed_more : (Is : Reached → Reached → Type 0) (olds nows : List Reached) (i : ℕ) (r new : Reached) → AreChanged Is olds nows i → i < length nows → r ≡ get_or nows i r → Is r new → AreChanged Is olds (set nows i new) (i + 1)
-changed_more Is olds nows i r new c lt is changed = record {
+pub changed_more : {X : Type 0} {Is : X → X → Type 0} {olds nows : List X} {i : ℕ} (r new : X) → AreChanged Is olds nows i → i < length nows → r ≡ get_or nows i r → Is r new → AreChanged Is olds (set nows i new) (i + 1)
+changed_more {X = X} {Is = Is} {olds = olds} {nows = nows} {i = i} r new c lt is changed = record {
   len = length-set nows i new ∙ c.len;
-  done = λ j low inside. elim (cases_eq j i) [
+  done = λ j d low inside. elim (cases_eq j i) [
     | inl here ↦
-        subst (λ (k : ℕ). Is (row_at olds k) (row_at (set nows i new) k)) (sym here)
-        (subst (λ (x : Reached). Is x (row_at (set nows i new) i)) (row_read nows i r lt is ∙ c.rest i (omega arith))
-        (subst (λ (y : Reached). Is r y) (sym (get_or-set_same nows i new no_row lt)) changed))
-    | inr other ↦ subst (λ (y : Reached). Is (row_at olds j) y) (sym (get_or-set_other nows i j new no_row other)) (c.done j (omega arith) inside)
+        subst (λ (k : ℕ). Is (get_or olds k d) (get_or (set nows i new) k d)) (sym here)
+        (subst (λ (x : X). Is x (get_or (set nows i new) i d)) (get_or_read nows i r lt is d ∙ c.rest i d (omega arith))
+        (subst (λ (y : X). Is r y) (sym (get_or-set_same nows i new d lt)) changed))
+    | inr other ↦ subst (λ (y : X). Is (get_or olds j d) y) (sym (get_or-set_other nows i j new d other)) (c.done j d (omega arith) inside)
   ];
-  rest = λ j le. get_or-set_other nows i j new no_row (omega arith) ∙ c.rest j (omega arith);
+  rest = λ j d le. get_or-set_other nows i j new d (omega arith) ∙ c.rest j d (omega arith);
 }
 
-pub grown_rows : (g : Digraph) (Q : List Bool) (ks : List ℕ) (stamp : ℕ) (olds nows : List Reached) (i : ℕ) → length nows ≤ i → AreChanged (IsGrownRow g Q ks stamp) olds nows i → AreGrownRows g Q ks stamp olds nows
-grown_rows g Q ks stamp olds nows i le c = record { len = c.len; each = λ j lt. c.done j (let len = c.len in omega arith) lt }
+all_zip_by : {X : Type 0} (Is : X → X → Type 0) (xs ys : List X) → length ys ≡ length xs → ((j : ℕ) (d : X) → j < length xs → Is (get_or xs j d) (get_or ys j d)) → AllZip Is xs ys
+all_zip_by Is [] [] len h = tt
+all_zip_by Is [] (y ∷ ys) len h = absurd (omega (arith, len))
+all_zip_by Is (x ∷ xs) [] len h = absurd (omega (arith, len))
+all_zip_by Is (x ∷ xs) (y ∷ ys) len h = (h 0 x (omega arith), all_zip_by Is xs ys (omega (arith, len)) (λ j d lt. h (suc j) d (omega (arith, lt))))
 
-pub undone_rows : (kept : ℕ) (olds nows : List Reached) (i : ℕ) → length nows ≤ i → AreChanged (λ old new. new ≡ back_to kept old) olds nows i → nows ≡ map (back_to kept) olds
-undone_rows kept olds nows i le c =
-    ext_get_or no_row nows (map (back_to kept) olds) (c.len ∙ sym (length-map olds (back_to kept)))
-    (λ j lt. let low : j < length olds = (let len = c.len in omega arith) in c.done j (omega arith) low ∙ sym (get_or-map (back_to kept) olds j no_row no_row low))
+-- all have
+pub all_changed : {X : Type 0} {Is : X → X → Type 0} {olds nows : List X} {i : ℕ} → length nows ≤ i → AreChanged Is olds nows i → AllZip Is olds nows
+all_changed {Is = Is} {olds = olds} {nows = nows} {i = i} le c = all_zip_by Is olds nows c.len (λ j d lt. c.done j d (let len = c.len in omega (arith, le, len, lt)) lt)
 
-pub same_sources : (g : Digraph) (Q : List Bool) (ks : List ℕ) (stamp : ℕ) (olds news : List Reached) → AreGrownRows g Q ks stamp olds news → sources_of news ≡ sources_of olds
-same_sources g Q ks stamp olds news r =
-    ext_get_or 0 (sources_of news) (sources_of olds) (length-map news (λ (x : Reached). x.source) ∙ (r.len ∙ sym (length-map olds (λ (x : Reached). x.source))))
-    (λ j lt.
-    let here : j < length news = omega (arith, lt, length-map news (λ (x : Reached). x.source)) in
-    let there : j < length olds = (let len = r.len in omega arith) in
-    get_or-map (λ (x : Reached). x.source) news j no_row 0 here ∙ ((r.each j there).source ∙ sym (get_or-map (λ (x : Reached). x.source) olds j no_row 0 there)))
+-- some have
+pub some_changed : {X : Type 0} {Is : X → X → Type 0} {olds nows : List X} {i : ℕ} → AreChanged Is olds nows i → AllZip (OrSame Is) olds nows
+some_changed {Is = Is} {olds = olds} {nows = nows} {i = i} c =
+    all_zip_by (OrSame Is) olds nows c.len (λ j d lt. elim (cases_lt j i) [ inl before ↦ inr (c.done j d before lt) | inr past ↦ inl (c.rest j d past) ])
 
-pub all_grown : (g : Digraph) (Q : List Bool) (ks : List ℕ) (stamp : ℕ) (olds news : List Reached) → AreGrownRows g Q ks stamp olds news
-    → (parts : ℕ → List Bool) (n : ℕ) → AreAllReached g parts n olds → GrowsAfter parts n stamp Q ks → AreAllReached g parts stamp news
-all_grown g Q ks stamp olds news r parts n all grows = record {
-  each = λ i lt.
-      let there : i < length olds = (let len = r.len in omega arith) in
-      let row = r.each i there in
-      subst (λ (u : ℕ). AreReachedAlong g parts stamp u (row_at news i).arrivals) (sym row.source) (row.along parts n (all.each i there) grows);
-}
+-- the row at the place stayed as it was
+pub some_changed_set : {X : Type 0} {Is : X → X → Type 0} {olds nows : List X} {i : ℕ} (r new : X) → AreChanged Is olds nows i → r ≡ get_or nows i r → new ≡ r → AllZip (OrSame Is) olds (set nows i new)
+some_changed_set {X = X} {Is = Is} {olds = olds} {nows = nows} {i = i} r new c is same =
+    subst (λ (xs : List X). AllZip (OrSame Is) olds xs) (sym (ap (set nows i) (same ∙ is) ∙ set-get_or nows i r)) (some_changed c)
 
-pub all_undone : (kept : ℕ) (olds news : List Reached) → news ≡ map (back_to kept) olds
-    → (g : Digraph) (parts : ℕ → List Bool) (n : ℕ) → kept ≤ n → AreAllReached g parts n olds → AreAllReached g parts kept news
-all_undone kept olds news is g parts n le all = subst (λ (rows : List Reached). AreAllReached g parts kept rows) (sym is) (record {
-  each = λ i lt.
-      let there : i < length olds = omega (arith, lt, length-map olds (back_to kept)) in
-      subst (λ (r : Reached). AreReachedAlong g parts kept r.source r.arrivals) (sym (get_or-map (back_to kept) olds i no_row no_row there))
-      (along_undone g parts kept n (row_at olds i).source (row_at olds i).arrivals le (all.each i there));
-})
+-- all went back
+pub all_undone : {X : Type 0} (Fits : ℕ → ℕ → X → Type 0) (Grown : Digraph → List Bool → List ℕ → ℕ → X → X → Type 0) (Undone : ℕ → X → X → Type 0) (kept : ℕ) (olds news : List X) → AllZip (IsBack Fits Grown Undone kept) olds news → AllZip (Undone kept) olds news
+all_undone Fits Grown Undone kept olds news back =
+    all_zip_by (Undone kept) olds news (sym (length_all_zip (IsBack Fits Grown Undone kept) olds news back)) (λ j d lt. (AllZip-get_or (IsBack Fits Grown Undone kept) olds news j d d back lt).is)
+
+-- rows of which some grew by a step are as before once it is taken back
+pub rows_restored : {X : Type 0} (Fits : ℕ → ℕ → X → Type 0) (Grown : Digraph → List Bool → List ℕ → ℕ → X → X → Type 0) (Undone : ℕ → X → X → Type 0) (g : Digraph) (Q : List Bool) (ks : List ℕ) (kept : ℕ) (olds mids news : List X)
+    → All (Fits g.nodes kept) olds → AllZip (OrSame (Grown g Q ks kept)) olds mids → AllZip (IsBack Fits Grown Undone kept) mids news → news ≡ olds
+rows_restored Fits Grown Undone g Q ks kept olds mids news fit grown back =
+    let first : length olds ≡ length mids = length_all_zip (OrSame (Grown g Q ks kept)) olds mids grown in
+    let last : length mids ≡ length news = length_all_zip (IsBack Fits Grown Undone kept) mids news back in
+    each_same olds news (all_zip_by (λ x y. y ≡ x) olds news (sym (first ∙ last))
+    (λ j d lt. (AllZip-get_or (IsBack Fits Grown Undone kept) mids news j d d back (omega (arith, lt, first))).restored g Q ks (get_or olds j d) (fit j d lt) (AllZip-get_or (OrSame (Grown g Q ks kept)) olds mids j d d grown lt)))

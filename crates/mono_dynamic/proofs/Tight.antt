@@ -10,11 +10,11 @@ use Rattle.std.proofs.lemmas.List.Elements.{All-cons}
 use Rattle.mono_graph.specs.declared.edge.Edge.{Edge}
 use Rattle.mono_graph.specs.declared.limit.Limit.{Limit}
 use Rattle.mono_graph.specs.Digraph.{Digraph, edge_at, present, has, leaving}
-use Rattle.mono_graph.specs.Walks.{is_walk, cost_of}
+use Rattle.mono_graph.specs.Walks.{is_walk, cost_of, cost_along}
 use Rattle.mono_graph.proofs.Membership.{has_cons, at_places}
 use Rattle.mono_dynamic.specs.declared.change.Change.{Change}
 use Rattle.mono_dynamic.specs.declared.waiting.Waiting.{Waiting}
-use Rattle.mono_dynamic.specs.Costs.{Costs, label_of, cost_along, AreAttained, is_waiting, IsTight, AreTight, AreRelaxed, IsLast, AreLed}
+use Rattle.mono_dynamic.specs.Costs.{Costs, label_of, AreAttained, is_waiting, IsTight, AreTight, AreRelaxed, IsLast, AreLed}
 use Rattle.mono_dynamic.proofs.CostWalks.{led_lowered}
 use Rattle.mono_dynamic.proofs.Exact.{walk_push}
 

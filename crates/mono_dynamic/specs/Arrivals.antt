@@ -1,5 +1,5 @@
 -- Nodes that are reached from a source in a part that grows.
-use Rattle.std.specs.Prelude.{◌≡◌, ℕ, ◌<◌, ◌≤◌, ◌||◌, ◌↔◌, Bool, false, List, length, map, filter, slice_index_or, nat_le, IsTrue, All, Option, None, Some}
+use Rattle.std.specs.Prelude.{◌≡◌, ℕ, ◌<◌, ◌≤◌, ◌||◌, ◌↔◌, not, Bool, false, List, length, map, filter, slice_index_or, nat_le, IsTrue, All, Option, None, Some}
 use Rattle.mono_graph.specs.Digraph.{Digraph, edge_at, present, has}
 use Rattle.mono_graph.specs.Walks.{is_walk}
 use Rattle.mono_dynamic.specs.declared.arrival.Arrival.{Arrival}
@@ -24,6 +24,10 @@ is_reached xs v = has (reached xs) v
 -- the arrivals of the first n steps
 abbrev pub within : ℕ → List Arrival → List Arrival
 within n xs = filter (λ a. nat_le a.stamp n) xs
+
+-- those of later steps
+abbrev pub after : ℕ → List Arrival → List Arrival
+after n xs = filter (λ a. not (nat_le a.stamp n)) xs
 
 -- it was reached after n steps or fewer, if ever
 abbrev pub is_by : Option ℕ → ℕ → Bool

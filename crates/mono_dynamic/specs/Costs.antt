@@ -1,10 +1,10 @@
 -- What walks from a source cost at least, in a part that grows.
-use Rattle.std.specs.Prelude.{◌≡◌, ℕ, zero, suc, ◌+◌, ◌-◌, ◌<◌, ◌≤◌, ◌==◌, ◌&&◌, ◌⊎◌, not, Bool, List, [], ◌∷◌, ◌++◌, length, filter, sum, sum_by, slice_index_or, slice_set, nat_le, IsTrue, All}
+use Rattle.std.specs.Prelude.{◌≡◌, ℕ, zero, suc, ◌+◌, ◌-◌, ◌<◌, ◌≤◌, ◌==◌, ◌&&◌, ◌⊎◌, not, Bool, List, [], ◌∷◌, ◌++◌, length, filter, sum, slice_index_or, slice_set, nat_le, IsTrue, All}
 use Rattle.std.specs.List.{list_any}
 use Rattle.mono_base.specs.declared.limits.TheConstants.{MAX_BOUND}
 use Rattle.mono_graph.specs.declared.limit.Limit.{Limit}
 use Rattle.mono_graph.specs.Digraph.{Digraph, edge_at, present, has}
-use Rattle.mono_graph.specs.Walks.{is_walk, cost_of}
+use Rattle.mono_graph.specs.Walks.{is_walk, cost_of, cost_along}
 use Rattle.mono_dynamic.specs.declared.change.Change.{Change}
 use Rattle.mono_dynamic.specs.declared.waiting.Waiting.{Waiting}
 
@@ -39,10 +39,6 @@ made_after n cs = filter (λ c. not (nat_le c.stamp n)) cs
 -- the labels as they were after n steps
 abbrev pub labels_after : ℕ → Costs → List ℕ
 labels_after n t = unwound t.labels (made_after n t.changes)
-
--- what a walk costs
-abbrev pub cost_along : Limit → Digraph → List ℕ → ℕ
-cost_along limit g ks = sum_by (λ k. cost_of limit (edge_at g k)) ks
 
 -- a label below the cap is what some walk in the part costs
 pub record AreAttained (g : Digraph) (P : List Bool) (limit : Limit) (u cap : ℕ) (labels : List ℕ) : Type 0 where

@@ -2,5 +2,9 @@ pub mod Arrivals
 pub mod Reached
 pub mod Worked
 pub mod Costs
+pub mod BySource
 pub mod Rows
 pub mod LeastRows
+pub mod SearchTrees
+pub mod Sources
+pub mod Targets

@@ -1,5 +1,6 @@
 -- Nodes that are reached from each of several sources.
-use Rattle.std.specs.Prelude.{◌≡◌, ℕ, ◌<◌, ◌≤◌, Bool, List, [], ◌∷◌, length, map, slice_index_or, All}
+use Rattle.std.specs.Prelude.{◌≡◌, ℕ, ◌<◌, ◌≤◌, Bool, List, [], ◌∷◌, length, slice_index_or, All}
+use Rattle.mono_base.specs.declared.limits.TheConstants.{MAX_NODES}
 use Rattle.mono_graph.specs.Digraph.{Digraph}
 use Rattle.mono_dynamic.specs.Arrivals.{at_source, within, AreReachedAlong, GrowsAfter}
 use Rattle.mono_dynamic.specs.Reached.{Reached}
@@ -10,6 +11,11 @@ no_row = record { nodes = 0; source = 0; arrivals = [] }
 abbrev pub row_at : List Reached → ℕ → Reached
 row_at rows i = slice_index_or rows i no_row
 
+-- the node is one of a graph with this many, which are few enough
+pub record IsSource (n u : ℕ) : Type 0 where
+  pub few : n ≤ MAX_NODES
+  pub known : u < n
+
 -- the source alone, of a graph with this many nodes
 abbrev pub alone : ℕ → ℕ → Reached
 alone n u = record { nodes = n; source = u; arrivals = at_source u ∷ [] }
@@ -18,26 +24,19 @@ alone n u = record { nodes = n; source = u; arrivals = at_source u ∷ [] }
 abbrev pub back_to : ℕ → Reached → Reached
 back_to n r = record { nodes = r.nodes; source = r.source; arrivals = within n r.arrivals }
 
-abbrev pub sources_of : List Reached → List ℕ
-sources_of rows = map (λ r. r.source) rows
-
--- each row is of a graph with this many nodes, and no arrival is later
-pub record AreRows (nodes latest : ℕ) (rows : List Reached) : Type 0 where
-  pub each : (i : ℕ) → i < length rows → ((row_at rows i).nodes ≡ nodes) × All (λ a. a.stamp ≤ latest) (row_at rows i).arrivals
+-- the row is of a graph with this many nodes, and no arrival is later
+pub record IsRow (n latest : ℕ) (r : Reached) : Type 0 where
+  pub nodes : r.nodes ≡ n
+  pub stamps : All (λ a. a.stamp ≤ latest) r.arrivals
 
 -- each row has what is reached from its source after each number of steps up to n
 pub record AreAllReached (g : Digraph) (parts : ℕ → List Bool) (n : ℕ) (rows : List Reached) : Type 0 where
   pub each : (i : ℕ) → i < length rows → AreReachedAlong g parts n (row_at rows i).source (row_at rows i).arrivals
 
--- edges have come, and one row has grown by them
+-- edges have come, and the row has grown by them
 pub record IsGrownRow (g : Digraph) (Q : List Bool) (ks : List ℕ) (stamp : ℕ) (old new : Reached) : Type 0 where
   pub nodes : new.nodes ≡ old.nodes
   pub source : new.source ≡ old.source
   pub stamps : All (λ a. a.stamp ≤ stamp) new.arrivals
   pub earlier : (m : ℕ) → m < stamp → within m new.arrivals ≡ within m old.arrivals
   pub along : (parts : ℕ → List Bool) (n : ℕ) → AreReachedAlong g parts n old.source old.arrivals → GrowsAfter parts n stamp Q ks → AreReachedAlong g parts stamp old.source new.arrivals
-
--- and so have all
-pub record AreGrownRows (g : Digraph) (Q : List Bool) (ks : List ℕ) (stamp : ℕ) (olds news : List Reached) : Type 0 where
-  pub len : length news ≡ length olds
-  pub each : (i : ℕ) → i < length olds → IsGrownRow g Q ks stamp (row_at olds i) (row_at news i)

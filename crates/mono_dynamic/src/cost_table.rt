@@ -2,9 +2,9 @@
 
 ghost use Rattle.std.specs.Prelude.{◌≡◌, ◌+◌, ◌-◌, ◌<◌, ◌≤◌, ◌++◌, ◌∷◌, [], ℕ, Bool, List, All, IfOk, IsTrue, OnOk, OnErr, length, take, drop, replicate, slice_set, vec_len};
 ghost use Rattle.mono_graph.specs.Digraph.{Digraph};
-ghost use Rattle.mono_graph.specs.Walks.{cost_of as cost_by, is_walk};
+ghost use Rattle.mono_graph.specs.Walks.{cost_of as cost_by, is_walk, cost_along};
 ghost use Rattle.mono_graph.specs.declared.limit.Limit.{Limit};
-ghost use Rattle.mono_dynamic.specs.Costs.{change_at, cost_along, label_by, label_of, labels_after, node_by, unwound, made_by, made_after, AreLeastAlong, AreLinked, IsGiven, IsLast, IsLed};
+ghost use Rattle.mono_dynamic.specs.Costs.{change_at, label_by, label_of, labels_after, node_by, unwound, made_by, made_after, AreLeastAlong, AreLinked, IsGiven, IsLast, IsLed};
 
 use crate::change::Change;
 use mono_base::limits::MAX_BOUND;
@@ -41,7 +41,7 @@ impl Model for CostTable {
 }
 
 /// Takes back all but the first changes.
-fn unwind_to(
+fn undo_changes_to(
     labels: &mut Vec<u64>,
     latest: &mut Vec<usize>,
     changes: &mut Vec<Change>,
@@ -183,11 +183,11 @@ impl CostTable {
     }
 
     /// Takes back all but the first changes, in proportion to their number.
-    pub fn unwind(&mut self, count: usize)
+    pub fn undo_to(&mut self, count: usize)
         requires { count ≤ length self.old.changes }
         ensures { self.new ≡ record self.old { labels = unwound self.old.labels (drop count self.old.changes); changes = take count self.old.changes } }
     {
-        unwind_to(&mut self.labels, &mut self.latest, &mut self.changes, count);
+        undo_changes_to(&mut self.labels, &mut self.latest, &mut self.changes, count);
     }
 
     /// What a node's label was after so many steps, by going back over its own changes.

@@ -1,11 +1,12 @@
 //! What follows from the definitions alone, of nodes that are reached, and of least costs, after each number of steps.
 
-ghost use Rattle.std.specs.Prelude.{◌≡◌, ◌<◌, ◌≤◌, ◌∷◌, [], ℕ, Bool, List, false, replicate, slice_set};
-ghost use Rattle.mono_graph.specs.Digraph.{Digraph, present};
+ghost use Rattle.std.specs.Prelude.{◌≡◌, ◌<◌, ◌≤◌, ◌∷◌, [], ℕ, Bool, List, false, replicate, slice_set, IsTrue};
+ghost use Rattle.mono_graph.specs.Digraph.{Digraph, has, present, IsSubpart};
 ghost use Rattle.mono_graph.specs.declared.limit.Limit.{Limit};
 ghost use Rattle.mono_dynamic.specs.declared.arrival.Arrival.{Arrival};
-ghost use Rattle.mono_dynamic.specs.Arrivals.{at_source, AreReachedAlong};
+ghost use Rattle.mono_dynamic.specs.Arrivals.{at_source, is_reached, AreReachedAlong, IsTree};
 ghost use Rattle.mono_dynamic.specs.Costs.{Costs, AreLeastAlong};
+ghost use Rattle.mono_dynamic.specs.SearchTrees.{IsSearchTree, RestsOn};
 
 /// As long as no edge is present, the source alone is reached.
 pub fn source_alone_is_reached()
@@ -35,4 +36,19 @@ pub fn steps_without_edges_lower_nothing()
 /// What walks cost after n steps depends on the part up to then, and not on what came later.
 pub fn later_steps_lower_nothing()
     ensures { (g : Digraph) (parts others : ℕ → List Bool) (n u : ℕ) (costs : Costs) → ((m : ℕ) → m ≤ n → others m ≡ parts m) → AreLeastAlong g parts n u costs → AreLeastAlong g others n u costs }
+{}
+
+/// A tree stays one in each part that has its edges.
+pub fn tree_stays_with_its_edges()
+    ensures { (g : Digraph) (P Q : List Bool) (u : ℕ) (arrivals : List Arrival) → ((k : ℕ) → RestsOn arrivals k → IsTrue (present Q k)) → IsTree g P u arrivals → IsTree g Q u arrivals }
+{}
+
+/// In a smaller part that has the tree's edges a search has nothing to find that the tree doesn't say.
+pub fn search_tree_stays_where_edges_go()
+    ensures { (g : Digraph) (P Q : List Bool) (u : ℕ) (targets : List ℕ) (arrivals : List Arrival) → IsSubpart Q P → ((k : ℕ) → RestsOn arrivals k → IsTrue (present Q k)) → IsSearchTree g P u targets arrivals → IsSearchTree g Q u targets arrivals }
+{}
+
+/// Nor in a greater part, where all targets were found.
+pub fn search_tree_of_all_stays_where_edges_come()
+    ensures { (g : Digraph) (P Q : List Bool) (u : ℕ) (targets : List ℕ) (arrivals : List Arrival) → IsSubpart P Q → ((v : ℕ) → IsTrue (has targets v) → IsTrue (is_reached arrivals v)) → IsSearchTree g P u targets arrivals → IsSearchTree g Q u targets arrivals }
 {}

@@ -7,13 +7,15 @@
 
 ghost use Rattle.std.specs.Prelude.{◌≡◌, ◌+◌, ◌<◌, ◌≤◌, ◌∷◌, [], ℕ, Bool, List, All, IfOk, IsTrue, OnOk, OnErr, length, replicate, slice_set};
 ghost use Rattle.mono_graph.specs.Digraph.{Digraph, IsPartOf};
-ghost use Rattle.mono_graph.specs.Walks.{is_walk};
+ghost use Rattle.mono_graph.specs.Walks.{is_walk, cost_along};
 ghost use Rattle.mono_dynamic.specs.Arrivals.{IsGrown, GrowsAfter};
-ghost use Rattle.mono_dynamic.specs.Costs.{cost_along, label_of, labels_after, made_by, AreLeast, AreLeastAlong, IsLater};
+ghost use Rattle.mono_dynamic.specs.Costs.{label_of, labels_after, made_after, made_by, AreLeast, AreLeastAlong, IsLater};
 
 use crate::change::Change;
+use crate::cost_source::CostSource;
 use crate::cost_table::CostTable;
 use crate::relax::relax_from;
+use crate::row::Row;
 use crate::waiting::Waiting;
 use mono_base::limits::MAX_BOUND;
 use mono_graph::{Graph, Limit, Part};
@@ -96,6 +98,14 @@ impl LeastCosts {
         self.table.changes()
     }
 
+    /// The changes of the steps after the first `kept`. It costs their number.
+    pub fn changes_after(&self, kept: u32) -> &[Change]
+        ensures { result.now ≡ made_after kept self.now.changes }
+    {
+        let count = self.table.count_by(kept);
+        &self.table.changes()[count..]
+    }
+
     /// Edges have come into the part, with the step of this number. Labels that they lower are lowered. Where memory is
     /// missing, all is as before.
     ///
@@ -125,7 +135,7 @@ impl LeastCosts {
         match relax_from(graph, part, places, stamp, table, &mut self.queue) {
             Ok(()) => Ok(()),
             Err(error) => {
-                self.table.unwind(count);
+                self.table.undo_to(count);
                 Err(error)
             }
         }
@@ -137,6 +147,40 @@ impl LeastCosts {
         ensures along { (g : Digraph) (parts : ℕ → List Bool) (n u : ℕ) → kept ≤ n → AreLeastAlong g parts n u self.old → AreLeastAlong g parts kept u self.new }
     {
         let count = self.table.count_by(kept);
-        self.table.unwind(count);
+        self.table.undo_to(count);
+    }
+}
+
+impl Row for LeastCosts {
+    ghost use Rattle.mono_dynamic.specs.LeastRows.{costs_from, IsBackCosts, IsCostRow, IsCostSource, IsGrownCosts};
+
+    type Source = CostSource;
+
+    ghost can_begin = { IsCostSource };
+
+    ghost at_first = { costs_from };
+
+    ghost fits = { IsCostRow };
+
+    ghost grown = { λ g Q ks looked. IsGrownCosts g Q ks (looked + 1) };
+
+    ghost undone = { IsBackCosts };
+
+    fn new(alloc: Global, nodes: u32, source: CostSource) -> Result<Self, AllocError> {
+        LeastCosts::new(alloc, nodes, source.node, source.limit, source.cap)
+    }
+
+    fn grow(
+        &mut self,
+        graph: &Graph,
+        part: &Part,
+        places: &[u32],
+        looked: u32,
+    ) -> Result<(), AllocError> {
+        LeastCosts::grow(self, graph, part, places, looked + 1)
+    }
+
+    fn undo_to(&mut self, kept: u32) {
+        LeastCosts::undo_to(self, kept);
     }
 }

@@ -4,6 +4,8 @@
 
 /// How nodes were reached.
 mod arrival;
+/// Rows from several sources.
+mod by_source;
 /// How labels were lowered.
 mod change;
 /// From where walks are measured, and how.
@@ -12,26 +14,41 @@ mod cost_source;
 mod cost_table;
 /// What follows from the definitions alone.
 pub mod laws;
-/// What walks from each of several sources cost at least.
-mod least_by_source;
 /// What walks from one source cost at least.
 mod least_costs;
-/// Nodes that are reached from each of several sources.
-mod reached_by_source;
 /// Nodes that are reached from one source.
 mod reached_nodes;
-
+/// Which of some nodes are reached while edges go.
+mod reached_targets;
 /// Labels that are lowered along edges.
 mod relax;
+/// What is kept for one source.
+mod row;
+/// From where rows are asked for.
+mod row_source;
+/// Trees of walks from one source.
+mod search_tree;
+/// The rows that are asked for.
+mod sources;
+/// Which of some nodes are reached from each of several sources.
+mod targets_by_source;
+/// Searches for trees of walks.
+mod tree_search;
 /// Nodes that wait.
 mod waiting;
 /// What the words of contracts make of small graphs.
 pub mod worked;
 
 pub use arrival::Arrival;
+pub use by_source::BySource;
 pub use change::Change;
 pub use cost_source::CostSource;
-pub use least_by_source::LeastBySource;
 pub use least_costs::LeastCosts;
-pub use reached_by_source::ReachedBySource;
 pub use reached_nodes::ReachedNodes;
+pub use reached_targets::ReachedTargets;
+pub use row::Row;
+pub use row_source::RowSource;
+pub use search_tree::SearchTree;
+pub use sources::Sources;
+pub use targets_by_source::TargetsBySource;
+pub use tree_search::TreeSearch;

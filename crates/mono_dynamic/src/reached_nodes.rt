@@ -6,13 +6,14 @@
 //! leaves the table as it is. The list is at the same time the queue of the search that a new edge starts: the arrivals
 //! that it adds are those whose leaving edges are still to be followed.
 
-ghost use Rattle.std.specs.Prelude.{◌≡◌, ◌+◌, ◌<◌, ◌≤◌, ◌++◌, ◌∷◌, [], ℕ, Bool, List, if◌then◌else◌, false, All, IfOk, IsTrue, length, reverse, slice_set, vec_len, vec_capacity};
+ghost use Rattle.std.specs.Prelude.{◌≡◌, ◌+◌, ◌<◌, ◌≤◌, ◌++◌, ◌∷◌, [], ℕ, Bool, List, if◌then◌else◌, false, All, IfOk, IfSome, IsTrue, length, reverse, slice_set, take, drop, vec_len, vec_capacity};
 ghost use Rattle.mono_graph.specs.Digraph.{Digraph, IsPartOf, present};
 ghost use Rattle.mono_graph.specs.Walks.{is_walk};
-ghost use Rattle.mono_dynamic.specs.Arrivals.{arrival_at, at_source, is_reached, is_by, within, IsTree, AreReached, AreReachedAlong, IsGrown, GrowsAfter};
+ghost use Rattle.mono_dynamic.specs.Arrivals.{arrival_at, at_source, after, is_reached, is_by, within, IsTree, AreReached, AreReachedAlong, IsGrown, GrowsAfter};
 ghost use Rattle.mono_dynamic.specs.Reached.{ArePlaced, AreOrdered, IsArrivalOf, AreFollowed};
 
 use crate::arrival::Arrival;
+use crate::row::Row;
 use mono_base::limits::MAX_NODES;
 use mono_graph::{Graph, Part};
 use std::alloc::{AllocError, Global};
@@ -64,23 +65,42 @@ fn add(positions: &mut Vec<u32>, arrivals: &mut Vec<Arrival>, arrival: Arrival)
     ensures capacity { vec_capacity arrivals.old ≤ vec_capacity arrivals.new }
 {
     positions[arrival.node as usize] = arrivals.len() as u32;
-    match arrivals.push(arrival) {
-        Ok(()) => {}
-        Err(_) => unreachable!(),
+    arrivals.push_reserved(arrival);
+}
+
+/// The arrival at a source.
+fn first_at(source: u32) -> Arrival
+    ensures { result ≡ at_source source }
+{
+    Arrival {
+        node: source,
+        place: 0,
+        before: 0,
+        stamp: 0,
     }
 }
 
-/// Drops the arrivals with later stamps.
-fn drop_later(arrivals: &mut Vec<Arrival>, kept: u32, source: u32)
-    requires { AreOrdered source arrivals.old.items }
-    ensures arrivals { arrivals.new.items ≡ within kept arrivals.old.items }
-    ensures capacity { vec_capacity arrivals.new ≡ vec_capacity arrivals.old }
-    ensures ordered { AreOrdered source arrivals.new.items }
+/// How many of the first arrivals have no later stamps.
+fn count_within(arrivals: &[Arrival], kept: u32) -> usize
+    requires { (i j : ℕ) → i ≤ j → j < length arrivals.now → (arrival_at arrivals.now i).stamp ≤ (arrival_at arrivals.now j).stamp }
+    ensures held { result ≤ length arrivals.now }
+    ensures first { take result arrivals.now ≡ within kept arrivals.now }
+    ensures rest { drop result arrivals.now ≡ after kept arrivals.now }
 {
     let mut count = arrivals.len();
     while count > 0 && arrivals[count - 1].stamp > kept {
         count -= 1;
     }
+    count
+}
+
+/// Drops the arrivals with later stamps.
+fn drop_later(arrivals: &mut Vec<Arrival>, kept: u32)
+    requires { (i j : ℕ) → i ≤ j → j < length arrivals.old.items → (arrival_at arrivals.old.items i).stamp ≤ (arrival_at arrivals.old.items j).stamp }
+    ensures arrivals { arrivals.new.items ≡ within kept arrivals.old.items }
+    ensures capacity { vec_capacity arrivals.new ≡ vec_capacity arrivals.old }
+{
+    let count = count_within(arrivals.as_slice(), kept);
     arrivals.truncate(count);
 }
 
@@ -93,13 +113,7 @@ impl ReachedNodes {
     {
         let mut positions = vec![in alloc; 0; nodes as usize]?;
         let mut arrivals = Vec::with_capacity(alloc, nodes as usize)?;
-        let first = Arrival {
-            node: source,
-            place: 0,
-            before: 0,
-            stamp: 0,
-        };
-        add(&mut positions, &mut arrivals, first);
+        add(&mut positions, &mut arrivals, first_at(source));
         Ok(ReachedNodes {
             source,
             positions,
@@ -108,7 +122,7 @@ impl ReachedNodes {
     }
 
     /// Reaches the node, unless it was reached before.
-    fn arrive(&mut self, arrival: Arrival)
+    pub(crate) fn arrive(&mut self, arrival: Arrival)
         requires node { arrival.node < self.old.nodes }
         requires before { arrival.before < length self.old.arrivals }
         requires stamps { All (λ a. a.stamp ≤ arrival.stamp) self.old.arrivals }
@@ -121,7 +135,7 @@ impl ReachedNodes {
     }
 
     /// Follows those of these edges that are present and leave a reached node.
-    fn follow(&mut self, graph: &Graph, part: &Part, places: &[u32], stamp: u32)
+    pub(crate) fn follow(&mut self, graph: &Graph, part: &Part, places: &[u32], stamp: u32)
         requires size { self.old.nodes ≡ graph.now.nodes }
         requires part { IsPartOf part.now graph.now }
         requires places { All (λ k. k < length graph.now.edges) places.now }
@@ -144,24 +158,65 @@ impl ReachedNodes {
         }
     }
 
-    /// Which arrival is the node's.
-    fn arrival_of(&self, node: u32) -> Option<u32>
+    /// Which arrival is the node's. No other is.
+    pub(crate) fn arrival_of(&self, node: u32) -> Option<u32>
         requires { node < self.now.nodes }
-        ensures { IsArrivalOf self.now.arrivals node result }
+        ensures arrival { IsArrivalOf self.now.arrivals node result }
+        ensures alone { IfSome result (λ i. (j : ℕ) → j < length self.now.arrivals → (arrival_at self.now.arrivals j).node ≡ node → i ≡ j) }
     {
         find(&self.positions, &self.arrivals, node)
     }
 
+    /// Whether the node is reached. The source is.
+    pub(crate) fn has(&self, node: u32) -> bool
+        requires { node < self.now.nodes }
+        ensures reached { result ≡ is_reached self.now.arrivals node }
+        ensures source { IsTrue (is_reached self.now.arrivals self.now.source) }
+    {
+        find(&self.positions, &self.arrivals, node).is_some()
+    }
+
+    /// The source.
+    pub(crate) fn source(&self) -> u32
+        ensures source { result ≡ self.now.source }
+        ensures known { result < self.now.nodes }
+    {
+        self.source
+    }
+
+    /// The arrival at a position. But for the first one, which is the source's, it comes by an earlier one.
+    pub(crate) fn arrival(&self, position: usize) -> Arrival
+        requires { position < length self.now.arrivals }
+        ensures arrival { result ≡ arrival_at self.now.arrivals position }
+        ensures known { result.node < self.now.nodes }
+        ensures alone { (j : ℕ) → j < length self.now.arrivals → (arrival_at self.now.arrivals j).node ≡ result.node → position ≡ j }
+        ensures source { position ≡ 0 → result.node ≡ self.now.source }
+        ensures before { 0 < position → result.before < position }
+    {
+        self.arrivals[position]
+    }
+
+    /// Goes back to a source alone, which may be another one.
+    pub(crate) fn restart(&mut self, source: u32)
+        requires { source < self.old.nodes }
+        ensures { self.new ≡ record { nodes = self.old.nodes; source = source; arrivals = at_source source ∷ [] } }
+    {
+        self.source = source;
+        self.arrivals.clear();
+        add(&mut self.positions, &mut self.arrivals, first_at(source));
+    }
+
     /// How many nodes are reached.
-    fn count(&self) -> usize
+    pub(crate) fn count(&self) -> usize
         ensures count { result ≡ length self.now.arrivals }
         ensures few { length self.now.arrivals ≤ self.now.nodes }
+        ensures most { self.now.nodes ≤ MAX_NODES }
     {
         self.arrivals.len()
     }
 
     /// The node of an arrival.
-    fn node_at(&self, position: usize) -> u32
+    pub(crate) fn node_at(&self, position: usize) -> u32
         requires { position < length self.now.arrivals }
         ensures node { result ≡ (arrival_at self.now.arrivals position).node }
         ensures known { result < self.now.nodes }
@@ -199,7 +254,7 @@ impl ReachedNodes {
         ensures arrivals { self.new ≡ record self.old { arrivals = within kept self.old.arrivals } }
         ensures along { (g : Digraph) (parts : ℕ → List Bool) (n : ℕ) → kept ≤ n → AreReachedAlong g parts n self.old.source self.old.arrivals → AreReachedAlong g parts kept self.old.source self.new.arrivals }
     {
-        drop_later(&mut self.arrivals, kept, self.source);
+        drop_later(&mut self.arrivals, kept);
     }
 
     /// The arrivals, in the order in which the nodes were reached: what a step added stands at the end.
@@ -208,6 +263,14 @@ impl ReachedNodes {
         ensures known { All (λ a. a.node < self.now.nodes) result.now }
     {
         &self.arrivals
+    }
+
+    /// The arrivals of the steps after the first `kept`. It costs their number.
+    pub fn arrivals_after(&self, kept: u32) -> &[Arrival]
+        ensures { result.now ≡ after kept self.now.arrivals }
+    {
+        let count = count_within(self.arrivals.as_slice(), kept);
+        &self.arrivals[count..]
     }
 
     /// The least number of steps after which the node is reached, if it is.
@@ -235,6 +298,41 @@ impl ReachedNodes {
             }
             None => unreachable!(),
         }
+    }
+}
+
+impl Row for ReachedNodes {
+    ghost use Rattle.mono_dynamic.specs.Rows.{alone, back_to, IsGrownRow, IsRow, IsSource};
+
+    type Source = u32;
+
+    ghost can_begin = { IsSource };
+
+    ghost at_first = { alone };
+
+    ghost fits = { IsRow };
+
+    ghost grown = { λ g Q ks looked. IsGrownRow g Q ks (looked + 1) };
+
+    ghost undone = { λ kept old new. new ≡ back_to kept old };
+
+    fn new(alloc: Global, nodes: u32, source: u32) -> Result<Self, AllocError> {
+        ReachedNodes::new(alloc, nodes, source)
+    }
+
+    fn grow(
+        &mut self,
+        graph: &Graph,
+        part: &Part,
+        places: &[u32],
+        looked: u32,
+    ) -> Result<(), AllocError> {
+        ReachedNodes::grow(self, graph, part, places, looked + 1);
+        Ok(())
+    }
+
+    fn undo_to(&mut self, kept: u32) {
+        ReachedNodes::undo_to(self, kept);
     }
 }
 

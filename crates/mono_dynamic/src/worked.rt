@@ -4,6 +4,7 @@ ghost use Rattle.std.specs.Prelude.{◌≡◌, ◌∷◌, [], ℕ, pos, true, fa
 ghost use Rattle.mono_graph.specs.Worked.{pipe, parallel, round_trip, looped, both, first_alone, last_alone, neither};
 ghost use Rattle.mono_dynamic.specs.Arrivals.{at_source, is_reached, is_by, within, AreReached, AreReachedAlong};
 ghost use Rattle.mono_dynamic.specs.Costs.{AreLeast, AreLeastAlong, labels_after};
+ghost use Rattle.mono_dynamic.specs.SearchTrees.{IsSearchTree, RestsOn};
 ghost use Rattle.mono_dynamic.specs.Worked.{arrival, one_by_one, at_once, change, last_first};
 
 use mono_graph::Limit;
@@ -48,6 +49,26 @@ pub fn arrivals_up_to_a_stamp()
     ensures never { (n : ℕ) → is_by None n ≡ false }
     ensures before { is_by (Some 2) 1 ≡ false }
     ensures at { is_by (Some 2) 2 ≡ true }
+{}
+
+/// A search tree has the ways to all targets that are reached, and nothing else.
+pub fn ways_along_a_path()
+    ensures first { IsSearchTree (pipe 1 1) both 0 (1 ∷ []) (at_source 0 ∷ arrival 1 0 0 0 ∷ []) }
+    ensures last { IsSearchTree (pipe 1 1) both 0 (2 ∷ []) (at_source 0 ∷ arrival 1 0 0 0 ∷ arrival 2 1 1 0 ∷ []) }
+    ensures source { IsSearchTree (pipe 1 1) both 0 (0 ∷ []) (at_source 0 ∷ []) }
+    ensures out_of_reach { IsSearchTree (pipe 1 1) first_alone 0 (2 ∷ []) (at_source 0 ∷ []) }
+    ensures first_target_alone { IsSearchTree (pipe 1 1) both 0 (1 ∷ 2 ∷ []) (at_source 0 ∷ arrival 1 0 0 0 ∷ []) → ⊥ }
+    ensures beyond_the_target { IsSearchTree (pipe 1 1) both 0 (1 ∷ []) (at_source 0 ∷ arrival 1 0 0 0 ∷ arrival 2 1 1 0 ∷ []) → ⊥ }
+    ensures towards_what_is_lacking { IsSearchTree (pipe 1 1) first_alone 0 (2 ∷ []) (at_source 0 ∷ arrival 1 0 0 0 ∷ []) → ⊥ }
+    ensures by_absent { IsSearchTree (pipe 1 1) last_alone 0 (1 ∷ []) (at_source 0 ∷ arrival 1 0 0 0 ∷ []) → ⊥ }
+{}
+
+/// A tree rests on the edges by which its nodes were reached, and the source was reached by none.
+pub fn edges_of_ways()
+    ensures first { RestsOn (at_source 0 ∷ arrival 1 0 0 0 ∷ arrival 2 1 1 0 ∷ []) 0 }
+    ensures last { RestsOn (at_source 0 ∷ arrival 1 0 0 0 ∷ arrival 2 1 1 0 ∷ []) 1 }
+    ensures other { RestsOn (at_source 0 ∷ arrival 1 3 0 0 ∷ []) 1 → ⊥ }
+    ensures of_source { RestsOn (at_source 0 ∷ arrival 1 3 0 0 ∷ []) 0 → ⊥ }
 {}
 
 /// Of two parallel edges the cheaper one counts, where it is present; what costs more than the cap counts as the cap.

@@ -12,8 +12,8 @@ use Rattle.mono_graph.proofs.Membership.{has_here, has_there, has_cons}
 use Rattle.mono_graph.proofs.Places.{all_below, all_of}
 use Rattle.mono_problem.specs.declared.atom.Predicate.TheVariants as kind
 use Rattle.mono_theory.specs.Evidences.{only, IsEvidence}
-use Rattle.mono_theory.proofs.EvidenceLaws.{in_only}
-use Rattle.mono_theory.proofs.WalkedLaws.{all_by}
+use Rattle.mono_theory.proofs.EvidenceDecides.{in_only}
+use Rattle.mono_theory.proofs.WalksAsEvidence.{all_by}
 use Rattle.mono_flow.specs.Flowing.{numbered, carrying, flow_evidence}
 use Rattle.mono_flow.proofs.Numbered.{numbered-known, numbered-small, numbered_amount, placed-numbered}
 

@@ -3,7 +3,7 @@ pub mod FlowEvidence
 pub mod Needed
 pub mod CutEvidence
 pub mod DistinctEdges
-pub mod KeptFlowLaws
-pub mod DecidedLaws
-pub mod StayingLaws
+pub mod KeptFlowsAreFlows
+pub mod KeptFlowsDecide
+pub mod KeptFlowsStay
 pub mod WorkedRows

@@ -4,7 +4,7 @@ use Rattle.std.specs.Prelude.{IsTrue, if◌then◌else◌}
 use Rattle.std.proofs.lemmas.Bool.{both_ways, not_from_false, not-true, false_from_ne_true}
 use Rattle.std.proofs.lemmas.List.{take_more, take_all}
 use Rattle.mono_graph.specs.Digraph.{Digraph, edge_at, has, is_distinct, weight_of}
-use Rattle.mono_graph.proofs.FlowLaws.{total, total_is}
+use Rattle.mono_graph.proofs.CutsBoundFlows.{total, total_is}
 use Rattle.mono_graph.proofs.Membership.{has_append_left, has_append_right, has_append_cases, has_cons, has_here, has_there}
 use Rattle.mono_graph.proofs.Prefixes.{distinct_take, has_old, has_new, has_other, not_distinct}
 use Rattle.mono_flow.specs.Flowing.{AreNeeded, EachIsNeeded}
@@ -38,14 +38,14 @@ rest_of g named ks = total (λ k. (edge_at g k).weight) (λ k. not (has named k)
 
 -- the first edges were looked at: those that aren't named weigh at most what was taken from the spare weight, exactly so
 -- much where no edge is listed twice, and each named one weighs more than is left
-pub record AreNeededSoFar (g : Digraph) (spare : ℕ) (absent named : List ℕ) (left i : ℕ) : Type 0 where
+pub record AreNeededSoFar (g : Digraph) (slack : ℕ) (absent named : List ℕ) (left i : ℕ) : Type 0 where
   pub listed : (k : ℕ) → IsTrue (has named k) → IsTrue (has (take i absent) k)
-  pub others : rest_of g named (take i absent) + left ≤ spare
-  pub exact : IsTrue (is_distinct absent) → rest_of g named (take i absent) + left ≡ spare
+  pub others : rest_of g named (take i absent) + left ≤ slack
+  pub exact : IsTrue (is_distinct absent) → rest_of g named (take i absent) + left ≡ slack
   pub heavy : (k : ℕ) → IsTrue (has named k) → left < (edge_at g k).weight
 
-pub so_far_none : (g : Digraph) (spare : ℕ) (absent : List ℕ) → AreNeededSoFar g spare absent [] spare 0
-so_far_none g spare absent = record { listed = λ k h. absurd cc; others = omega arith; exact = λ d. omega arith; heavy = λ k h. absurd cc }
+pub so_far_none : (g : Digraph) (slack : ℕ) (absent : List ℕ) → AreNeededSoFar g slack absent [] slack 0
+so_far_none g slack absent = record { listed = λ k h. absurd cc; others = omega arith; exact = λ d. omega arith; heavy = λ k h. absurd cc }
 
 -- the next edge isn't one of those before it
 is_new : (absent : List ℕ) (i k : ℕ) → take (i + 1) absent ≡ take i absent ++ k ∷ [] → IsTrue (is_distinct absent) → IsTrue (has (take i absent) k) → ⊥
@@ -56,8 +56,8 @@ at_most true w = omega arith
 at_most false w = omega arith
 
 -- the next edge may come
-pub so_far_left : {g : Digraph} {spare left i : ℕ} {absent named : List ℕ} (k : ℕ) → i < length absent → k ≡ get_or absent i 0 → (edge_at g k).weight ≤ left → AreNeededSoFar g spare absent named left i
-    → AreNeededSoFar g spare absent named (left - (edge_at g k).weight) (i + 1)
+pub so_far_left : {g : Digraph} {slack left i : ℕ} {absent named : List ℕ} (k : ℕ) → i < length absent → k ≡ get_or absent i 0 → (edge_at g k).weight ≤ left → AreNeededSoFar g slack absent named left i
+    → AreNeededSoFar g slack absent named (left - (edge_at g k).weight) (i + 1)
 so_far_left {g = g} {left = left} {i = i} {absent = absent} {named = named} k lt is le h =
     let next : take (i + 1) absent ≡ take i absent ++ k ∷ [] = take_more absent i 0 lt ∙ ap (λ (v : ℕ). take i absent ++ v ∷ []) (sym is) in
     record {
@@ -79,8 +79,8 @@ so_far_left {g = g} {left = left} {i = i} {absent = absent} {named = named} k lt
     }
 
 -- the next edge is named
-pub so_far_named : {g : Digraph} {spare left i : ℕ} {absent named : List ℕ} (k : ℕ) → i < length absent → k ≡ get_or absent i 0 → left < (edge_at g k).weight → AreNeededSoFar g spare absent named left i
-    → AreNeededSoFar g spare absent (named ++ k ∷ []) left (i + 1)
+pub so_far_named : {g : Digraph} {slack left i : ℕ} {absent named : List ℕ} (k : ℕ) → i < length absent → k ≡ get_or absent i 0 → left < (edge_at g k).weight → AreNeededSoFar g slack absent named left i
+    → AreNeededSoFar g slack absent (named ++ k ∷ []) left (i + 1)
 so_far_named {g = g} {left = left} {i = i} {absent = absent} {named = named} k lt is more h =
     let next : take (i + 1) absent ≡ take i absent ++ k ∷ [] = take_more absent i 0 lt ∙ ap (λ (v : ℕ). take i absent ++ v ∷ []) (sym is) in
     record {
@@ -115,7 +115,7 @@ so_far_named {g = g} {left = left} {i = i} {absent = absent} {named = named} k l
     }
 
 -- all edges were looked at
-pub so_far_all : {g : Digraph} {spare left i : ℕ} {absent named : List ℕ} → length absent ≤ i → AreNeededSoFar g spare absent named left i → AreNeeded g spare absent named
+pub so_far_all : {g : Digraph} {slack left i : ℕ} {absent named : List ℕ} → length absent ≤ i → AreNeededSoFar g slack absent named left i → AreNeeded g slack absent named
 so_far_all {g = g} {i = i} {absent = absent} {named = named} le h =
     let all : take i absent ≡ absent = take_all i absent le in
     record {
@@ -127,7 +127,7 @@ so_far_all {g = g} {i = i} {absent = absent} {named = named} le h =
           omega (arith, sum, same, others);
     }
 
-pub so_far_each : {g : Digraph} {spare left i : ℕ} {absent named : List ℕ} → length absent ≤ i → AreNeededSoFar g spare absent named left i → IsTrue (is_distinct absent) → EachIsNeeded g spare absent named
+pub so_far_each : {g : Digraph} {slack left i : ℕ} {absent named : List ℕ} → length absent ≤ i → AreNeededSoFar g slack absent named left i → IsTrue (is_distinct absent) → EachIsNeeded g slack absent named
 so_far_each {g = g} {i = i} {absent = absent} {named = named} le h d = λ k t.
     let sum : weight_of g (filter (λ j. not (has named j)) absent) ≡ rest_of g named absent = total_is (λ j. (edge_at g j).weight) (λ j. not (has named j)) absent in
     let same : rest_of g named (take i absent) ≡ rest_of g named absent = ap (rest_of g named) (take_all i absent le) in

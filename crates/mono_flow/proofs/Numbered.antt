@@ -11,7 +11,7 @@ use Rattle.mono_graph.specs.Digraph.{Digraph, IsGraph, edge_at, no_edge, place_o
 use Rattle.mono_graph.specs.Flows.{amount_at}
 use Rattle.mono_graph.proofs.Membership.{same_truth}
 use Rattle.mono_steps.specs.Witnesses.{placed_amounts, place_or_end}
-use Rattle.mono_theory.proofs.WalkedLaws.{own_place}
+use Rattle.mono_theory.proofs.WalksAsEvidence.{own_place}
 use Rattle.mono_flow.specs.Flowing.{numbered}
 
 pub placed-numbered : (g : Digraph) (amounts : List Amount) → IsGraph g → All (λ a. a.edge < length g.edges) amounts → placed_amounts g (numbered g amounts) ≡ amounts

@@ -2,7 +2,7 @@
 use Rattle.std.proofs.Common.{◌≡◌, ℕ, zero, suc, ◌<◌, false, [], ◌∷◌, refl, arith, pos}
 use Rattle.mono_graph.specs.Digraph.{HasEnds, edge_at}
 use Rattle.mono_graph.specs.Worked.{amount, edge, single}
-use Rattle.mono_graph.proofs.FlowLaws.{flow_cut_excludes}
+use Rattle.mono_graph.proofs.CutsBoundFlows.{flow_cut_excludes}
 use Rattle.mono_problem.specs.declared.atom.Predicate.TheVariants as kind
 use Rattle.mono_problem.specs.Holds.{Holds}
 use Rattle.mono_steps.specs.WorkedLemmas.{minus}

@@ -25,15 +25,15 @@ abbrev pub flow_evidence : Digraph → List Amount → Evidence
 flow_evidence g amounts = record { witness = by.Flow (numbered g amounts); edges = carrying amounts }
 
 -- edges that have to stay absent: those of the absent edges that aren't named weigh at most this in sum
-pub record AreNeeded (g : Digraph) (spare : ℕ) (absent named : List ℕ) : Type 0 where
+pub record AreNeeded (g : Digraph) (slack : ℕ) (absent named : List ℕ) : Type 0 where
   pub listed : (k : ℕ) → IsTrue (has named k) → IsTrue (has absent k)
-  pub others : weight_of g (filter (λ k. not (has named k)) absent) ≤ spare
+  pub others : weight_of g (filter (λ k. not (has named k)) absent) ≤ slack
 
 -- each of them has to: if it could come too, those that aren't named would weigh more
 abbrev pub EachIsNeeded : Digraph → ℕ → List ℕ → List ℕ → Type 0
-EachIsNeeded g spare absent named = (k : ℕ) → IsTrue (has named k) → spare < weight_of g (filter (λ j. not (has named j)) absent) + (edge_at g k).weight
+EachIsNeeded g slack absent named = (k : ℕ) → IsTrue (has named k) → slack < weight_of g (filter (λ j. not (has named j)) absent) + (edge_at g k).weight
 
 -- a set of nodes rests on the absent edges that leave it, but for some that weigh at most this in sum
-pub record IsCutEvidence (g : Digraph) (P : List Bool) (spare : ℕ) (set : List ℕ) (e : Evidence) : Type 0 where
+pub record IsCutEvidence (g : Digraph) (P : List Bool) (slack : ℕ) (set : List ℕ) (e : Evidence) : Type 0 where
   pub witness : e.witness ≡ by.FlowCut set
-  pub edges : AreNeeded g spare (absent_out g P set) e.edges
+  pub edges : AreNeeded g slack (absent_out g P set) e.edges

@@ -26,11 +26,11 @@ amounts_in w = []
 
 -- those of the support while an atom stands on it, and those of what is shown while it shows
 abbrev pub supporting : Stage → Option Evidence → List Amount
-supporting stage.Stands (Some e) = amounts_in e.witness
+supporting stage.Supported (Some e) = amounts_in e.witness
 supporting at o = []
 
 abbrev pub showing : Stage → Option Evidence → List Amount
-showing (stage.Shows m) (Some e) = amounts_in e.witness
+showing (stage.Forcing m) (Some e) = amounts_in e.witness
 showing at o = []
 
 -- the flow along the possibly present edges, and the one along the surely present ones, of the atom at a place
@@ -45,10 +45,10 @@ abbrev pub carried_at : Digraph → List Amount → ℕ → ℕ
 carried_at g amounts k = amount_at amounts (edge_at g k).number
 
 -- what is kept of the edge at a place for the atom at a place, and for the atom of a number
-abbrev pub flows_at : GraphTheoryView SideView → ℕ → ℕ → Flows
+abbrev pub flows_at : GraphTheoryView SideView SideView → ℕ → ℕ → Flows
 flows_at s a k = record { under = carried_at s.graph (under_flow s.surely a) k; over = carried_at s.graph (over_flow s.possibly a) k }
 
-abbrev pub flows_in : GraphTheoryView SideView → ℕ → ℕ → Flows
+abbrev pub flows_in : GraphTheoryView SideView SideView → ℕ → ℕ → Flows
 flows_in s n k = flows_at s (place_of_atom s.atoms n) k
 
 -- a flow in the part between the nodes of a predicate on flows
@@ -62,7 +62,7 @@ IsDecidedBy g P (kind.Flow s t least) f = Holds g P (kind.Flow s t least) ↔ Is
 IsDecidedBy g P q f = Unit {0}
 
 -- no atom waits on either side
-pub record AreBothDecided (s : GraphTheoryView SideView) : Type 0 where
+pub record AreBothDecided (s : GraphTheoryView SideView SideView) : Type 0 where
   pub surely : NoneWaits s.surely.stages
   pub possibly : NoneWaits s.possibly.stages
 

@@ -1,5 +1,5 @@
 -- Small sides of flows for the worked rows.
-use Rattle.std.specs.Prelude.{true, pos, List, [], ◌∷◌, Some}
+use Rattle.std.specs.Prelude.{true, false, pos, List, [], ◌∷◌, Some}
 use Rattle.mono_graph.specs.declared.amount.Amount.{Amount}
 use Rattle.mono_graph.specs.Worked.{edge, single}
 use Rattle.mono_problem.specs.declared.atom.Predicate.TheVariants as kind
@@ -8,13 +8,14 @@ use Rattle.mono_theory.specs.declared.stage.Stage.{Stage}
 use Rattle.mono_theory.specs.declared.stage.Stage.TheVariants as stage
 use Rattle.mono_theory.specs.Supports.{GraphTheoryView, SideView}
 
--- the only atom stands on a flow of these amounts, which rests on the edge at place 0
+-- the only atom stands on a flow of these amounts, which rests on the edge at place 0, of the possibly present edges
 abbrev pub standing : List Amount → SideView
 standing amounts = record {
+  possible = true;
   supports = Some (record { witness = by.Flow amounts; edges = 0 ∷ [] }) ∷ [];
   shown = [];
   watchers = (0 ∷ []) ∷ [];
-  stages = stage.Stands ∷ [];
+  stages = stage.Supported ∷ [];
   thorough = true;
 }
 
@@ -25,6 +26,7 @@ at_stage at amounts = record (standing amounts) { stages = at ∷ [] }
 -- the only atom is at this stage; the amounts of its support, and of what is shown of it
 abbrev pub side_of : Stage → List Amount → List Amount → SideView
 side_of at support shown = record {
+  possible = true;
   supports = Some (record { witness = by.Flow support; edges = [] }) ∷ [];
   shown = Some (record { witness = by.Flow shown; edges = [] }) ∷ [];
   watchers = [] ∷ [];
@@ -32,12 +34,12 @@ side_of at support shown = record {
   thorough = true;
 }
 
--- what a theory over one edge keeps of an atom with the number 4
-abbrev pub keeping : SideView → SideView → GraphTheoryView SideView
+-- what a theory over one edge keeps of an atom with the number 4, each on its own side
+abbrev pub keeping : SideView → SideView → GraphTheoryView SideView SideView
 keeping surely possibly = record {
   graph = single (edge 1 0 1 5);
   atoms = record { number = 4; graph = 0; var = 3; predicate = kind.Flow 0 1 (pos 5) } ∷ [];
   seen = [];
-  surely = surely;
-  possibly = possibly;
+  surely = record surely { possible = false };
+  possibly = record possibly { possible = true };
 }

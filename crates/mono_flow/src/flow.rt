@@ -82,15 +82,15 @@ fn flow_evidence(alloc: Global, graph: &Graph, amounts: &[Amount]) -> Result<Evi
     })
 }
 
-/// Those of the edges that have to stay absent, where the others may weigh `spare` in sum. None of them could come as
+/// Those of the edges that have to stay absent, where the others may weigh `slack` in sum. None of them could come as
 /// well. No edge is listed twice.
-fn needed(alloc: Global, graph: &Graph, absent: &[u32], spare: u64) -> Result<Vec<u32>, AllocError>
+fn needed(alloc: Global, graph: &Graph, absent: &[u32], slack: u64) -> Result<Vec<u32>, AllocError>
     requires known { All (λ k. k < length graph.now.edges) absent.now }
     requires distinct { IsTrue (is_distinct absent.now) }
-    ensures others { IfOk result (λ named. AreNeeded graph.now spare absent.now named.items) }
-    ensures each { IfOk result (λ named. EachIsNeeded graph.now spare absent.now named.items) }
+    ensures others { IfOk result (λ named. AreNeeded graph.now slack absent.now named.items) }
+    ensures each { IfOk result (λ named. EachIsNeeded graph.now slack absent.now named.items) }
 {
-    let mut left = spare;
+    let mut left = slack;
     let mut named = Vec::new(alloc);
     for place in absent {
         let edge = graph.edge(*place);
@@ -103,7 +103,7 @@ fn needed(alloc: Global, graph: &Graph, absent: &[u32], spare: u64) -> Result<Ve
     Ok(named)
 }
 
-/// The evidence that a set of nodes is, where absent edges that weigh `spare` in sum may come. It rests on the other
+/// The evidence that a set of nodes is, where absent edges that weigh `slack` in sum may come. It rests on the other
 /// absent edges that leave it, none of which could come as well. No node is listed twice.
 fn cut_evidence(
     alloc: Global,
@@ -111,18 +111,18 @@ fn cut_evidence(
     graph: &Graph,
     part: &Part,
     nodes: Vec<u32>,
-    spare: u64,
+    slack: u64,
 ) -> Result<Evidence, AllocError>
     requires size { marks.old ≡ graph.now.nodes }
     requires part { IsPartOf part.now graph.now }
     requires nodes { All (λ u. u < graph.now.nodes) nodes.items }
     requires distinct { IsTrue (is_distinct nodes.items) }
     ensures size { marks.new ≡ marks.old }
-    ensures evidence { IfOk result (IsCutEvidence graph.now part.now spare nodes.items) }
-    ensures each { IfOk result (λ e. EachIsNeeded graph.now spare (absent_out graph.now part.now nodes.items) e.edges) }
+    ensures evidence { IfOk result (IsCutEvidence graph.now part.now slack nodes.items) }
+    ensures each { IfOk result (λ e. EachIsNeeded graph.now slack (absent_out graph.now part.now nodes.items) e.edges) }
 {
     let absent = marks.absent_leaving(alloc, graph, part, nodes.as_slice())?;
-    let edges = needed(alloc, graph, absent.as_slice(), spare)?;
+    let edges = needed(alloc, graph, absent.as_slice(), slack)?;
     Ok(Evidence {
         witness: Witness::FlowCut(Row::from_vec(nodes)),
         edges: Row::from_vec(edges),
@@ -130,7 +130,7 @@ fn cut_evidence(
 }
 
 /// How much more than `weight` is still less than `least`.
-fn spare_of(least: i64, weight: u64) -> u64
+fn slack_of(least: i64, weight: u64) -> u64
     requires { IsTrue (int_lt (pos weight) least) }
     ensures { least ≡ pos (weight + result + 1) }
 {
@@ -190,8 +190,8 @@ impl Flow {
         match answer {
             FlowOrCut::Flow(amounts) => flow_evidence(alloc, graph, amounts.as_slice()),
             FlowOrCut::Cut(nodes) => {
-                let spare = spare_of(least, value);
-                cut_evidence(alloc, &mut self.marks, graph, part, nodes, spare)
+                let slack = slack_of(least, value);
+                cut_evidence(alloc, &mut self.marks, graph, part, nodes, slack)
             }
         }
     }

@@ -86,8 +86,8 @@ impl HasFlows for GraphTheory<Flow> {
         let frame = self.frame();
         let at = frame.place_of(atom);
         let edge = frame.graph().edge(place);
-        let shown = self.surely().shown_witness(frame, false, at);
-        let support = self.possibly().support_witness(frame, true, at);
+        let shown = self.surely().shown_witness(at);
+        let support = self.possibly().support_witness(at);
         Flows {
             under: amount_in(shown, edge.number),
             over: amount_in(support, edge.number),

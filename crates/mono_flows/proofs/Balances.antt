@@ -11,7 +11,7 @@ use Rattle.mono_graph.specs.Digraph.{Digraph, places, edge_at, has, is_distinct,
 use Rattle.mono_graph.specs.Flows.{is_flow, is_within, is_conserved, inflow, outflow, value_of, is_flow_of, amount_at}
 use Rattle.mono_graph.proofs.Places.{all_below, all_of}
 use Rattle.mono_graph.proofs.Membership.{has_cons, same_truth}
-use Rattle.mono_graph.proofs.FlowLaws.{total, total_is, ends_at}
+use Rattle.mono_graph.proofs.CutsBoundFlows.{total, total_is, ends_at}
 use Rattle.mono_flows.proofs.OneEdge.{none, moved_total}
 use Rattle.mono_graph.specs.declared.amount.Amount.{Amount}
 use Rattle.mono_flows.specs.Listed.{edges_of, can_carry, at_end, listed_out, listed_in, is_balanced_at, has_balanced_ends}

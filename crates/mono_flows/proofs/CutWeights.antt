@@ -7,7 +7,7 @@ use Rattle.std.proofs.lemmas.List.Sums.{count_by-le-length}
 use Rattle.mono_base.specs.declared.limits.TheConstants.{MAX_EDGES, MAX_WEIGHT}
 use Rattle.mono_graph.specs.Digraph.{Digraph, present, present_by, places, edge_at, has, leads_out, leaving, weight_of}
 use Rattle.mono_graph.specs.Flows.{is_flow_cut}
-use Rattle.mono_graph.proofs.FlowLaws.{total, total_is}
+use Rattle.mono_graph.proofs.CutsBoundFlows.{total, total_is}
 use Rattle.mono_flows.specs.Cuts.{weight_out}
 use Rattle.mono_graph.proofs.Prefixes.{has_new, has_other, has_again, marked_more}
 use Rattle.mono_flows.proofs.ListedSums.{fewer}

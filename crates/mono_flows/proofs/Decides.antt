@@ -6,7 +6,7 @@ use Rattle.std.proofs.lemmas.Int.{ints}
 use Rattle.mono_graph.specs.declared.amount.Amount.{Amount}
 use Rattle.mono_graph.specs.Digraph.{Digraph, HasEnds, is_distinct, edge_at, has, leads_out, present, present_by, weight_of}
 use Rattle.mono_graph.specs.Flows.{is_flow, is_flow_of, is_within, is_conserved, inflow, outflow, amount_at, value_of}
-use Rattle.mono_graph.proofs.FlowLaws.{flow_cut_excludes, flow_value_bounded, same_flow}
+use Rattle.mono_graph.proofs.CutsBoundFlows.{flow_cut_excludes, flow_value_bounded, same_flow}
 use Rattle.mono_graph.proofs.Places.{all_below}
 use Rattle.mono_flows.proofs.OneEdge.{flow_value_reached}
 use Rattle.mono_flows.specs.declared.found.FlowOrCut.{FlowOrCut}

@@ -11,7 +11,7 @@ use Rattle.mono_graph.specs.Digraph.{Digraph, present, present_by, places, edge_
 use Rattle.mono_graph.specs.Flows.{is_flow, is_within, is_conserved, inflow, outflow, value_of, is_flow_of, is_flow_cut, amount_at}
 use Rattle.mono_graph.proofs.Places.{all_of}
 use Rattle.mono_graph.proofs.Membership.{has_filter, filter_has, has_range, range_has}
-use Rattle.mono_graph.proofs.FlowLaws.{total_is, flow_value_bounded}
+use Rattle.mono_graph.proofs.CutsBoundFlows.{total_is, flow_value_bounded}
 use Rattle.mono_flows.proofs.OneEdge.{none, same_inflow, same_outflow, flow_value_reached}
 use Rattle.mono_graph.specs.declared.amount.Amount.{Amount}
 use Rattle.mono_flows.specs.Answers.{IsFlowOfValue}

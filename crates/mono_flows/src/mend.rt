@@ -134,7 +134,7 @@ fn take_from(
 
 /// Takes an excess back from the edges that enter its node, and a deficit from those that leave it. The source and the
 /// sink need no balance.
-fn take_back(
+fn balance(
     network: &Network,
     amounts: &mut Vec<u64>,
     pending: &mut Vec<Imbalance>,
@@ -158,7 +158,7 @@ fn take_back(
 }
 
 /// Takes back all that is pending, and what that brings.
-fn take_all_back(
+fn balance_all(
     network: &Network,
     amounts: &mut Vec<u64>,
     pending: &mut Vec<Imbalance>,
@@ -172,7 +172,7 @@ fn take_all_back(
         let Some(at) = pending.pop() else {
             return Ok(());
         };
-        take_back(network, amounts, pending, at)?;
+        balance(network, amounts, pending, at)?;
     }
     Ok(())
 }
@@ -209,6 +209,6 @@ pub(crate) fn mend(
     let mut pending = Vec::new(alloc);
     load(&mut amounts, listed);
     cancel_lost(network, &mut amounts, &mut pending, listed)?;
-    take_all_back(network, &mut amounts, &mut pending)?;
+    balance_all(network, &mut amounts, &mut pending)?;
     carrying(alloc, amounts.as_slice(), listed)
 }

@@ -5,7 +5,7 @@ use Rattle.std.proofs.lemmas.Bool.Decides.{nat_tests}
 use Rattle.mono_graph.specs.declared.edge.Edge.{Edge}
 use Rattle.mono_graph.specs.Digraph.{Digraph}
 use Rattle.mono_problem.specs.Instance.{no_graph}
-use Rattle.mono_gnf.proofs.GraphWith.{graph_with}
+use Rattle.mono_problem.specs.Growth.{graph_with}
 use Rattle.mono_gnf.proofs.Numbered.{of_number, IsFree, IsOnly, AreEdges, AreGraphs}
 
 -- the edges with numbers up to m

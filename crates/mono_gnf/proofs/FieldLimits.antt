@@ -13,8 +13,8 @@ use Rattle.mono_problem.specs.declared.atom.Predicate.TheVariants as kind
 use Rattle.mono_problem.specs.WellFormed.{IsMost, IsLeast}
 use Rattle.mono_gnf.specs.declared.fault.GnfFault.{GnfFault}
 use Rattle.mono_gnf.specs.declared.fault.GnfFault.TheVariants as fault
-use Rattle.mono_gnf.specs.declared.statement.Measure.{Measure}
-use Rattle.mono_gnf.specs.declared.statement.Measure.TheVariants as measure
+use Rattle.mono_gnf.specs.declared.statement.BoundedKind.{BoundedKind}
+use Rattle.mono_gnf.specs.declared.statement.BoundedKind.TheVariants as bounded_kind
 use Rattle.mono_gnf.specs.declared.statement.Statement.{Statement}
 use Rattle.mono_gnf.specs.declared.statement.Statement.TheVariants as says
 use Rattle.mono_gnf.specs.declared.statement.Word.{Word}
@@ -82,10 +82,10 @@ or_fault : (b : Bool) (e : GnfFault) (r : Result Statement GnfFault) (s : Statem
 or_fault true e r s h = absurd cc
 or_fault false e r s h = h
 
-bounded_within : (m : Measure) (strict : Bool) (u v k : ℕ) → k ≤ MAX_BOUND → IsBounded (bounded_by m strict u v k)
-bounded_within measure.Steps strict u v k low = most_within strict k low
-bounded_within measure.Distance strict u v k low = most_within strict k low
-bounded_within measure.Flow strict u v f low = least_within strict f low
+bounded_within : (m : BoundedKind) (strict : Bool) (u v k : ℕ) → k ≤ MAX_BOUND → IsBounded (bounded_by m strict u v k)
+bounded_within bounded_kind.Steps strict u v k low = most_within strict k low
+bounded_within bounded_kind.Distance strict u v k low = most_within strict k low
+bounded_within bounded_kind.Flow strict u v f low = least_within strict f low
 
 edge_within : (ts : List (List ℕ)) (s : Statement) → edge_of ts ≡ Ok s → IsWithin s
 edge_within ts s h = go (length ts == 5) h where

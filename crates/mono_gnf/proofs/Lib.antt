@@ -1,4 +1,3 @@
-pub mod GraphWith
 pub mod Steps
 pub mod EdgeForms
 pub mod FieldLimits

@@ -11,7 +11,7 @@ use Rattle.mono_graph.specs.declared.edge.Edge.{Edge}
 use Rattle.mono_graph.specs.Digraph.{Digraph}
 use Rattle.mono_problem.specs.declared.atom.Atom.{Atom}
 use Rattle.mono_problem.specs.Instance.{place_named, no_graph}
-use Rattle.mono_gnf.proofs.GraphWith.{graph_with}
+use Rattle.mono_problem.specs.Growth.{graph_with}
 use Rattle.mono_problem.specs.Growth.{greatest_var}
 use Rattle.mono_gnf.specs.Declarations.{EdgeLine, AtomLine, nodes_at}
 use Rattle.mono_gnf.specs.Stands.{numbered_edge, numbered_atom, edges_named, declared_graph, greatest}

@@ -11,7 +11,7 @@ use Rattle.mono_problem.specs.declared.atom.Predicate.{Predicate}
 use Rattle.mono_problem.specs.declared.atom.Predicate.TheVariants as kind
 use Rattle.mono_problem.specs.Instance.{Instance, no_graph, graph_at, identity_at, place_named, edges_total}
 use Rattle.mono_problem.specs.WellFormed.{IsInstance, IsOver, IsAtomAt}
-use Rattle.mono_gnf.proofs.GraphWith.{graph_with}
+use Rattle.mono_problem.specs.Growth.{graph_with}
 use Rattle.mono_problem.specs.Growth.{with_edge, with_atom}
 use Rattle.mono_problem.specs.Read.{no_atom}
 use Rattle.mono_problem.proofs.Entries.{edges-grown}

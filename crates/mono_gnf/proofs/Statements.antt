@@ -8,7 +8,7 @@ use Rattle.std.proofs.lemmas.List.Sums.{sum_by_push}
 use Rattle.mono_graph.specs.Digraph.{Digraph}
 use Rattle.mono_problem.specs.declared.atom.Atom.{Atom}
 use Rattle.mono_problem.specs.Instance.{no_graph, place_named}
-use Rattle.mono_gnf.proofs.GraphWith.{graph_with}
+use Rattle.mono_problem.specs.Growth.{graph_with}
 use Rattle.mono_problem.proofs.Entries.{edges-grown}
 use Rattle.mono_gnf.specs.declared.fault.GnfFault.{GnfFault}
 use Rattle.mono_gnf.specs.declared.fault.GnfFault.TheVariants as fault

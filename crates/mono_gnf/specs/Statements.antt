@@ -11,8 +11,8 @@ use Rattle.mono_problem.specs.declared.atom.Predicate.{Predicate}
 use Rattle.mono_problem.specs.declared.atom.Predicate.TheVariants as kind
 use Rattle.mono_gnf.specs.declared.fault.GnfFault.{GnfFault}
 use Rattle.mono_gnf.specs.declared.fault.GnfFault.TheVariants as fault
-use Rattle.mono_gnf.specs.declared.statement.Measure.{Measure}
-use Rattle.mono_gnf.specs.declared.statement.Measure.TheVariants as measure
+use Rattle.mono_gnf.specs.declared.statement.BoundedKind.{BoundedKind}
+use Rattle.mono_gnf.specs.declared.statement.BoundedKind.TheVariants as bounded_kind
 use Rattle.mono_gnf.specs.declared.statement.Statement.{Statement}
 use Rattle.mono_gnf.specs.declared.statement.Statement.TheVariants as says
 use Rattle.mono_gnf.specs.declared.statement.Word.{Word}
@@ -24,12 +24,12 @@ word_of t =
     else if bytes_eq t (codes "digraph") then Some word.Digraph
     else if bytes_eq t (codes "edge") then Some word.Edge
     else if bytes_eq t (codes "reach") then Some word.Reach
-    else if bytes_eq t (codes "distance_leq") then Some (word.Bounded measure.Steps false)
-    else if bytes_eq t (codes "distance_lt") then Some (word.Bounded measure.Steps true)
-    else if bytes_eq t (codes "weighted_distance_leq") then Some (word.Bounded measure.Distance false)
-    else if bytes_eq t (codes "weighted_distance_lt") then Some (word.Bounded measure.Distance true)
-    else if bytes_eq t (codes "maximum_flow_geq") then Some (word.Bounded measure.Flow false)
-    else if bytes_eq t (codes "maximum_flow_gt") then Some (word.Bounded measure.Flow true)
+    else if bytes_eq t (codes "distance_leq") then Some (word.Bounded bounded_kind.Steps false)
+    else if bytes_eq t (codes "distance_lt") then Some (word.Bounded bounded_kind.Steps true)
+    else if bytes_eq t (codes "weighted_distance_leq") then Some (word.Bounded bounded_kind.Distance false)
+    else if bytes_eq t (codes "weighted_distance_lt") then Some (word.Bounded bounded_kind.Distance true)
+    else if bytes_eq t (codes "maximum_flow_geq") then Some (word.Bounded bounded_kind.Flow false)
+    else if bytes_eq t (codes "maximum_flow_gt") then Some (word.Bounded bounded_kind.Flow true)
     else if bytes_eq t (codes "mst_weight_leq") then Some (word.Tree false)
     else if bytes_eq t (codes "mst_weight_lt") then Some (word.Tree true)
     else if bytes_eq t (codes "acyclic") then Some word.Acyclic
@@ -111,12 +111,12 @@ abbrev pub reach_of : List (List ℕ) → Result Statement GnfFault
 reach_of ts = with_fields (fields_of (MAX_WIDE ∷ MAX_WIDE ∷ MAX_WIDE ∷ MAX_VARS ∷ []) ts) (λ fs. says.Atom (field fs 0) (field fs 3) (kind.Reach (field fs 1) (field fs 2)))
 
 -- the forms with two nodes and a bound: `distance_leq G u v x k`, `maximum_flow_geq G s t x f` and those like them
-abbrev pub bounded_by : Measure → Bool → ℕ → ℕ → ℕ → Predicate
-bounded_by measure.Steps strict u v k = kind.Steps u v (at_most strict k)
-bounded_by measure.Distance strict u v k = kind.Distance u v (at_most strict k)
-bounded_by measure.Flow strict u v f = kind.Flow u v (at_least strict f)
+abbrev pub bounded_by : BoundedKind → Bool → ℕ → ℕ → ℕ → Predicate
+bounded_by bounded_kind.Steps strict u v k = kind.Steps u v (at_most strict k)
+bounded_by bounded_kind.Distance strict u v k = kind.Distance u v (at_most strict k)
+bounded_by bounded_kind.Flow strict u v f = kind.Flow u v (at_least strict f)
 
-abbrev pub bounded_of : Measure → Bool → List (List ℕ) → Result Statement GnfFault
+abbrev pub bounded_of : BoundedKind → Bool → List (List ℕ) → Result Statement GnfFault
 bounded_of m strict ts = with_fields (fields_of (MAX_WIDE ∷ MAX_WIDE ∷ MAX_WIDE ∷ MAX_VARS ∷ MAX_BOUND ∷ []) ts) (λ fs. says.Atom (field fs 0) (field fs 3) (bounded_by m strict (field fs 1) (field fs 2) (field fs 4)))
 
 -- `mst_weight_leq G x k`, `mst_weight_lt G x k`

@@ -36,7 +36,7 @@ const ACYCLIC: [u64; 2] = [WIDE, VARS];
 
 /// What the bound of a predicate between two nodes is on: the steps of a walk, its weight, or the value of a flow.
 #[derive(Clone, Copy)]
-pub(crate) enum Measure {
+pub(crate) enum BoundedKind {
     Steps,
     Distance,
     Flow,
@@ -49,7 +49,7 @@ pub(crate) enum Word {
     Digraph,
     Edge,
     Reach,
-    Bounded(Measure, bool),
+    Bounded(BoundedKind, bool),
     Tree(bool),
     Acyclic,
 }
@@ -96,17 +96,17 @@ fn word_named(token: &[u8]) -> Option<Word>
     } else if is(token, b"reach") {
         Some(Word::Reach)
     } else if is(token, b"distance_leq") {
-        Some(Word::Bounded(Measure::Steps, false))
+        Some(Word::Bounded(BoundedKind::Steps, false))
     } else if is(token, b"distance_lt") {
-        Some(Word::Bounded(Measure::Steps, true))
+        Some(Word::Bounded(BoundedKind::Steps, true))
     } else if is(token, b"weighted_distance_leq") {
-        Some(Word::Bounded(Measure::Distance, false))
+        Some(Word::Bounded(BoundedKind::Distance, false))
     } else if is(token, b"weighted_distance_lt") {
-        Some(Word::Bounded(Measure::Distance, true))
+        Some(Word::Bounded(BoundedKind::Distance, true))
     } else if is(token, b"maximum_flow_geq") {
-        Some(Word::Bounded(Measure::Flow, false))
+        Some(Word::Bounded(BoundedKind::Flow, false))
     } else if is(token, b"maximum_flow_gt") {
-        Some(Word::Bounded(Measure::Flow, true))
+        Some(Word::Bounded(BoundedKind::Flow, true))
     } else if is(token, b"mst_weight_leq") {
         Some(Word::Tree(false))
     } else if is(token, b"mst_weight_lt") {
@@ -255,7 +255,7 @@ fn least(strict: bool, bound: u64) -> i64
     }
 }
 
-impl Measure {
+impl BoundedKind {
     /// The predicate between two nodes whose bound is on this.
     fn predicate(self, strict: bool, from: u32, to: u32, bound: u64) -> Predicate
         requires { bound ≤ MAX_BOUND }
@@ -263,17 +263,17 @@ impl Measure {
         ensures within { IsBounded result }
     {
         match self {
-            Measure::Steps => Predicate::Steps {
+            BoundedKind::Steps => Predicate::Steps {
                 from,
                 to,
                 most: most(strict, bound),
             },
-            Measure::Distance => Predicate::Distance {
+            BoundedKind::Distance => Predicate::Distance {
                 from,
                 to,
                 most: most(strict, bound),
             },
-            Measure::Flow => Predicate::Flow {
+            BoundedKind::Flow => Predicate::Flow {
                 source: from,
                 sink: to,
                 least: least(strict, bound),
@@ -282,7 +282,7 @@ impl Measure {
     }
 }
 
-fn bounded(tokens: Tokens<'_>, measure: Measure, strict: bool) -> Result<Statement, GnfFault>
+fn bounded(tokens: Tokens<'_>, measure: BoundedKind, strict: bool) -> Result<Statement, GnfFault>
     ensures value { result ≡ bounded_of measure strict tokens.entry }
     ensures within { IfOk result IsWithin }
 {

@@ -13,8 +13,8 @@ use Rattle.mono_graph.specs.Walks.{is_walk, is_path, is_light, leads, is_cut, is
 use Rattle.mono_graph.specs.Flows.{is_flow, is_within, is_conserved, is_flow_of, is_flow_cut, value_of, amount_at}
 use Rattle.mono_graph.specs.Trees.{is_tree, is_spanning_tree, is_split, is_least, is_bridged}
 use Rattle.mono_graph.proofs.Parts.{list_all_weaker}
-use Rattle.mono_graph.proofs.FlowLaws.{total, total_is}
-use Rattle.mono_graph.proofs.WalkLaws.{lt_from_test}
+use Rattle.mono_graph.proofs.CutsBoundFlows.{total, total_is}
+use Rattle.mono_graph.proofs.CutsBoundWalks.{lt_from_test}
 
 -- ---- to a larger part
 

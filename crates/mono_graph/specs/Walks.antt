@@ -1,5 +1,5 @@
 -- Walks, and what shows that there is none: sets of nodes that no walk leaves, and labels that bound what walks cost.
-use Rattle.std.specs.Prelude.{ℕ, Bool, true, not, ◌&&◌, ℤ, pos, ◌+ℤ◌, int_lt, int_le, List, [], ◌∷◌, length, map, ◌==◌, if◌then◌else◌}
+use Rattle.std.specs.Prelude.{ℕ, Bool, true, not, ◌&&◌, ℤ, pos, ◌+ℤ◌, int_lt, int_le, List, [], ◌∷◌, length, map, sum_by, ◌==◌, if◌then◌else◌}
 use Rattle.std.specs.Ordering.{int_eq}
 use Rattle.std.specs.List.{list_all}
 use Rattle.mono_graph.specs.declared.edge.Edge.{Edge}
@@ -44,6 +44,10 @@ abbrev pub cost_of : Limit → Edge → ℕ
 cost_of limit.Free e = 0
 cost_of (limit.Steps most) e = 1
 cost_of (limit.Weight most) e = e.weight
+
+-- what the edges cost together
+abbrev pub cost_along : Limit → Digraph → List ℕ → ℕ
+cost_along limit g ks = sum_by (λ k. cost_of limit (edge_at g k)) ks
 
 -- the label of a node: the one that is listed, or one more than the bound
 abbrev pub label_at : List Label → ℤ → ℕ → ℤ

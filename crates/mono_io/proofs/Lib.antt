@@ -2,4 +2,4 @@ mod Fronts
 pub mod Growing
 pub mod KnownBytes
 mod Plans
-mod TextLemmas
+mod NamedTexts

@@ -116,7 +116,8 @@ impl<A: FileAccess> Shelf for FileShelf<A> {
     fn read(&mut self, buf: &mut [u8]) -> Result<usize, Failed>
         ensures rest { ReadConsumes self.old.rest self.new.rest result buf.new }
         ensures reached { IsSomeAnd self.old.place (λ at. at + length buf.old ≤ LAST_PLACE) → HasToldCause self.old.refusals self.new.refusals result }
-        ensures beyond { ¬ IsSomeAnd self.old.place (λ at. at + length buf.old ≤ LAST_PLACE) → IsErr result × (self.new ≡ record self.old { faults = counted self.old.faults }) }
+        ensures beyond { ¬ IsSomeAnd self.old.place (λ at. at + length buf.old ≤ LAST_PLACE)
+            → IsErr result × (self.new ≡ record self.old { faults = counted self.old.faults }) }
         ensures contents { self.new.contents ≡ self.old.contents }
 
         // What the trait asks, in this shelf's terms.

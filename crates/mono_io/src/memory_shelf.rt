@@ -54,7 +54,14 @@ impl Model for MemoryShelf {
 impl MemoryShelf {
     /// A shelf without texts, on which no call is to fail.
     pub fn new(alloc: Global) -> Self
-        ensures { result ≡ record { texts = []; chosen = []; place = None; most = 2 ^ 64 - 1; begun = 0; plan = record { calls = 0; listed = []; faults = 0 } } }
+        ensures { result ≡ record {
+          texts = [];
+          chosen = [];
+          place = None;
+          most = 2 ^ 64 - 1;
+          begun = 0;
+          plan = record { calls = 0; listed = []; faults = 0 };
+        } }
     {
         MemoryShelf {
             texts: TextTable::new(alloc),
@@ -108,7 +115,12 @@ impl Shelf for MemoryShelf {
     /// It fails exactly where the call is listed, or no text has the name.
     fn begin(&mut self, name: &str) -> Result<(), Failed>
         ensures answer { IsOk result ↔ (IsFalse (next_is_listed self.old.plan) × IsSome (text_named name.now self.old.texts)) }
-        ensures ok { OnOk result (self.new ≡ record self.old { chosen = name.now; place = Some 0; begun = counted self.old.begun; plan = succeeded self.old.plan }) }
+        ensures ok { OnOk result (self.new ≡ record self.old {
+          chosen = name.now;
+          place = Some 0;
+          begun = counted self.old.begun;
+          plan = succeeded self.old.plan;
+        }) }
         ensures err { OnErr result (self.new ≡ record self.old { chosen = []; place = None; begun = counted self.old.begun; plan = failed self.old.plan }) }
         ensures steady { IsTrue (is_over self.old.plan) → IsTrue (is_over self.new.plan) }
         ensures sure { OnErr result (IsTrue (is_over self.old.plan) → Lacks (Some self.old.texts) name.now) }

@@ -81,7 +81,8 @@ impl Sink for MemorySink {
         ensures answer { 0 < length bytes.now → (IsOk result ↔ (IsFalse (next_is_listed self.old.plan) × (0 < free_room self.old))) }
         ensures progress { IfOk result (λ count. 0 < length bytes.now → 0 < count) }
         ensures count { IfOk result (λ count. count ≡ min (length bytes.now) (min self.old.most (free_room self.old))) }
-        ensures ok { 0 < length bytes.now → OnOk result (self.new ≡ record self.old { bytes = self.old.bytes ++ take (moved result) bytes.now; plan = succeeded self.old.plan }) }
+        ensures ok { 0 < length bytes.now → OnOk result (self.new
+            ≡ record self.old { bytes = self.old.bytes ++ take (moved result) bytes.now; plan = succeeded self.old.plan }) }
         ensures err { OnErr result (self.new ≡ record self.old { plan = failed self.old.plan }) }
     {
         if bytes.is_empty() {

@@ -75,7 +75,8 @@ pub fn worked_readings()
     ensures twice { ¬ IsRead (codes "f") 2 (steady_shelf two_texts [] None 0 0) (steady_shelf two_texts (codes "f") (Some 2) 2 0) (codes "ab") }
     ensures hidden { ¬ IsRead (codes "f") 2 (steady_shelf two_texts [] None 0 0) (steady_shelf two_texts (codes "f") (Some 2) 1 1) (codes "ab") }
     ensures lost { ¬ IsRead (codes "f") 2 (steady_shelf two_texts [] None 0 0) (steady_shelf [] (codes "f") (Some 2) 1 0) (codes "ab") }
-    ensures unsteady { ¬ IsRead (codes "f") 2 (steady_shelf two_texts [] None 0 0) (record (steady_shelf two_texts (codes "f") (Some 2) 1 0) { steady = false }) (codes "ab") }
+    ensures unsteady { ¬ IsRead (codes "f") 2 (steady_shelf two_texts [] None 0 0)
+        (record (steady_shelf two_texts (codes "f") (Some 2) 1 0) { steady = false }) (codes "ab") }
 
     ensures too_long { IsTooLong (codes "f") 1 (steady_shelf two_texts [] None 0 0) (steady_shelf two_texts (codes "f") (Some 2) 1 0) }
     ensures at_limit { ¬ IsTooLong (codes "f") 2 (steady_shelf two_texts [] None 0 0) (steady_shelf two_texts (codes "f") (Some 3) 1 0) }
@@ -103,6 +104,13 @@ pub fn worked_memory()
     ensures succeeds { succeeded (record { calls = 2; listed = 3 ∷ []; faults = 5 }) ≡ record { calls = 3; listed = 3 ∷ []; faults = 5 } }
     ensures fails { failed (record { calls = 2; listed = 3 ∷ []; faults = 5 }) ≡ record { calls = 3; listed = 3 ∷ []; faults = 6 } }
 
-    ensures left { left_to_read (record { texts = two_texts; chosen = codes "f"; place = Some 1; most = 9; begun = 1; plan = record { calls = 2; listed = []; faults = 0 } }) ≡ codes "b" }
+    ensures left { left_to_read (record {
+      texts = two_texts;
+      chosen = codes "f";
+      place = Some 1;
+      most = 9;
+      begun = 1;
+      plan = record { calls = 2; listed = []; faults = 0 };
+    }) ≡ codes "b" }
     ensures room { free_room (record { bytes = codes "abc"; room = 10; most = 2; plan = record { calls = 2; listed = []; faults = 0 } }) ≡ 7 }
 {}

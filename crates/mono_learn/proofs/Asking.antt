@@ -23,7 +23,7 @@ use Rattle.mono_learn.specs.Reasons.{WasUnit, WasForced, ReasonHolds, HasReasons
 use Rattle.mono_learn.specs.Settled.{Settles, IsAskedFor, AreAskedFor}
 use Rattle.mono_learn.specs.Asked.{AsksFor}
 use Rattle.mono_learn.specs.declared.resolvent.Resolvent.{Resolvent}
-use Rattle.mono_learn.specs.Walks.{HasCome}
+use Rattle.mono_learn.specs.Resolving.{HasCome}
 use Rattle.mono_learn.proofs.PlacesOfLits.{place_in_at}
 use Rattle.mono_learn.proofs.Settling.{settles_none, settles_then, settles_more, settles_one, clause_after, late_before, reasons_more, reasons_settled, lemma_was_unit, reason_settled}
 

@@ -12,7 +12,7 @@ use Rattle.mono_trail.specs.Places.{reason_at}
 use Rattle.mono_trail.specs.Seen.{is_marked}
 use Rattle.mono_trail.specs.TrailView.{TrailView, IsSound}
 use Rattle.mono_learn.specs.Resolvents.{FalseBy}
-use Rattle.mono_learn.specs.Shrinks.{AreReasons, IsCovered, IsUncovered, IsRedundantAt, IsDropped, AreDropped}
+use Rattle.mono_learn.specs.Minimizing.{AreReasons, IsCovered, IsUncovered, IsRedundantAt, IsDropped, AreDropped}
 use Rattle.mono_learn.proofs.LitSets.{true_false, without_has}
 use Rattle.mono_learn.proofs.Marking.{by_place, by_same, unmarked}
 use Rattle.mono_learn.proofs.PlacesOfLits.{one_place, reason_others}

@@ -17,7 +17,7 @@ use Rattle.mono_trail.specs.TrailView.{TrailView, IsSound, Climbs, next_level, c
 use Rattle.mono_learn.specs.Explain.{AtomForces}
 use Rattle.mono_learn.specs.Reasons.{ReasonHolds, HasReasons}
 use Rattle.mono_learn.specs.Learned.{IsLearnt}
-use Rattle.mono_learn.specs.Laws.{MayJoin, StillShown, IsUnitIn}
+use Rattle.mono_learn.specs.ReasonsStay.{MayJoin, StillShown, IsUnitIn}
 use Rattle.mono_trail.proofs.Levels.{next_at_least}
 use Rattle.mono_learn.proofs.LitSets.{without_has}
 use Rattle.mono_learn.proofs.PlacesOfLits.{has_stands, stands_has, one_place, no_opposites}

@@ -27,10 +27,10 @@ use Rattle.mono_learn.specs.Learned.{IsLearnt, IsMinimal, Learns, Refutes}
 use Rattle.mono_learn.specs.Settled.{Settles, IsAskedFor, AreAskedFor}
 use Rattle.mono_learn.proofs.Asking.{clauses_more, was_unit, asked_by, get_left, get_right}
 use Rattle.mono_learn.proofs.Settling.{settles_more, reasons_more}
-use Rattle.mono_learn.proofs.Shrinking.{end_justified, learnt_false}
+use Rattle.mono_learn.proofs.MinimizingSteps.{end_justified, learnt_false}
 use Rattle.mono_learn.specs.Resolvents.{marked_from, AllFalse}
 use Rattle.mono_learn.specs.Joins.{Joins, StandsFor}
-use Rattle.mono_learn.specs.Walks.{IsFresh, HasCome}
+use Rattle.mono_learn.specs.Resolving.{IsFresh, HasCome}
 use Rattle.mono_learn.proofs.LitSets.{without_has, has-without}
 use Rattle.mono_base.proofs.Truth.{lit_itself, from_each}
 use Rattle.mono_learn.proofs.Marking.{mark_less}

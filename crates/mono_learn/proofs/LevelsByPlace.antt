@@ -13,7 +13,7 @@ use Rattle.mono_base.specs.Literal.{has_lit}
 use Rattle.mono_base.proofs.Truth.{same_lit, lit_itself}
 use Rattle.mono_learn.specs.Levels.{level_by, highest_of}
 use Rattle.mono_learn.specs.Resolvents.{FalseBy}
-use Rattle.mono_learn.specs.Walks.{AllImplied}
+use Rattle.mono_learn.specs.Resolving.{AllImplied}
 use Rattle.mono_learn.specs.Settled.{Settles}
 use Rattle.mono_learn.proofs.PlacesOfLits.{place_of_false}
 

@@ -4,10 +4,10 @@ pub mod ChainEnds
 pub mod Marking
 pub mod LevelsByPlace
 pub mod Joining
-pub mod Walking
+pub mod ResolvingSteps
 pub mod Settling
 pub mod Asking
-pub mod Shrinking
+pub mod MinimizingSteps
 pub mod Dropping
 pub mod Learning
 pub mod Points

@@ -23,13 +23,13 @@ use Rattle.mono_trail.specs.Seen.{is_marked}
 use Rattle.mono_trail.specs.TrailView.{TrailView, IsSound, StandsAt, count_to}
 use Rattle.mono_learn.specs.declared.resolvent.Resolvent.{Resolvent}
 use Rattle.mono_learn.specs.Asked.{AsksFor, AddsChains}
-use Rattle.mono_learn.specs.FirstPoint.{HasTwoPresent, HasOnePresent, StepsBack, WalksBack, LeadsTo, HasWalked, GoesOnWith, IsRedundant, IsMinimized, IsTaught}
+use Rattle.mono_learn.specs.FirstPoint.{HasTwoPresent, HasOnePresent, StepsBack, ResolvesBack, LeadsTo, HasResolved, GoesOnWith, IsRedundant, IsMinimized, IsTaught}
 use Rattle.mono_learn.specs.Levels.{level_by}
 use Rattle.mono_learn.specs.Reasons.{IsFalseClause, HasReasons}
 use Rattle.mono_learn.specs.Resolvents.{AllFalse, MarkedBy}
 use Rattle.mono_learn.specs.Settled.{Settles}
-use Rattle.mono_learn.specs.Shrinks.{IsRedundantAt, AreDropped}
-use Rattle.mono_learn.specs.Walks.{HasCome, IsAtLast, HasShrunk}
+use Rattle.mono_learn.specs.Minimizing.{IsRedundantAt, AreDropped}
+use Rattle.mono_learn.specs.Resolving.{HasCome, IsAtLast, HasMinimized}
 use Rattle.mono_learn.proofs.Asking.{clauses_asked, come_asked, named_more, was_unit}
 use Rattle.mono_learn.proofs.ChainEnds.{named-push}
 use Rattle.mono_learn.proofs.Learning.{clauses_grown}
@@ -38,20 +38,20 @@ use Rattle.mono_learn.proofs.LitSets.{true_false}
 use Rattle.mono_learn.proofs.Marking.{by_place, mark_less, has_mark, unmarked}
 use Rattle.mono_learn.proofs.PlacesOfLits.{one_place, is_number}
 use Rattle.mono_learn.proofs.Settling.{settles_none, clause_after}
-use Rattle.mono_learn.proofs.Shrinking.{shrunk_start}
-use Rattle.mono_learn.proofs.Walking.{start_below}
+use Rattle.mono_learn.proofs.MinimizingSteps.{minimized_start}
+use Rattle.mono_learn.proofs.ResolvingSteps.{start_below}
 
 -- ---- one step further
 
-walks_further : (cs : List (List ℤ)) (t : TrailView) (c : List ℤ) (ns : List ℕ) (e : List ℤ) (n : ℕ) (f : List ℤ) → WalksBack cs t c ns e → StepsBack cs t e n f → WalksBack cs t c (ns ++ n ∷ []) f
-walks_further cs t c [] e n f w s = (f, subst (λ (x : List ℤ). StepsBack cs t x n f) w s, refl)
-walks_further cs t c (m ∷ ns) e n f w s = (w.0, w.1, walks_further cs t w.0 ns e n f w.2 s)
+resolves_further : (cs : List (List ℤ)) (t : TrailView) (c : List ℤ) (ns : List ℕ) (e : List ℤ) (n : ℕ) (f : List ℤ) → ResolvesBack cs t c ns e → StepsBack cs t e n f → ResolvesBack cs t c (ns ++ n ∷ []) f
+resolves_further cs t c [] e n f w s = (f, subst (λ (x : List ℤ). StepsBack cs t x n f) w s, refl)
+resolves_further cs t c (m ∷ ns) e n f w s = (w.0, w.1, resolves_further cs t w.0 ns e n f w.2 s)
 
-pub walked_none : (cs : List (List ℤ)) (t : TrailView) (n : ℕ) (used : List ℕ) → IsFalseClause cs t.lits n → used ≡ n ∷ [] → HasWalked cs t n used
-walked_none cs t n used w eu = record {
+pub leads_none : (cs : List (List ℤ)) (t : TrailView) (n : ℕ) (used : List ℕ) → IsFalseClause cs t.lits n → used ≡ n ∷ [] → HasResolved cs t n used
+leads_none cs t n used w eu = record {
   at = λ e h.
       let k : chain_end (clauses_named cs used) ≡ Some w.clause = rw (eu, w.is) refl in
-      record { clause = w.clause; is = w.is; reasons = []; walk = same_Some e w.clause (sym h ∙ k) };
+      record { clause = w.clause; is = w.is; reasons = []; resolutions = same_Some e w.clause (sym h ∙ k) };
 }
 
 -- the clause that the marks stand for has two literals of the present level
@@ -85,15 +85,15 @@ two_present cs t start p m used s one es h on two =
     }
 
 -- the walk goes on with the reason of the literal at the last marked place
-walked_one : (cs : List (List ℤ)) (t : TrailView) (start p conflict : ℕ) (m : Resolvent) (used used' : List ℕ) → IsSound t → 1 ≤ t.level → start ≡ count_to (t.level - 1) t.marks → HasCome cs t.lits start (p + 1) m used → is_marked m.seen.items p ≡ true → 2 ≤ m.count → HasWalked cs t conflict used → GoesOnWith cs t p used used' → HasWalked cs t conflict used'
-walked_one cs t start p conflict m used used' s one es h on two w g = record {
+leads_one : (cs : List (List ℤ)) (t : TrailView) (start p conflict : ℕ) (m : Resolvent) (used used' : List ℕ) → IsSound t → 1 ≤ t.level → start ≡ count_to (t.level - 1) t.marks → HasCome cs t.lits start (p + 1) m used → is_marked m.seen.items p ≡ true → 2 ≤ m.count → HasResolved cs t conflict used → GoesOnWith cs t p used used' → HasResolved cs t conflict used'
+leads_one cs t start p conflict m used used' s one es h on two w g = record {
   at = λ e k.
       let before = w.at h.end h.is_end in
       record {
         clause = before.clause;
         is = before.is;
         reasons = before.reasons ++ g.number ∷ [];
-        walk = walks_further cs t before.clause before.reasons h.end g.number e before.walk (record {
+        resolutions = resolves_further cs t before.clause before.reasons h.end g.number e before.resolutions (record {
           two = two_present cs t start p m used s one es h on two;
           place = p;
           on_trail = omega (arith, h.resolvent.marks.below p on, h.resolvent.marks.within);
@@ -138,25 +138,25 @@ step_after ds cs more t u c n e s b = record {
   resolved = b.resolved;
 }
 
-walks_after : (ds cs more : List (List ℤ)) (t u : TrailView) (c : List ℤ) (ns : List ℕ) (e : List ℤ) → Settles ds t u → WalksBack cs t c ns e → WalksBack (cs ++ more) u c ns e
-walks_after ds cs more t u c [] e s w = w
-walks_after ds cs more t u c (n ∷ ns) e s w = (w.0, step_after ds cs more t u c n w.0 s w.1, walks_after ds cs more t u w.0 ns e s w.2)
+resolves_after : (ds cs more : List (List ℤ)) (t u : TrailView) (c : List ℤ) (ns : List ℕ) (e : List ℤ) → Settles ds t u → ResolvesBack cs t c ns e → ResolvesBack (cs ++ more) u c ns e
+resolves_after ds cs more t u c [] e s w = w
+resolves_after ds cs more t u c (n ∷ ns) e s w = (w.0, step_after ds cs more t u c n w.0 s w.1, resolves_after ds cs more t u w.0 ns e s w.2)
 
 leads_after : (ds cs more : List (List ℤ)) (t u : TrailView) (conflict : ℕ) (e : List ℤ) → Settles ds t u → LeadsTo cs t conflict e → LeadsTo (cs ++ more) u conflict e
-leads_after ds cs more t u conflict e s w = record { clause = w.clause; is = numbered_more cs more conflict (is_number cs conflict w.clause w.is).high ∙ w.is; reasons = w.reasons; walk = walks_after ds cs more t u w.clause w.reasons e s w.walk }
+leads_after ds cs more t u conflict e s w = record { clause = w.clause; is = numbered_more cs more conflict (is_number cs conflict w.clause w.is).high ∙ w.is; reasons = w.reasons; resolutions = resolves_after ds cs more t u w.clause w.reasons e s w.resolutions }
 
-walked_asked : (p : Instance) (t0 t : TrailView) (j0 j : List Step) (conflict : ℕ) (used : List ℕ) → AsksFor p t0 j0 t j → IsTrue (names_clauses (clauses_after p j0) used) → HasWalked (clauses_after p j0) t0 conflict used → HasWalked (clauses_after p j) t conflict used
-walked_asked p t0 t j0 j conflict used a named w =
+leads_asked : (p : Instance) (t0 t : TrailView) (j0 j : List Step) (conflict : ℕ) (used : List ℕ) → AsksFor p t0 j0 t j → IsTrue (names_clauses (clauses_after p j0) used) → HasResolved (clauses_after p j0) t0 conflict used → HasResolved (clauses_after p j) t conflict used
+leads_asked p t0 t j0 j conflict used a named w =
     let more : List (List ℤ) = map clause_of (lemma_steps a.lemmas) in
-    subst (λ (cs : List (List ℤ)). HasWalked cs t conflict used) (sym (clauses_asked p t0 t j0 j a)) (record {
+    subst (λ (cs : List (List ℤ)). HasResolved cs t conflict used) (sym (clauses_asked p t0 t j0 j a)) (record {
       at = λ e h. leads_after (clauses_after p j) (clauses_after p j0) more t0 t conflict e a.settles (w.at e (ap chain_end (sym (named_more (clauses_after p j0) more used named)) ∙ h));
     })
 
 -- one step of the walk, with the lemmas that it asks for
-pub walked_more : (p : Instance) (t0 t : TrailView) (j0 j : List Step) (start place conflict : ℕ) (m : Resolvent) (used used' : List ℕ) → IsSound t → 1 ≤ t.level → start ≡ count_to (t.level - 1) t.marks → AsksFor p t0 j0 t j → HasCome (clauses_after p j0) t0.lits start (place + 1) m used → is_marked m.seen.items place ≡ true → 2 ≤ m.count
-    → HasWalked (clauses_after p j0) t0 conflict used → GoesOnWith (clauses_after p j) t place used used' → HasWalked (clauses_after p j) t conflict used'
-walked_more p t0 t j0 j start place conflict m used used' s one es a h on two w g =
-    walked_one (clauses_after p j) t start place conflict m used used' s one es (come_asked p t0 t j0 j start (place + 1) m used a h) on two (walked_asked p t0 t j0 j conflict used a h.named w) g
+pub leads_more : (p : Instance) (t0 t : TrailView) (j0 j : List Step) (start place conflict : ℕ) (m : Resolvent) (used used' : List ℕ) → IsSound t → 1 ≤ t.level → start ≡ count_to (t.level - 1) t.marks → AsksFor p t0 j0 t j → HasCome (clauses_after p j0) t0.lits start (place + 1) m used → is_marked m.seen.items place ≡ true → 2 ≤ m.count
+    → HasResolved (clauses_after p j0) t0 conflict used → GoesOnWith (clauses_after p j) t place used used' → HasResolved (clauses_after p j) t conflict used'
+leads_more p t0 t j0 j start place conflict m used used' s one es a h on two w g =
+    leads_one (clauses_after p j) t start place conflict m used used' s one es (come_asked p t0 t j0 j start (place + 1) m used a h) on two (leads_asked p t0 t j0 j conflict used a h.named w) g
 
 -- ---- the clause that is left
 
@@ -169,8 +169,8 @@ point cs t start last m used s one es a = record {
   others = λ l h n. let w = a.come.resolvent.marks.only l h in lower l w n (by_place start w.place);
 }
   where
-    only : HasShrunk cs t.lits start last m.seen.items m.kept.items used
-    only = shrunk_start cs t.lits start last m m.kept.items used a (IsPermutation-refl m.kept.items)
+    only : HasMinimized cs t.lits start last m.seen.items m.kept.items used
+    only = minimized_start cs t.lits start last m m.kept.items used a (IsPermutation-refl m.kept.items)
 
     lower : (l : ℤ) → (w : MarkedBy t.lits m.seen.items (last + 1) l) → l ≢ neg_ℤ (lit_at t.lits last) → (w.place < start) ⊎ (start ≤ w.place) → level_by t l < t.level
     lower l w n (inl low) = level_before t start (last + 1) l s one es (record { place = w.place; below = w.below; within = omega (arith, w.below, a.within); there = w.there }) low
@@ -182,7 +182,7 @@ in_range (y ∷ ks) zero d lt = refl
 in_range (y ∷ ks) (suc j) d lt = in_range ks j d (omega arith)
 
 -- it without its redundant literals
-minimized : (cs : List (List ℤ)) (t : TrailView) (start last : ℕ) (m : Resolvent) (seen : List Bool) (kept used used' : List ℕ) (c : List ℤ) → IsSound t → 1 ≤ t.level → start ≡ count_to (t.level - 1) t.marks → (a : IsAtLast cs t.lits start last m used) → HasShrunk cs t.lits start last seen kept used' → IsExactEnd cs (record { clause = c; used = used' })
+minimized : (cs : List (List ℤ)) (t : TrailView) (start last : ℕ) (m : Resolvent) (seen : List Bool) (kept used used' : List ℕ) (c : List ℤ) → IsSound t → 1 ≤ t.level → start ≡ count_to (t.level - 1) t.marks → (a : IsAtLast cs t.lits start last m used) → HasMinimized cs t.lits start last seen kept used' → IsExactEnd cs (record { clause = c; used = used' })
     → AreDropped cs t m.seen.items seen kept 0 → IsMinimized cs t a.come.end c
 minimized cs t start last m seen kept used used' c s one es a h x d = record {
   part = from_each (has_lit a.come.end) c (λ l has. let w = to_new l has in a.come.resolvent.marks.all l (record { place = w.place; below = w.below; there = w.there; marked = d.fewer w.place w.marked }));
@@ -190,8 +190,8 @@ minimized cs t start last m seen kept used used' c s one es a h x d = record {
   goes = λ k lt has off. goes k lt has off (cases_Bool (is_marked seen k));
 }
   where
-    only : HasShrunk cs t.lits start last m.seen.items m.kept.items used
-    only = shrunk_start cs t.lits start last m m.kept.items used a (IsPermutation-refl m.kept.items)
+    only : HasMinimized cs t.lits start last m.seen.items m.kept.items used
+    only = minimized_start cs t.lits start last m m.kept.items used a (IsPermutation-refl m.kept.items)
 
     same : x.end ≡ h.end
     same = same_Some x.end h.end (sym x.is_end ∙ h.is_end)
@@ -244,11 +244,11 @@ minimized cs t start last m seen kept used used' c s one es a h x d = record {
         lower j stood gone (inl low) = omega (arith, level_low (t.level - 1) t.marks j (omega (arith, low, es)), one)
         lower j stood gone (inr high) = absurd (true_false (is_marked seen last) h.marked (subst (λ (q : ℕ). is_marked seen q ≡ false) (only.one j high stood) gone))
 
-pub taught : (cs : List (List ℤ)) (t : TrailView) (last conflict : ℕ) (m : Resolvent) (seen : List Bool) (kept used used' : List ℕ) (c : List ℤ) → IsSound t → 1 ≤ t.level → IsAtLast cs t.lits (count_to (t.level - 1) t.marks) last m used → HasShrunk cs t.lits (count_to (t.level - 1) t.marks) last seen kept used' → IsExactEnd cs (record { clause = c; used = used' })
-    → AreDropped cs t m.seen.items seen kept 0 → HasWalked cs t conflict used → IsTaught cs t conflict c
+pub taught : (cs : List (List ℤ)) (t : TrailView) (last conflict : ℕ) (m : Resolvent) (seen : List Bool) (kept used used' : List ℕ) (c : List ℤ) → IsSound t → 1 ≤ t.level → IsAtLast cs t.lits (count_to (t.level - 1) t.marks) last m used → HasMinimized cs t.lits (count_to (t.level - 1) t.marks) last seen kept used' → IsExactEnd cs (record { clause = c; used = used' })
+    → AreDropped cs t m.seen.items seen kept 0 → HasResolved cs t conflict used → IsTaught cs t conflict c
 taught cs t last conflict m seen kept used used' c s one a h x d w = record {
   whole = a.come.end;
-  walked = w.at a.come.end a.come.is_end;
+  leads = w.at a.come.end a.come.is_end;
   point = point cs t (count_to (t.level - 1) t.marks) last m used s one refl a;
   minimized = minimized cs t (count_to (t.level - 1) t.marks) last m seen kept used used' c s one refl a h x d;
 }
@@ -257,7 +257,7 @@ taught cs t last conflict m seen kept used used' c s one a h x d w = record {
 pub taught_grown : (p : Instance) (j j' : List Step) (shown : ℕ → List ℤ) (t : TrailView) (conflict : ℕ) (c d : List ℤ) → HasReasons p (clauses_after p j) shown t → AddsChains j j' → d ≡ c → IsTaught (clauses_after p j) t conflict c → IsTaught (clauses_after p j') t conflict d
 taught_grown p j j' shown t conflict c d reasons g e w = subst (IsTaught (clauses_after p j') t conflict) (sym e) (subst (λ (cs : List (List ℤ)). IsTaught cs t conflict c) (sym (clauses_grown p j j' g)) (record {
   whole = w.whole;
-  walked = leads_after [] (clauses_after p j) more t t conflict w.whole (settles_none [] t) w.walked;
+  leads = leads_after [] (clauses_after p j) more t t conflict w.whole (settles_none [] t) w.leads;
   point = w.point;
   minimized = record {
     part = w.minimized.part;

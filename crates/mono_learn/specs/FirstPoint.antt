@@ -42,19 +42,19 @@ pub record StepsBack (cs : List (List ℤ)) (t : TrailView) (c : List ℤ) (n : 
   pub resolved : resolvent c reason ≡ Some e
 
 -- such steps with these reasons lead from the clause c to the clause e
-abbrev pub WalksBack : List (List ℤ) → TrailView → List ℤ → List ℕ → List ℤ → Type 0
-WalksBack cs t c [] e = e ≡ c
-WalksBack cs t c (n ∷ ns) e = (d : List ℤ) × StepsBack cs t c n d × WalksBack cs t d ns e
+abbrev pub ResolvesBack : List (List ℤ) → TrailView → List ℤ → List ℕ → List ℤ → Type 0
+ResolvesBack cs t c [] e = e ≡ c
+ResolvesBack cs t c (n ∷ ns) e = (d : List ℤ) × StepsBack cs t c n d × ResolvesBack cs t d ns e
 
 -- steps back lead from the clause of that number to the clause e
 pub record LeadsTo (cs : List (List ℤ)) (t : TrailView) (conflict : ℕ) (e : List ℤ) : Type 0 where
   pub clause : List ℤ
   pub is : numbered cs conflict ≡ Some clause
   pub reasons : List ℕ
-  pub walk : WalksBack cs t clause reasons e
+  pub resolutions : ResolvesBack cs t clause reasons e
 
 -- the chain's end is what steps back from the conflict lead to
-pub record HasWalked (cs : List (List ℤ)) (t : TrailView) (conflict : ℕ) (used : List ℕ) : Type 0 where
+pub record HasResolved (cs : List (List ℤ)) (t : TrailView) (conflict : ℕ) (used : List ℕ) : Type 0 where
   pub at : (e : List ℤ) → chain_end (clauses_named cs used) ≡ Some e → LeadsTo cs t conflict e
 
 -- the chain goes on with the reason of the literal at the place
@@ -85,6 +85,6 @@ pub record IsMinimized (cs : List (List ℤ)) (t : TrailView) (c d : List ℤ) :
 -- the clause is what the conflict teaches: that of the first unique implication point, without its redundant literals
 pub record IsTaught (cs : List (List ℤ)) (t : TrailView) (conflict : ℕ) (c : List ℤ) : Type 0 where
   pub whole : List ℤ
-  pub walked : LeadsTo cs t conflict whole
+  pub leads : LeadsTo cs t conflict whole
   pub point : HasOnePresent t whole
   pub minimized : IsMinimized cs t whole c

@@ -2,12 +2,12 @@ pub mod Explain
 pub mod Reasons
 pub mod Settled
 pub mod Learned
-pub mod Laws
+pub mod ReasonsStay
 pub mod Asked
 pub mod Levels
 pub mod Resolvents
 pub mod Joins
-pub mod Walks
-pub mod Shrinks
+pub mod Resolving
+pub mod Minimizing
 pub mod FirstPoint
 pub mod Worked

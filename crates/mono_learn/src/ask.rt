@@ -1,7 +1,6 @@
 //! The reasons of literals, late ones made.
 
 ghost use Rattle.std.specs.Prelude.{◌≡◌, ◌≢◌, ℕ, ◌<◌, ◌≤◌, length, IfOk};
-ghost use Rattle.mono_base.specs.Literal.{lit_at};
 ghost use Rattle.mono_steps.specs.Steps.{clauses_after};
 ghost use Rattle.mono_trail.specs.declared.reason.Reason.TheVariants.{Decided, Clause, Late};
 ghost use Rattle.mono_trail.specs.Places.{reason_at};
@@ -10,7 +9,6 @@ ghost use Rattle.mono_learn.specs.Reasons.{WasUnit, HasReasons};
 ghost use Rattle.mono_learn.specs.Asked.{AsksFor};
 
 use crate::{Explainer, places};
-use mono_base::Lit;
 use mono_problem::Problem;
 use mono_steps::Journal;
 use mono_trail::{Reason, Trail};
@@ -23,7 +21,6 @@ fn late_reason<E: Explainer>(
     journal: &mut Journal,
     by: &mut E,
     place: usize,
-    lit: Lit,
     atom: u32,
     kept: u32,
 ) -> Result<u64, AllocError>
@@ -31,7 +28,6 @@ fn late_reason<E: Explainer>(
     requires problem { E.problem by.old ≡ problem.now }
     requires reasons { HasReasons problem.now (clauses_after problem.now journal.old) (E.shown by.old) trail.old }
     requires place { place < length trail.old.lits }
-    requires lit { lit ≡ lit_at trail.old.lits place }
     requires late { reason_at trail.old.marks place ≡ Late atom kept }
     ensures by { by.new ≡ by.old }
     ensures asks { AsksFor problem.now trail.old journal.old trail.new journal.new }
@@ -40,6 +36,7 @@ fn late_reason<E: Explainer>(
     ensures is { IfOk result (λ n. WasUnit (clauses_after problem.now journal.new) trail.new.lits place n) }
     ensures why { IfOk result (λ n. reason_at trail.new.marks place ≡ Clause n) }
 {
+    let lit = places::literal(trail, place);
     let lemma = by.explain(atom, lit, kept)?;
     let number = journal.push_lemma(problem, lemma)?;
     trail.settle(lit.var(), number);
@@ -71,8 +68,7 @@ pub fn reason_of<E: Explainer>(
         Reason::Decided => unreachable!(),
         Reason::Clause(number) => Ok(number),
         Reason::Late { atom, kept } => {
-            let lit = places::literal(trail, place);
-            late_reason(problem, trail, journal, by, place, lit, atom, kept)
+            late_reason(problem, trail, journal, by, place, atom, kept)
         }
     }
 }

@@ -7,15 +7,15 @@ ghost use Rattle.mono_steps.specs.Journals.{AddsLemmas};
 ghost use Rattle.mono_learn.specs.Reasons.{HasReasons, IsFalseClause, IsConflict};
 ghost use Rattle.mono_learn.specs.Settled.{Settles, AreAskedFor};
 ghost use Rattle.mono_learn.specs.Learned.{Learns, IsLearnt, IsMinimal};
-ghost use Rattle.mono_learn.specs.FirstPoint.{HasWalked, IsTaught};
+ghost use Rattle.mono_learn.specs.FirstPoint.{HasResolved, IsTaught};
 ghost use Rattle.mono_learn.specs.Asked.{AsksFor, AddsChains, PushesChain, IsDerived};
-ghost use Rattle.mono_learn.specs.Walks.{IsFresh, HasCome, IsAtLast};
-ghost use Rattle.mono_learn.specs.Shrinks.{AreReasons};
+ghost use Rattle.mono_learn.specs.Resolving.{IsFresh, HasCome, IsAtLast};
+ghost use Rattle.mono_learn.specs.Minimizing.{AreReasons};
 
+use crate::analysis::Analysis;
 use crate::levels::highest;
+use crate::minimize::{kept_lits, unmark};
 use crate::resolvent::Resolvent;
-use crate::shrink::{kept_lits, shrink, unmark};
-use crate::walk::walk;
 use crate::{Explainer, places};
 use mono_base::{Lit, Row};
 use mono_problem::Problem;
@@ -34,32 +34,6 @@ pub struct Learnt {
     pub number: u64,
 }
 
-/// The chain begins with a false clause.
-pub(crate) fn begin(
-    problem: &Problem,
-    trail: &Trail,
-    journal: &Journal,
-    start: usize,
-    conflict: u64,
-    resolvent: &mut Resolvent,
-    used: &mut Vec<u64>,
-) -> Result<(), AllocError>
-    requires sound { IsSound trail.now }
-    requires start { start < length trail.now.lits }
-    requires conflict { IsFalseClause (clauses_after problem.now journal.now) trail.now.lits conflict }
-    requires fresh { IsFresh (length trail.now.lits) resolvent.old }
-    requires unused { used.old.items ≡ [] }
-    ensures come { OnOk result (HasCome (clauses_after problem.now journal.now) trail.now.lits start (length trail.now.lits) resolvent.new used.new.items) }
-    ensures some { OnOk result (IsConflict (clauses_after problem.now journal.now) trail.now conflict → 1 ≤ trail.now.level → start ≡ count_to (trail.now.level - 1) trail.now.marks → 1 ≤ resolvent.new.count) }
-    ensures walked { OnOk result (HasWalked (clauses_after problem.now journal.now) trail.now conflict used.new.items) }
-{
-    // A true literal, which the false clause doesn't have: nothing is left out.
-    let lit = places::literal(trail, start);
-    used.push(conflict)?;
-    resolvent.join_all(trail, start, journal.clause(problem, conflict), lit)?;
-    Ok(())
-}
-
 /// A clause, the chain that it is the end of, and the level to go back to.
 #[derive(Drop)]
 struct Derived {
@@ -68,36 +42,44 @@ struct Derived {
     back_to: u32,
 }
 
-/// The clause at the first unique implication point, without its redundant literals.
-fn finish(
-    alloc: Global,
-    problem: &Problem,
-    trail: &mut Trail,
-    journal: &Journal,
-    last: usize,
-    mut resolvent: Resolvent,
-    mut used: Vec<u64>,
-) -> Result<Derived, AllocError>
-    requires sound { IsSound trail.old }
-    requires level { 1 ≤ trail.old.level }
-    requires reasons { AreReasons (clauses_after problem.now journal.now) trail.old }
-    requires last { IsAtLast (clauses_after problem.now journal.now) trail.old.lits (count_to (trail.old.level - 1) trail.old.marks) last resolvent used.items }
-    ensures same { trail.new ≡ trail.old }
-    ensures derived { IfOk result (λ d. IsDerived (clauses_after problem.now journal.now) trail.old d.lits.items d.used.items d.back_to) }
-    ensures taught { IfOk result (λ d. (conflict : ℕ) → HasWalked (clauses_after problem.now journal.now) trail.old conflict used.items → IsTaught (clauses_after problem.now journal.now) trail.old conflict d.lits.items) }
-{
-    shrink(problem, trail, journal, &mut resolvent, &mut used)?;
-    let Resolvent { mut seen, kept, .. } = resolvent;
-    let mut lits = kept_lits(alloc, trail, seen.as_slice(), kept.as_slice())?;
-    let back_to = highest(trail, lits.as_slice());
-    lits.push(places::literal(trail, last).negated())?;
-    unmark(&mut seen, kept.as_slice(), last);
-    trail.give_back(seen);
-    Ok(Derived {
-        lits,
-        used,
-        back_to,
-    })
+impl Analysis {
+    /// The clause at the first unique implication point, without its redundant literals.
+    fn finish(
+        mut self,
+        alloc: Global,
+        problem: &Problem,
+        trail: &mut Trail,
+        journal: &Journal,
+        last: usize,
+    ) -> Result<Derived, AllocError>
+        requires sound { IsSound trail.old }
+        requires level { 1 ≤ trail.old.level }
+        requires reasons { AreReasons (clauses_after problem.now journal.now) trail.old }
+        requires last { IsAtLast (clauses_after problem.now journal.now) trail.old.lits
+            (count_to (trail.old.level - 1) trail.old.marks) last self.resolvent self.used.items }
+        ensures same { trail.new ≡ trail.old }
+        ensures derived { IfOk result (λ d. IsDerived (clauses_after problem.now journal.now) trail.old d.lits.items d.used.items d.back_to) }
+        ensures taught { IfOk result (λ d. (conflict : ℕ) → HasResolved (clauses_after problem.now journal.now) trail.old conflict self.used.items
+            → IsTaught (clauses_after problem.now journal.now) trail.old conflict d.lits.items) }
+    {
+        self.minimize(problem, trail, journal)?;
+        let Analysis {
+            resolvent,
+            used,
+            ..
+        } = self;
+        let Resolvent { mut seen, kept, .. } = resolvent;
+        let mut lits = kept_lits(alloc, trail, seen.as_slice(), kept.as_slice())?;
+        let back_to = highest(trail, lits.as_slice());
+        lits.push(places::literal(trail, last).negated())?;
+        unmark(&mut seen, kept.as_slice(), last);
+        trail.give_back(seen);
+        Ok(Derived {
+            lits,
+            used,
+            back_to,
+        })
+    }
 }
 
 /// The clause that a conflict teaches.
@@ -122,27 +104,10 @@ fn derive<E: Explainer>(
     ensures taught { IfOk result (λ d. IsTaught (clauses_after problem.now journal.new) trail.new conflict d.lits.items) }
 {
     let start = trail.count_to(trail.level() - 1);
-    let mut resolvent = Resolvent::new(alloc, trail)?;
-    let mut used = Vec::new(alloc);
-    begin(
-        problem,
-        trail,
-        journal,
-        start,
-        conflict,
-        &mut resolvent,
-        &mut used,
-    )?;
-    let last = walk(
-        problem,
-        trail,
-        journal,
-        by,
-        start,
-        &mut resolvent,
-        &mut used,
-    )?;
-    finish(alloc, problem, trail, journal, last, resolvent, used)
+    let mut analysis = Analysis::new(alloc, trail, start)?;
+    analysis.begin(problem, trail, journal, conflict)?;
+    let last = analysis.resolve_until_one(problem, trail, journal, by)?;
+    analysis.finish(alloc, problem, trail, journal, last)
 }
 
 /// The chain joins the journal.

@@ -11,9 +11,8 @@ ghost use Rattle.mono_learn.specs.Learned.{Refutes};
 ghost use Rattle.mono_learn.specs.Asked.{AsksFor, AddsChains, PushesChain};
 
 use crate::Explainer;
-use crate::learn::begin;
+use crate::analysis::Analysis;
 use crate::resolvent::Resolvent;
-use crate::walk::unwind;
 use mono_base::Row;
 use mono_problem::Problem;
 use mono_steps::{Chain, Clause, Journal};
@@ -39,22 +38,19 @@ fn empty_chain<E: Explainer>(
     ensures reasons { HasReasons problem.now (clauses_after problem.now journal.new) (E.shown by.old) trail.new }
     ensures exact { IfOk result (λ used. IsExactEnd (clauses_after problem.now journal.new) (record { clause = []; used = used.items })) }
 {
-    let mut used = Vec::new(alloc);
     if journal.clause(problem, conflict).is_empty() {
+        let mut used = Vec::new(alloc);
         used.push(conflict)?;
         return Ok(used);
     }
-    let mut resolvent = Resolvent::new(alloc, trail)?;
-    begin(
-        problem,
-        trail,
-        journal,
-        0,
-        conflict,
-        &mut resolvent,
-        &mut used,
-    )?;
-    unwind(problem, trail, journal, by, &mut resolvent, &mut used)?;
+    let mut analysis = Analysis::new(alloc, trail, 0)?;
+    analysis.begin(problem, trail, journal, conflict)?;
+    analysis.resolve_all(problem, trail, journal, by)?;
+    let Analysis {
+        resolvent,
+        used,
+        ..
+    } = analysis;
     let Resolvent { seen, .. } = resolvent;
     trail.give_back(seen);
     Ok(used)

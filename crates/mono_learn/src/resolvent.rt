@@ -25,7 +25,7 @@ pub struct Resolvent {
 }
 
 impl Resolvent {
-    ghost use Rattle.mono_learn.specs.Walks.{IsFresh};
+    ghost use Rattle.mono_learn.specs.Resolving.{IsFresh};
 
     /// No literals, in the trail's table. A new table is made only where an earlier conflict ran out of memory and never
     /// gave the table back.

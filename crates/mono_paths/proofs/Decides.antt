@@ -4,7 +4,7 @@ use Rattle.std.specs.Prelude.{IsTrue, ◌↔◌}
 use Rattle.std.proofs.lemmas.Bool.{and_parts}
 use Rattle.mono_graph.specs.Digraph.{Digraph}
 use Rattle.mono_graph.specs.Walks.{is_path, is_walk, is_light}
-use Rattle.mono_graph.proofs.WalkLaws.{cut_excludes, labelling_excludes}
+use Rattle.mono_graph.proofs.CutsBoundWalks.{cut_excludes, labelling_excludes}
 use Rattle.mono_paths.specs.declared.find.PathOrCut.{PathOrCut}
 use Rattle.mono_paths.specs.declared.find.PathOrCut.TheVariants as any
 use Rattle.mono_paths.specs.declared.find.PathOrLabels.{PathOrLabels}

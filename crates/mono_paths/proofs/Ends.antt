@@ -12,11 +12,10 @@ use Rattle.mono_graph.specs.declared.label.Label.{Label}
 use Rattle.mono_graph.specs.declared.limit.Limit.{Limit}
 use Rattle.mono_graph.specs.declared.limit.Limit.TheVariants as limit
 use Rattle.mono_graph.specs.Digraph.{Digraph, present, places, edge_at, has, leads_out, is_distinct, HasEnds, no_edge, weight_of}
-use Rattle.mono_graph.specs.Walks.{is_cut, is_walk, is_path, is_light, is_labelling, is_tense, label_at, bound_of, cost_of}
+use Rattle.mono_graph.specs.Walks.{is_cut, is_walk, is_path, is_light, is_labelling, is_tense, label_at, bound_of, cost_of, cost_along}
 use Rattle.mono_graph.proofs.Places.{all_of}
 use Rattle.mono_graph.proofs.Membership.{has_here, has_there, has_get_or}
 use Rattle.mono_paths.specs.Found.{HasBound}
-use Rattle.mono_paths.specs.Trails.{cost_along}
 use Rattle.mono_paths.specs.NodeLabels.{NodeLabels, AreReached}
 use Rattle.mono_paths.specs.Spread.{label_of, IsTight, AreTight}
 use Rattle.mono_paths.specs.Reaches.{AreFinal, HasFinal, IsCheap}

@@ -10,13 +10,13 @@ use Rattle.std.proofs.lemmas.Int.{ints}
 use Rattle.mono_graph.specs.declared.limit.Limit.{Limit}
 use Rattle.mono_graph.specs.declared.limit.Limit.TheVariants as limit
 use Rattle.mono_graph.specs.Digraph.{Digraph, present, is_place, edge_at, weight_of}
-use Rattle.mono_graph.specs.Walks.{leads, is_walk, is_light, cost_of, bound_of}
+use Rattle.mono_graph.specs.Walks.{leads, is_walk, is_light, cost_of, bound_of, cost_along}
 use Rattle.mono_paths.specs.declared.measure.Measure.{Measure}
 use Rattle.mono_paths.specs.declared.measure.Measure.TheVariants as measure
 use Rattle.mono_paths.specs.declared.search.Search.{Search}
 use Rattle.mono_paths.specs.declared.visit.Visit.{Visit}
 use Rattle.mono_paths.specs.Found.{IsBound, with_bound}
-use Rattle.mono_paths.specs.Trails.{visit_at, IsTrail, cost_along}
+use Rattle.mono_paths.specs.Trails.{visit_at, IsTrail}
 use Rattle.mono_paths.specs.Spread.{label_of, IsTight, AreTight}
 use Rattle.mono_paths.specs.Searches.{IsSearch, source_of}
 use Rattle.mono_paths.specs.declared.target.Target.{Target}
@@ -90,29 +90,29 @@ zeros [] = refl
 zeros (k ∷ ks) = rw (sum_by-cons (λ (k : ℕ). 0) k ks) (omega (arith, zeros ks))
 
 is_light_by : (m : Measure) (g : Digraph) (most : ℤ) (n : ℕ) (ks : List ℕ) → IsBound (limit_by m most) (Some n) → cost_along (limit_by m (pos 0)) g ks ≤ n → IsTrue (is_light (limit_by m most) g ks)
-is_light_by measure.Nothing g most n ks bound low = refl
-is_light_by measure.Edges g most n ks bound low = light (limit.Steps most) g n ks bound (let le : cost_along (limit.Steps most) g ks ≤ n = low in omega arith)
+is_light_by measure.Free g most n ks bound low = refl
+is_light_by measure.Steps g most n ks bound low = light (limit.Steps most) g n ks bound (let le : cost_along (limit.Steps most) g ks ≤ n = low in omega arith)
 is_light_by measure.Weight g most n ks bound low = light (limit.Weight most) g n ks bound (let le : cost_along (limit.Weight most) g ks ≤ n = low in omega arith)
 
 at_most : (a n : ℕ) (x : ℤ) → x ≡ pos n → IsTrue (int_le (pos a) x) → a ≤ n
 at_most a n x e h = grind (arith, ints)
 
 light_costs : (m : Measure) (g : Digraph) (most : ℤ) (n : ℕ) (ks : List ℕ) → IsBound (limit_by m most) (Some n) → IsTrue (is_light (limit_by m most) g ks) → cost_along (limit_by m (pos 0)) g ks ≤ n
-light_costs measure.Nothing g most n ks bound h = omega (arith, zeros ks)
-light_costs measure.Edges g most n ks bound h = let le = at_most (length ks) n most bound h in omega (arith, ones ks)
+light_costs measure.Free g most n ks bound h = omega (arith, zeros ks)
+light_costs measure.Steps g most n ks bound h = let le = at_most (length ks) n most bound h in omega (arith, ones ks)
 light_costs measure.Weight g most n ks bound h = at_most (weight_of g ks) n most bound h
 
 none_below : (a : ℕ) (x : ℤ) → x ≤ℤ negsuc 0 → IsTrue (int_le (pos a) x) → ⊥
 none_below a x e h = grind (arith, ints)
 
 none_light : (m : Measure) (g : Digraph) (most : ℤ) (ks : List ℕ) → IsBound (limit_by m most) None → IsTrue (is_light (limit_by m most) g ks) → ⊥
-none_light measure.Nothing g most ks bound h = omega (arith, ints, bound)
-none_light measure.Edges g most ks bound h = none_below (length ks) most bound h
+none_light measure.Free g most ks bound h = omega (arith, ints, bound)
+none_light measure.Steps g most ks bound h = none_below (length ks) most bound h
 none_light measure.Weight g most ks bound h = none_below (weight_of g ks) most bound h
 
 under_cap : (m : Measure) (most : ℤ) (n cap : ℕ) → IsBound (limit_by m most) (Some n) → most <ℤ pos cap → 0 < cap → n < cap
-under_cap measure.Nothing most n cap bound low some = omega (arith, ints, bound, some)
-under_cap measure.Edges most n cap bound low some = omega (arith, ints, bound, low)
+under_cap measure.Free most n cap bound low some = omega (arith, ints, bound, some)
+under_cap measure.Steps most n cap bound low some = omega (arith, ints, bound, low)
 under_cap measure.Weight most n cap bound low some = omega (arith, ints, bound, low)
 
 -- ---- answers

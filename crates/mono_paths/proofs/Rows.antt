@@ -12,7 +12,7 @@ use Rattle.mono_paths.specs.Asked.{target_at, HasPath, AreAnswers}
 abbrev one : ℤ → List Target
 one most = record { node = 1; most = most } ∷ []
 
-pub one_answer : (most : ℤ) (b : Bool) → (IsTrue b ↔ HasPath (pipe 1 1) both 0 1 (limit.Steps most)) → AreAnswers (pipe 1 1) both measure.Edges 0 (one most) (b ∷ [])
+pub one_answer : (most : ℤ) (b : Bool) → (IsTrue b ↔ HasPath (pipe 1 1) both 0 1 (limit.Steps most)) → AreAnswers (pipe 1 1) both measure.Steps 0 (one most) (b ∷ [])
 one_answer most b h = record { len = refl; each = λ i lt. at i lt }
   where
     at : (i : ℕ) → i < 1 → IsTrue (get_or (b ∷ []) i false) ↔ HasPath (pipe 1 1) both 0 (target_at (one most) i).node (limit.Steps (target_at (one most) i).most)

@@ -11,8 +11,8 @@ use Rattle.mono_paths.specs.declared.target.Target.{Target}
 
 -- the limit of so many edges or of so much weight; none where nothing is measured
 abbrev pub limit_by : Measure → ℤ → Limit
-limit_by measure.Nothing most = limit.Free
-limit_by measure.Edges most = limit.Steps most
+limit_by measure.Free most = limit.Free
+limit_by measure.Steps most = limit.Steps most
 limit_by measure.Weight most = limit.Weight most
 
 abbrev pub target_at : List Target → ℕ → Target

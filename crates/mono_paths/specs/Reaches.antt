@@ -2,9 +2,8 @@
 use Rattle.std.specs.Prelude.{◌≡◌, ℕ, ◌<◌, ◌≤◌, Bool, List, length, All, IsTrue}
 use Rattle.mono_graph.specs.declared.limit.Limit.{Limit}
 use Rattle.mono_graph.specs.Digraph.{Digraph}
-use Rattle.mono_graph.specs.Walks.{is_walk}
+use Rattle.mono_graph.specs.Walks.{is_walk, cost_along}
 use Rattle.mono_paths.specs.NodeLabels.{NodeLabels}
-use Rattle.mono_paths.specs.Trails.{cost_along}
 use Rattle.mono_paths.specs.Spread.{label_of, AreTight}
 
 -- a walk that costs less than the cap

@@ -34,7 +34,3 @@ pub record IsTrail (g : Digraph) (P : List Bool) (limit : Limit) (vs : List Visi
 -- a visit of the node costs so much
 abbrev pub IsVisited : List Visit → ℕ → ℕ → Type 0
 IsVisited vs u n = (i : ℕ) × (i < length vs) × ((visit_at vs i).node ≡ u) × ((visit_at vs i).cost ≡ n)
-
--- what the edges cost
-abbrev pub cost_along : Limit → Digraph → List ℕ → ℕ
-cost_along limit g ks = sum_by (λ k. cost_of limit (edge_at g k)) ks

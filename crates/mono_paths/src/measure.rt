@@ -9,9 +9,9 @@ use mono_graph::Limit;
 #[derive(Debug, Clone, Copy, PartialEq, Eq, PartialOrd, Ord)]
 pub enum Measure {
     /// Nothing: each walk will do.
-    Nothing,
+    Free,
     /// How many edges it has.
-    Edges,
+    Steps,
     /// How much they weigh.
     Weight,
 }
@@ -22,8 +22,8 @@ impl Measure {
         ensures { result ≡ limit_by self most }
     {
         match self {
-            Measure::Nothing => Limit::Free,
-            Measure::Edges => Limit::Steps(most),
+            Measure::Free => Limit::Free,
+            Measure::Steps => Limit::Steps(most),
             Measure::Weight => Limit::Weight(most),
         }
     }

@@ -5,8 +5,8 @@
 
 ghost use Rattle.std.specs.Prelude.{◌≡◌, ◌<◌, All, IfOk, length, IsTrue};
 ghost use Rattle.mono_graph.specs.Digraph.{IsPartOf};
-ghost use Rattle.mono_graph.specs.Walks.{is_walk};
-ghost use Rattle.mono_paths.specs.Trails.{IsTrail, visit_at, cost_along};
+ghost use Rattle.mono_graph.specs.Walks.{is_walk, cost_along};
+ghost use Rattle.mono_paths.specs.Trails.{IsTrail, visit_at};
 
 use mono_graph::{Graph, Limit, Part};
 use std::alloc::{AllocError, Global};

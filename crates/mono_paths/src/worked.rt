@@ -71,8 +71,8 @@ pub fn limits_with_bounds()
 
 /// What is measured is what the limit counts.
 pub fn measures_are_limits()
-    ensures nothing { limit_by Measure.Nothing (pos 5) ≡ Limit.Free }
-    ensures edges { limit_by Measure.Edges (pos 5) ≡ Limit.Steps (pos 5) }
+    ensures nothing { limit_by Measure.Free (pos 5) ≡ Limit.Free }
+    ensures edges { limit_by Measure.Steps (pos 5) ≡ Limit.Steps (pos 5) }
     ensures weight { limit_by Measure.Weight (pos 5) ≡ Limit.Weight (pos 5) }
 {}
 
@@ -87,9 +87,9 @@ pub fn targets_are_nodes()
 
 /// An answer is true exactly where a walk leads to its target within the bound, and there is one for each target.
 pub fn answers_are_exact()
-    ensures reached { AreAnswers (pipe 1 1) both Measure.Edges 0 (record { node = 1; most = pos 1 } ∷ []) (true ∷ []) }
-    ensures denied { AreAnswers (pipe 1 1) both Measure.Edges 0 (record { node = 1; most = pos 1 } ∷ []) (false ∷ []) → ⊥ }
-    ensures out_of_bound { AreAnswers (pipe 1 1) both Measure.Edges 0 (record { node = 1; most = negsuc 0 } ∷ []) (false ∷ []) }
-    ensures too_good { AreAnswers (pipe 1 1) both Measure.Edges 0 (record { node = 1; most = negsuc 0 } ∷ []) (true ∷ []) → ⊥ }
-    ensures too_few { AreAnswers (pipe 1 1) both Measure.Edges 0 (record { node = 1; most = pos 1 } ∷ []) [] → ⊥ }
+    ensures reached { AreAnswers (pipe 1 1) both Measure.Steps 0 (record { node = 1; most = pos 1 } ∷ []) (true ∷ []) }
+    ensures denied { AreAnswers (pipe 1 1) both Measure.Steps 0 (record { node = 1; most = pos 1 } ∷ []) (false ∷ []) → ⊥ }
+    ensures out_of_bound { AreAnswers (pipe 1 1) both Measure.Steps 0 (record { node = 1; most = negsuc 0 } ∷ []) (false ∷ []) }
+    ensures too_good { AreAnswers (pipe 1 1) both Measure.Steps 0 (record { node = 1; most = negsuc 0 } ∷ []) (true ∷ []) → ⊥ }
+    ensures too_few { AreAnswers (pipe 1 1) both Measure.Steps 0 (record { node = 1; most = pos 1 } ∷ []) [] → ⊥ }
 {}

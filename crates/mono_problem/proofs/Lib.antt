@@ -7,11 +7,11 @@ pub mod SameValues
 pub mod Declared
 pub mod Added
 pub mod FirstFalse
-pub mod UseLemmas
+pub mod SortedUses
 pub mod AllUses
 pub mod Bounds
 pub mod Monotone
 pub mod QuietAtoms
 pub mod EdgeUses
 pub mod Homes
-mod WorkedLaws
+mod WorkedFailures

@@ -1,7 +1,7 @@
 -- Every predicate is monotonic: what holds in a part holds in each larger part.
 use Rattle.std.proofs.Common.{◌≡◌, Bool, true, false, cond, List, ℤ, refl, int_le}
 use Rattle.std.specs.Prelude.{IsTrue}
-use Rattle.mono_graph.proofs.CycleLaws.{acyclic-smaller}
+use Rattle.mono_graph.proofs.RisingRanks.{acyclic-smaller}
 use Rattle.std.proofs.lemmas.Bool.{and_parts, and_from}
 use Rattle.mono_graph.specs.Digraph.{Digraph, IsSubpart}
 use Rattle.mono_graph.specs.Walks.{Free, Steps, Weight}

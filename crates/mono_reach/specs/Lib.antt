@@ -1,4 +1,5 @@
 pub mod Reaches
 pub mod Marks
+pub mod PossibleRows
 pub mod Readings
 pub mod Worked

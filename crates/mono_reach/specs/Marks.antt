@@ -1,5 +1,5 @@
 -- What is kept of the nodes that are reached along the surely present edges: a row for each first node of an atom.
-use Rattle.std.specs.Prelude.{◌≡◌, ℕ, ◌<◌, Bool, List, Option, Some, None, IfSome, length, slice_index_or, All}
+use Rattle.std.specs.Prelude.{◌≡◌, ℕ, ◌<◌, Bool, List, length, slice_index, slice_index_or}
 use Rattle.mono_dynamic.specs.Arrivals.{is_reached}
 use Rattle.mono_dynamic.specs.Reached.{Reached}
 use Rattle.mono_dynamic.specs.Rows.{row_at, AreAllReached}
@@ -8,7 +8,7 @@ use Rattle.mono_problem.specs.declared.atom.Predicate.{Predicate}
 use Rattle.mono_problem.specs.declared.atom.Predicate.TheVariants as kind
 use Rattle.mono_theory.specs.Supports.{atom_at}
 use Rattle.mono_theory.specs.Theories.{Facts}
-use Rattle.mono_rows.specs.SureParts.{sure_parts}
+use Rattle.mono_theory.specs.SureParts.{sure_parts}
 
 -- the nodes between which a walk is to lead
 abbrev pub first_node : Predicate → ℕ
@@ -19,10 +19,11 @@ abbrev pub last_node : Predicate → ℕ
 last_node (kind.Reach u v) = v
 last_node q = 0
 
--- the rows, and by place of an atom its row
+-- the rows, and by place of an atom its row and its last node
 pub record SureMarks : Type 0 where
   pub rows : List Reached
   pub row_of : List ℕ
+  pub lasts : List ℕ
 
 abbrev pub row_of_atom : SureMarks → ℕ → ℕ
 row_of_atom s a = slice_index_or s.row_of a 0
@@ -30,6 +31,15 @@ row_of_atom s a = slice_index_or s.row_of a 0
 -- whether the node is known to be reached from the atom's first node
 abbrev pub under_mark : SureMarks → ℕ → ℕ → Bool
 under_mark s a v = is_reached (row_at s.rows (row_of_atom s a)).arrivals v
+
+-- whether the last node of the atom at a place is
+abbrev pub shows_last : SureMarks → ℕ → Bool
+shows_last s a = under_mark s a (slice_index s.lasts a)
+
+-- of the first n atoms, the nodes at one end of their predicates
+pub record AreNodesOf (end : Predicate → ℕ) (atoms : List Atom) (n : ℕ) (nodes : List ℕ) : Type 0 where
+  pub len : length nodes ≡ n
+  pub each : (a : ℕ) → a < n → slice_index nodes a ≡ end (atom_at atoms a).predicate
 
 -- the row is that of a source
 pub record IsRowFrom (rows : List Reached) (r u : ℕ) : Type 0 where
@@ -41,17 +51,12 @@ pub record AreMarks (f : Facts) (n : ℕ) (s : SureMarks) : Type 0 where
   pub rows : AreAllReached f.graph (sure_parts f) n s.rows
   pub sized : (i : ℕ) → i < length s.rows → (row_at s.rows i).nodes ≡ f.graph.nodes
   pub row_of_len : length s.row_of ≡ length f.atoms
+  pub lasts : AreNodesOf last_node f.atoms (length f.atoms) s.lasts
   pub each : (a : ℕ) → a < length f.atoms → IsRowFrom s.rows (row_of_atom s a) (first_node (atom_at f.atoms a).predicate)
 
 -- they are right for all literals seen
 abbrev pub AreMarksOf : SureMarks → Facts → Type 0
 AreMarksOf s f = AreMarks f (length f.seen) s
-
--- by node its row, if it has one
-pub record IsRowTable (table : List (Option ℕ)) (sources : List ℕ) : Type 0 where
-  pub known : All (λ u. u < length table) sources
-  pub each : (u : ℕ) → u < length table → IfSome (slice_index_or table u None) (λ r. (r < length sources) × (slice_index_or sources r 0 ≡ u))
-  pub listed : (r : ℕ) → r < length sources → slice_index_or table (slice_index_or sources r 0) None ≡ Some r
 
 -- no node is listed twice
 abbrev pub AreApart : List ℕ → Type 0

@@ -1,21 +1,24 @@
 //! Reachability as a theory (Bayless et al. 2015).
 #![tactic(auto)]
 
+/// The nodes between which walks are to lead.
+mod ends;
 /// What holds of marks by their definitions.
 pub mod laws;
 /// What is known of a node.
 mod marks;
 /// The cut nearest to a walk's last node.
 mod nearest;
+/// What is reached along the possibly present edges.
+mod possible_rows;
 /// Predicates of reachability.
 mod reach;
 /// What is reached along the surely present edges.
 mod reached_rows;
-/// The first nodes of atoms.
-mod sources;
 /// Rows of what is known of nodes, worked by hand.
 pub mod worked;
 
 pub use marks::{HasMarks, Marks};
+pub use possible_rows::PossibleRows;
 pub use reach::{Reach, ReachTheory};
 pub use reached_rows::{MOST_REACHED, ReachedRows};

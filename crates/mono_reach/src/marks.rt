@@ -3,21 +3,22 @@
 ghost use Rattle.std.specs.Prelude.{◌≡◌, ◌<◌, ℕ, List, true, false, length, IsTrue};
 ghost use Rattle.mono_graph.specs.Walks.{is_walk};
 ghost use Rattle.mono_problem.specs.Quiet.{under, over};
-ghost use Rattle.mono_rows.specs.EitherSides.{IsEitherDecided, IsEitherRight};
-ghost use Rattle.mono_rows.specs.RowSides.{AreRowsFor};
+ghost use Rattle.mono_theory.specs.EitherSides.{IsEitherDecided, IsEitherRight};
+ghost use Rattle.mono_theory.specs.RowSides.{AreRowsFor, AreUpToDate};
 ghost use Rattle.mono_theory.specs.Evidences.{Decides};
 ghost use Rattle.mono_theory.specs.Stages.{NoneWaits};
 ghost use Rattle.mono_theory.specs.Supports.{AreCovered, IsSide, atom_at};
-ghost use Rattle.mono_reach.specs.Marks.{AreMarksOf, first_node, last_node, under_mark};
-ghost use Rattle.mono_reach.specs.Readings.{found_mark, in_cut, over_mark, sure_mark};
+ghost use Rattle.mono_reach.specs.Marks.{AreMarksOf, first_node, last_node, shows_last, under_mark};
+ghost use Rattle.mono_reach.specs.PossibleRows.{AreTargetsOf, is_cut_off};
+ghost use Rattle.mono_reach.specs.Readings.{PossibleRowsStand, SureRowsStand, cut_mark, found_mark, in_cut, over_mark, possible_mark, sure_mark};
 ghost use Rattle.mono_reach.specs.Reaches.{is_reach};
 
+use crate::ends::ends_of;
+use crate::possible_rows::PossibleRows;
 use crate::reach::Reach;
 use crate::reached_rows::ReachedRows;
-use crate::sources::ends_of;
-use mono_rows::{EitherSide, RowsSide};
 use mono_steps::Witness;
-use mono_theory::{Frame, GraphTheory, KeptSide};
+use mono_theory::{EitherSide, Frame, GraphTheory, KeptSide, Rows, RowsSide};
 
 /// What a theory knows of a node, for one of its atoms.
 #[derive(Clone, Copy, Debug, PartialEq, Eq)]
@@ -32,7 +33,8 @@ pub struct Marks {
 ///
 /// No mark changes by `assign` or `explain`. After a `force` or `propagate` that answered Quiet, the marks of an atom's last
 /// node are whether its predicate holds with the surely present edges, and with the possibly present ones. Where the theory
-/// searches, since rows would be many, `under` is true of an atom's last node at most.
+/// searches, since rows would be many, `under` is true of an atom's last node at most. Where it keeps rows of the possibly
+/// present edges, since many atoms have one first node, `over` is false of an atom's last node at most.
 pub trait HasMarks {
     ghost use Rattle.std.specs.Prelude.{◌≡◌, ◌<◌, ℕ, List, false, length, IsTrue, IsSome, MatchOption};
     ghost use Rattle.mono_graph.specs.Walks.{is_walk};
@@ -63,12 +65,12 @@ pub trait HasMarks {
 
 /// Whether the row of the atom at a place has the node.
 fn is_in_row(side: &RowsSide<ReachedRows>, frame: &Frame, place: u32, node: u32) -> bool
-    requires right { AreRowsFor is_reach AreMarksOf frame.now side.now }
+    requires right { AreRowsFor is_reach false AreMarksOf shows_last frame.now side.now }
     requires place { place < length frame.now.atoms }
     requires node { node < frame.now.graph.nodes }
     ensures value { result ≡ under_mark side.now.rows place node }
     ensures reached { IsTrue result → (walk : List ℕ) × IsTrue (is_walk frame.now.graph (under frame.now.graph frame.now.seen) (first_node (atom_at frame.now.atoms place).predicate) node walk) }
-    ensures decides { side.now.looked ≡ length frame.now.seen → node ≡ last_node (atom_at frame.now.atoms place).predicate → Decides frame.now.graph (under frame.now.graph frame.now.seen) (atom_at frame.now.atoms place).predicate result }
+    ensures decides { AreUpToDate SureRowsStand frame.now side.now → node ≡ last_node (atom_at frame.now.atoms place).predicate → Decides frame.now.graph (under frame.now.graph frame.now.seen) (atom_at frame.now.atoms place).predicate result }
 {
     let _ = frame.seen();
     let looked = side.looked();
@@ -89,7 +91,7 @@ fn is_found(kept: &KeptSide, frame: &Frame, place: u32, node: u32) -> bool
     let _ = frame.graph();
     let atom = frame.atom_at(place as usize);
     let (_, to) = ends_of(atom.predicate);
-    match kept.shown_witness(frame, false, place) {
+    match kept.shown_witness(place) {
         None => false,
         Some(_) => node == to,
     }
@@ -97,13 +99,13 @@ fn is_found(kept: &KeptSide, frame: &Frame, place: u32, node: u32) -> bool
 
 /// Whether a walk along the surely present edges is known to lead to the node from the first node of the atom at a place.
 fn is_reached(side: &EitherSide<ReachedRows>, frame: &Frame, place: u32, node: u32) -> bool
-    requires right { IsEitherRight is_reach true AreMarksOf frame.now side.now }
+    requires right { IsEitherRight is_reach false true AreMarksOf shows_last frame.now side.now }
     requires covered { AreCovered is_reach frame.now.atoms }
     requires place { place < length frame.now.atoms }
     requires node { node < frame.now.graph.nodes }
     ensures value { result ≡ sure_mark side.now (atom_at frame.now.atoms place).predicate place node }
     ensures reached { IsTrue result → (walk : List ℕ) × IsTrue (is_walk frame.now.graph (under frame.now.graph frame.now.seen) (first_node (atom_at frame.now.atoms place).predicate) node walk) }
-    ensures decides { IsEitherDecided frame.now side.now → node ≡ last_node (atom_at frame.now.atoms place).predicate → Decides frame.now.graph (under frame.now.graph frame.now.seen) (atom_at frame.now.atoms place).predicate result }
+    ensures decides { IsEitherDecided SureRowsStand frame.now side.now → node ≡ last_node (atom_at frame.now.atoms place).predicate → Decides frame.now.graph (under frame.now.graph frame.now.seen) (atom_at frame.now.atoms place).predicate result }
 {
     match side {
         EitherSide::Rows(rows) => is_in_row(rows, frame, place, node),
@@ -121,25 +123,60 @@ fn is_inside(witness: &Witness, node: u32) -> bool
     }
 }
 
-/// Whether it isn't known that no walk along the possibly present edges leads to the node from the first node of the atom at a
-/// place.
-fn is_possible(possibly: &KeptSide, frame: &Frame, place: u32, node: u32) -> bool
-    requires side { IsSide frame.now true possibly.now }
-    requires thorough { possibly.now.thorough ≡ true }
+/// Whether the node isn't the last one of the atom at a place, or isn't known to be out of reach by the atom's row.
+fn is_in_reach(side: &RowsSide<PossibleRows>, frame: &Frame, place: u32, node: u32) -> bool
+    requires right { AreRowsFor is_reach true AreTargetsOf is_cut_off frame.now side.now }
+    requires place { place < length frame.now.atoms }
+    ensures value { result ≡ over_mark side.now.rows (atom_at frame.now.atoms place).predicate place node }
+    ensures fails { result ≡ false → (walk : List ℕ) → is_walk frame.now.graph (over frame.now.graph frame.now.seen) (first_node (atom_at frame.now.atoms place).predicate) node walk ≡ false }
+    ensures decides { AreUpToDate PossibleRowsStand frame.now side.now → node ≡ last_node (atom_at frame.now.atoms place).predicate → Decides frame.now.graph (over frame.now.graph frame.now.seen) (atom_at frame.now.atoms place).predicate result }
+{
+    let _ = frame.seen();
+    let atom = frame.atom_at(place as usize);
+    let (_, to) = ends_of(atom.predicate);
+    if node != to {
+        return true;
+    }
+    let looked = side.looked();
+    let rows = side.rows();
+    !<PossibleRows as Rows<Reach>>::shows(rows, frame, looked, place as usize)
+}
+
+/// Whether no set was found that has the first node of the atom at a place, lacks the node, and is left by no possibly present
+/// edge.
+fn is_uncut(kept: &KeptSide, frame: &Frame, place: u32, node: u32) -> bool
+    requires side { IsSide frame.now true kept.now }
+    requires thorough { kept.now.thorough ≡ true }
     requires covered { AreCovered is_reach frame.now.atoms }
     requires place { place < length frame.now.atoms }
-    ensures value { result ≡ over_mark possibly.now place node }
+    ensures value { result ≡ cut_mark kept.now place node }
     ensures fails { result ≡ false → (walk : List ℕ) → is_walk frame.now.graph (over frame.now.graph frame.now.seen) (first_node (atom_at frame.now.atoms place).predicate) node walk ≡ false }
-    ensures decides { NoneWaits possibly.now.stages → node ≡ last_node (atom_at frame.now.atoms place).predicate → Decides frame.now.graph (over frame.now.graph frame.now.seen) (atom_at frame.now.atoms place).predicate result }
+    ensures decides { NoneWaits kept.now.stages → node ≡ last_node (atom_at frame.now.atoms place).predicate → Decides frame.now.graph (over frame.now.graph frame.now.seen) (atom_at frame.now.atoms place).predicate result }
 {
     let _ = frame.graph();
-    match possibly.shown_witness(frame, true, place) {
+    match kept.shown_witness(place) {
         None => true,
         Some(witness) => is_inside(witness, node),
     }
 }
 
-impl HasMarks for GraphTheory<Reach, EitherSide<ReachedRows>> {
+/// Whether it isn't known that no walk along the possibly present edges leads to the node from the first node of the atom at a
+/// place.
+fn is_possible(side: &EitherSide<PossibleRows>, frame: &Frame, place: u32, node: u32) -> bool
+    requires right { IsEitherRight is_reach true true AreTargetsOf is_cut_off frame.now side.now }
+    requires covered { AreCovered is_reach frame.now.atoms }
+    requires place { place < length frame.now.atoms }
+    ensures value { result ≡ possible_mark side.now (atom_at frame.now.atoms place).predicate place node }
+    ensures fails { result ≡ false → (walk : List ℕ) → is_walk frame.now.graph (over frame.now.graph frame.now.seen) (first_node (atom_at frame.now.atoms place).predicate) node walk ≡ false }
+    ensures decides { IsEitherDecided PossibleRowsStand frame.now side.now → node ≡ last_node (atom_at frame.now.atoms place).predicate → Decides frame.now.graph (over frame.now.graph frame.now.seen) (atom_at frame.now.atoms place).predicate result }
+{
+    match side {
+        EitherSide::Rows(rows) => is_in_reach(rows, frame, place, node),
+        EitherSide::Searches(kept) => is_uncut(kept, frame, place, node),
+    }
+}
+
+impl HasMarks for GraphTheory<Reach, EitherSide<ReachedRows>, EitherSide<PossibleRows>> {
     ghost use Rattle.mono_theory.specs.Supports.{facts_in};
     ghost use Rattle.mono_reach.specs.Readings.{AreBothDecided, marks_at};
 

@@ -11,15 +11,15 @@ ghost use Rattle.mono_theory.specs.Evidences.{IsEvidence};
 ghost use Rattle.mono_reach.specs.Reaches.{cut_evidence as cut_evidence_of};
 
 use crate::nearest::widened_for;
+use crate::possible_rows::PossibleRows;
 use crate::reached_rows::ReachedRows;
 use mono_base::Row;
 use mono_graph::{Graph, Part};
 use mono_paths::{PathOrCut, WalkFinder};
 use mono_problem::Predicate;
-use mono_rows::EitherSide;
 use mono_steps::Witness;
 use mono_theory::walks::walk_evidence;
-use mono_theory::{Evidence, GraphTheory, Kind, NodeMarks};
+use mono_theory::{EitherSide, Evidence, GraphTheory, Kind, NodeMarks};
 use std::alloc::{AllocError, Global};
 use std::marker::Model;
 
@@ -150,4 +150,4 @@ impl Kind for Reach {
 }
 
 /// Predicates of reachability over one graph.
-pub type ReachTheory = GraphTheory<Reach, EitherSide<ReachedRows>>;
+pub type ReachTheory = GraphTheory<Reach, EitherSide<ReachedRows>, EitherSide<PossibleRows>>;

@@ -31,7 +31,7 @@ use Rattle.mono_search.specs.Outcomes.{HasModel}
 use Rattle.mono_search.proofs.Lists.{has_there, has_left, found_at, open_parts, open_from, open-neg, open-neg_back, open-fewer}
 use Rattle.mono_base.proofs.Partials.{one_sign, true_from_yes, yes_from_true}
 use Rattle.mono_search.proofs.Growing.{kept_from, supported_from, kept-joined, in_range}
-use Rattle.mono_clauses.proofs.FollowLaws.{follows_decide}
+use Rattle.mono_clauses.proofs.FollowsKept.{follows_decide}
 use Rattle.mono_search.proofs.Propagating.{state}
 
 -- a literal is its variable or the negation

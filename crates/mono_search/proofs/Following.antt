@@ -6,7 +6,7 @@ use Rattle.mono_trail.specs.Places.{level_at}
 use Rattle.mono_trail.specs.TrailView.{TrailView}
 use Rattle.mono_clauses.specs.Store.{StoreView, no_clauses, IsTrueBy, Follows, FollowsBelow}
 use Rattle.mono_learn.specs.Settled.{Settles}
-use Rattle.mono_clauses.proofs.FollowLaws.{follows_new}
+use Rattle.mono_clauses.proofs.FollowsKept.{follows_new}
 
 -- what follows, follows below
 pub following_goes_below : (s : StoreView) (t : TrailView) → Follows s t → FollowsBelow s t

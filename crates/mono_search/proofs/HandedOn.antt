@@ -1,9 +1,10 @@
 -- How the theories follow the trail, and that their lemmas are justified.
 use Rattle.mono_search.proofs.ConcernTables.{table_kept}
-use Rattle.std.proofs.Common.{Bool, zero, suc, ◌≡◌, ℕ, ◌+◌, ◌<◌, ◌≤◌, eqb, eqb-true, false, ◌&&◌, List, [], ◌∷◌, ◌++◌, length, take, map, arith, refl, sym, ◌∙◌, ap, get_or, subst, inl, inr, ℤ, pos, All}
+use Rattle.std.proofs.Common.{Bool, zero, suc, ◌≡◌, ℕ, ◌+◌, ◌<◌, ◌≤◌, eqb, eqb-true, false, ◌&&◌, List, [], ◌∷◌, ◌++◌, length, take, map, replicate, arith, refl, sym, ◌∙◌, ap, get_or, subst, inl, inr, ℤ, pos, All}
 use Rattle.std.specs.Prelude.{Option, Some, None, MatchOption, IsTrue, Result, Ok, Err, IfOk, nat_le}
 use Rattle.std.specs.List.{list_any}
-use Rattle.std.proofs.lemmas.List.{take-take, take_more, length-map}
+use Rattle.std.proofs.lemmas.List.{take-take, take_more, length-map, get_or-map}
+use Rattle.std.proofs.lemmas.List.Elements.{All-map}
 use Rattle.std.proofs.lemmas.List.Folds.{Any-from_list_any}
 use Rattle.std.proofs.lemmas.Bool.{or_cases, and_from, le-leb}
 use Rattle.std.proofs.lemmas.Option.{get_or_from_slice_get}
@@ -17,8 +18,8 @@ use Rattle.mono_problem.specs.Quiet.{Forces}
 use Rattle.mono_steps.specs.declared.lemma.Lemma.{Lemma}
 use Rattle.mono_steps.specs.ChainSteps.{names_vars}
 use Rattle.mono_steps.specs.Witnesses.{justifies_by, is_shown}
-use Rattle.mono_theory.specs.Theories.{Facts, concerns_of, IsLemmaOf}
-use Rattle.mono_search.specs.TheoryLists.{seen_of, IsCurrent, AreQuietMarks, with_seen, handed_on, IsLemmaBy}
+use Rattle.mono_theory.specs.Theories.{Facts, concerns_of, owns_of, IsLemmaOf}
+use Rattle.mono_search.specs.TheoryLists.{seen_of, IsCurrent, OthersAreQuiet, AreOwners, IsOwnedAt, with_seen, handed_on, IsLemmaBy}
 use Rattle.mono_learn.specs.Explain.{AtomForces, IsExplanation}
 use Rattle.mono_theory.specs.Owners.{OwnsEach}
 use Rattle.mono_search.specs.Theories.{TheoriesView, HaveSeen, having_seen, IsKept}
@@ -42,18 +43,35 @@ handed_step b0 now lits l new from lt at e =
       from = ap (λ (fs : List Facts). record { problem = now.problem; facts = fs; handed = now.handed + 1 }) is ∙ ap (λ (p : Instance). record { problem = p; facts = map (with_seen (take (now.handed + 1) lits)) b0.facts; handed = now.handed + 1 }) problem;
     }
 
--- what keeps graphs, atoms and the room keeps all that is kept
-pub all_kept : (h : Facts → Facts) (p : Instance) (fs new : List Facts) (table : List (List ℕ)) (n m : ℕ) (marks now : List Bool) → ((f : Facts) → (h f).graph ≡ f.graph) → ((f : Facts) → (h f).atoms ≡ f.atoms) → new ≡ map h fs → m ≡ n → AreQuietMarks new now → IsKept p fs table n marks → IsKept p new table m now
-all_kept h p fs new table n m marks now hg ha e room quiet k = subst (λ (gs : List Facts). IsKept p gs table m now) (sym e) (record {
+-- ---- what is kept beside the theories
+
+-- what keeps atoms keeps who is known to own one
+owned_kept : (h : Facts → Facts) (fs : List Facts) (n k : ℕ) → ((f : Facts) → (h f).atoms ≡ f.atoms) → IsOwnedAt fs n k → IsOwnedAt (map h fs) n k
+owned_kept h fs n k ha o = record {
+  within = omega (arith, o.within, length-map fs h);
+  owns = λ f. ap (λ (own : List Atom). owns_of own n) (ap (λ (x : Facts). x.atoms) (get_or-map h fs k f f o.within) ∙ ha (get_or fs k f)) ∙ o.owns f;
+}
+
+owners_kept : (h : Facts → Facts) (fs : List Facts) (owners : List (Option ℕ)) → ((f : Facts) → (h f).atoms ≡ f.atoms) → AreOwners fs owners → AreOwners (map h fs) owners
+owners_kept h fs owners ha o = record {
+  fits = All-map (λ f. (n : ℕ) → IsTrue (owns_of f.atoms n) → n < length owners) h fs (λ j f lt n own. o.fits j f lt n (ap (λ (atoms : List Atom). owns_of atoms n) (sym (ha (get_or fs j f))) ∙ own));
+  named = λ n k is. owned_kept h fs n k ha (o.named n k is);
+}
+
+-- what keeps graphs and atoms keeps all of it
+pub all_kept : (h : Facts → Facts) (p : Instance) (fs new : List Facts) (table : List (List ℕ)) (owners : List (Option ℕ)) (counts now_counts : List ℕ) (listed now : List Bool) → ((f : Facts) → (h f).graph ≡ f.graph) → ((f : Facts) → (h f).atoms ≡ f.atoms) → new ≡ map h fs
+    → now_counts ≡ replicate (length fs) 0 → OthersAreQuiet new now → IsKept p fs table owners counts listed → IsKept p new table owners now_counts now
+all_kept h p fs new table owners counts now_counts listed now hg ha e none others k = subst (λ (gs : List Facts). IsKept p gs table owners now_counts now) (sym e) (record {
   owns = owns_kept h p fs hg ha k.owns;
   concerned = table_kept h p.vars fs table hg ha k.concerned;
-  room_for = room ∙ k.room_for ∙ sym (length-map fs h);
-  quiet = subst (λ (gs : List Facts). AreQuietMarks gs now) e quiet;
+  known = owners_kept h fs owners ha k.known;
+  zero = none ∙ ap (λ (n : ℕ). replicate n 0) (sym (length-map fs h));
+  others = subst (λ (gs : List Facts). OthersAreQuiet gs now) e others;
 })
 
--- where the theories have seen the same, other marks may be right too
-pub remarked : {p : Instance} {fs new : List Facts} {table : List (List ℕ)} {n : ℕ} {marks now : List Bool} → new ≡ fs → AreQuietMarks fs now → IsKept p fs table n marks → IsKept p new table n now
-remarked {p = p} {table = table} {n = n} {now = now} e quiet k = subst (λ (gs : List Facts). IsKept p gs table n now) (sym e) (record { owns = k.owns; concerned = k.concerned; room_for = k.room_for; quiet = quiet })
+-- where the theories have seen the same, another list may be right too, and more owners may be known
+pub asked_kept : {p : Instance} {fs new : List Facts} {table : List (List ℕ)} {owners more : List (Option ℕ)} {counts : List ℕ} {listed now : List Bool} → new ≡ fs → OthersAreQuiet fs now → AreOwners fs more → IsKept p fs table owners counts listed → IsKept p new table more counts now
+asked_kept {p = p} {table = table} {more = more} {counts = counts} {now = now} e others known k = subst (λ (gs : List Facts). IsKept p gs table more counts now) (sym e) (record { owns = k.owns; concerned = k.concerned; known = known; zero = k.zero; others = others })
 
 -- where as much is handed on as was
 pub handed_already : (b : TheoriesView) (lits : List ℤ) → HaveSeen b lits → b ≡ having_seen b lits b.handed

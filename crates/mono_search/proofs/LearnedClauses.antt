@@ -42,7 +42,7 @@ use Rattle.mono_steps.proofs.StepLists.{length_clauses}
 use Rattle.mono_search.proofs.Reasons.{reasons-having_seen, reasons-lowered, below-lowered, reasons-more, reasons-settled, below-settled, has_reasons}
 use Rattle.mono_base.proofs.Partials.{is_partial-take}
 use Rattle.mono_search.proofs.Growing.{quiet_at_start}
-use Rattle.mono_clauses.proofs.FollowLaws.{follows_below_back}
+use Rattle.mono_clauses.proofs.FollowsKept.{follows_below_back}
 use Rattle.mono_search.proofs.Following.{settling_keeps_below}
 use Rattle.mono_search.proofs.Owners.{current-at}
 use Rattle.mono_search.proofs.Decisions.{wait-lowered}

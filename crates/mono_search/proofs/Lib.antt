@@ -8,8 +8,11 @@ pub mod Updates
 pub mod ConcernTables
 pub mod AskedConcerns
 pub mod Sweeps
-pub mod QuietMarks
+pub mod QuietOthers
+pub mod Worklists
+pub mod TakenBack
 pub mod Owners
+pub mod KnownOwners
 pub mod HandedOn
 pub mod Quiets
 pub mod Propagating

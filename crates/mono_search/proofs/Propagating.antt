@@ -31,7 +31,7 @@ use Rattle.mono_search.proofs.Journals.{held-lemmas, numbered-last}
 use Rattle.mono_search.proofs.Reasons.{reasons-having_seen, reasons-more, seen_is_shown, shown-in}
 use Rattle.mono_search.proofs.Growing.{kept_from, supported_from, kept-joined, wait-grown, present_lit, quiet_at_start}
 use Rattle.mono_base.proofs.Partials.{is_partial-take}
-use Rattle.mono_clauses.proofs.FollowLaws.{follows_imply}
+use Rattle.mono_clauses.proofs.FollowsKept.{follows_imply}
 use Rattle.mono_search.proofs.Following.{following_goes_below}
 use Rattle.mono_search.proofs.Owners.{current-at}
 use Rattle.mono_search.proofs.Quiets.{quiet_atoms, forced_is, all_short, lemma_not_false}

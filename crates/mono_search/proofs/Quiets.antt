@@ -28,7 +28,7 @@ use Rattle.mono_steps.specs.ChainSteps.{names_vars}
 use Rattle.mono_steps.specs.Witnesses.{serves, is_shown, is_positive, rests_on_present, is_small, names_known, passes, part_not, part_free, part_for, predicate_literal, shows_clause, justifies_by, justifies}
 use Rattle.mono_steps.proofs.Witnessed.{positive_holds, negative_excludes, passes-larger, passes-smaller}
 use Rattle.mono_theory.specs.Evidences.{shown_by}
-use Rattle.mono_theory.proofs.EvidenceLaws.{sign_of}
+use Rattle.mono_theory.proofs.EvidenceDecides.{sign_of}
 use Rattle.mono_search.specs.declared.theories.Forced.{Forced}
 use Rattle.mono_theory.specs.Theories.{Facts, concerns_of, owns_of, atom_of}
 use Rattle.mono_search.specs.TheoryLists.{concerning, seen_of, IsCurrent, IsQuietTheory, IsShort, ForcesIt, AnyForces}

@@ -2,21 +2,12 @@
 use Rattle.std.proofs.Common.{◌≡◌, ℕ, zero, suc, ◌+◌, ◌-◌, ◌<◌, ◌≤◌, Bool, true, false, cond, List, [], ◌∷◌, length, refl, ap, ◌∙◌, arith, add-one}
 use Rattle.std.specs.Prelude.{nat_le}
 use Rattle.std.proofs.lemmas.Bool.{leb-true, leb-false, le-leb}
+use Rattle.mono_trail.proofs.Levels.{next_at_least, climbs_to}
 use Rattle.mono_trail.specs.declared.reason.Mark.{Mark}
 use Rattle.mono_trail.specs.declared.reason.Reason.{Reason}
 use Rattle.mono_trail.specs.declared.reason.Reason.TheVariants.{Decided, Clause, Late}
 use Rattle.mono_trail.specs.Places.{level_at, reason_at}
 use Rattle.mono_trail.specs.TrailView.{count_to, next_level, Climbs}
-
-next_at_least : (r : Reason) (low : ℕ) → low ≤ next_level r low
-next_at_least Decided low = omega arith
-next_at_least (Clause n) low = omega arith
-next_at_least (Late a k) low = omega arith
-
-next_at_most : (r : Reason) (low : ℕ) → next_level r low ≤ low + 1
-next_at_most Decided low = omega arith
-next_at_most (Clause n) low = omega arith
-next_at_most (Late a k) low = omega arith
 
 -- a level that rises does so at a decision
 rises : (r : Reason) (low : ℕ) → low < next_level r low → r ≡ Decided
@@ -33,10 +24,6 @@ pub climbs_from : (low : ℕ) (ms : List Mark) (top k : ℕ) → Climbs low ms t
 climbs_from low [] top k c lt = absurd (omega arith)
 climbs_from low (m ∷ ms) top zero c lt = omega (arith, c.0, next_at_least m.reason low)
 climbs_from low (m ∷ ms) top (suc k) c lt = omega (arith, c.0, next_at_least m.reason low, climbs_from m.level ms top k c.1 (omega arith))
-
-pub climbs_to : (low : ℕ) (ms : List Mark) (top : ℕ) → Climbs low ms top → low ≤ top
-climbs_to low [] top c = omega (arith, c)
-climbs_to low (m ∷ ms) top c = omega (arith, c.0, next_at_least m.reason low, climbs_to m.level ms top c.1)
 
 pub at_most_top : (low : ℕ) (ms : List Mark) (top k : ℕ) → Climbs low ms top → k < length ms → level_at ms k ≤ top
 at_most_top low [] top k c lt = absurd (omega arith)

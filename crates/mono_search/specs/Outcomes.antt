@@ -15,7 +15,8 @@ pub record HasModel (p : Instance) (model : List Bool) : Type 0 where
   pub len : length model ≡ p.vars
   pub satisfies : Satisfies p (value_in model)
 
--- as many clauses were learned as the budget says, or as there were before where these were more. All are new, and the budget is below 3 to the number of variables: there are fewer such clauses than that
+-- as many clauses were learned as the budget says, or as there were before where these were more. All are new, and the budget is
+-- below 3 to the number of variables: there are fewer such clauses than that
 pub record IsSpent (budget before : ℕ) (p : Instance) (steps : List Step) : Type 0 where
   pub chains : chain_count steps ≡ max budget before
   pub new : AreNew p steps

@@ -132,7 +132,8 @@ pub record Releases (o r : OrderView) (lits : List ℤ) : Type 0 where
   pub back : (l : ℤ) → IsTrue (has_lit lits l) → IsTrue (value_in r.waits (var_of l))
   pub phases : r.phases ≡ saved o.phases lits
 
--- a clause was learned, and the search went back: to the level at which the clause is unit, or to the beginning where it restarts. What was dropped from the trail stands in the order again
+-- a clause was learned, and the search went back: to the level at which the clause is unit, or to the beginning where it restarts.
+-- What was dropped from the trail stands in the order again
 pub record GoesBack (v w : StateView) (restarts : Bool) : Type 0 where
   pub learnt : Learnt
   pub learns : Learns v.theories.problem v.trail v.steps w.steps learnt

@@ -1,4 +1,5 @@
--- What the clause store holds of a search: the problem's clauses and the learned ones, by their numbers. The clauses of lemmas have numbers too, and aren't held.
+-- What the clause store holds of a search: the problem's clauses and the learned ones, by their numbers. The clauses of lemmas have
+-- numbers too, and aren't held.
 use Rattle.std.specs.Prelude.{ℕ, suc, ℤ, List, [], ◌∷◌, ◌++◌, length}
 use Rattle.mono_problem.specs.Instance.{Instance}
 use Rattle.mono_steps.specs.declared.step.Step.{Step}

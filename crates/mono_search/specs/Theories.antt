@@ -1,10 +1,10 @@
 -- A problem and the theories that own its atoms.
-use Rattle.std.specs.Prelude.{◌≡◌, ℕ, ◌≤◌, Bool, ℤ, List, length, take, map, All}
+use Rattle.std.specs.Prelude.{◌≡◌, ℕ, ◌≤◌, Bool, ℤ, List, length, take, map, replicate, Option, All}
 use Rattle.mono_problem.specs.Instance.{Instance, graph_at}
 use Rattle.mono_problem.specs.Quiet.{IsQuietAtom}
 use Rattle.mono_theory.specs.Owners.{OwnsEach}
 use Rattle.mono_theory.specs.Theories.{Facts}
-use Rattle.mono_search.specs.TheoryLists.{with_seen, IsCurrent, IsConcernTable, AreQuietMarks}
+use Rattle.mono_search.specs.TheoryLists.{with_seen, IsCurrent, IsConcernTable, AreOwners, OthersAreQuiet}
 
 -- as contracts see them. Each theory has seen what concerns it of the first `handed` literals of the trail
 pub record TheoriesView : Type 0 where
@@ -12,13 +12,15 @@ pub record TheoriesView : Type 0 where
   pub facts : List Facts
   pub handed : ℕ
 
--- what is kept of a problem and its theories: beside them the table of whom each variable concerns, room for a number for each,
--- and marks of those that are quiet
-pub record IsKept (p : Instance) (fs : List Facts) (table : List (List ℕ)) (room : ℕ) (marks : List Bool) : Type 0 where
+-- what is kept of a problem and its theories: the table of whom each variable concerns, who is known to own an atom, a 0 for each
+-- theory, and which of them are to be asked
+pub record IsKept (p : Instance) (fs : List Facts) (table : List (List ℕ)) (owners : List (Option ℕ)) (counts : List ℕ)
+    (listed : List Bool) : Type 0 where
   pub owns : OwnsEach p fs
   pub concerned : IsConcernTable p.vars fs table
-  pub room_for : room ≡ length fs
-  pub quiet : AreQuietMarks fs marks
+  pub known : AreOwners fs owners
+  pub zero : counts ≡ replicate (length fs) 0
+  pub others : OthersAreQuiet fs listed
 
 -- the theories have seen so much of a list
 pub record HaveSeen (b : TheoriesView) (t : List ℤ) : Type 0 where

@@ -1,6 +1,6 @@
 -- Lists of theories: what each has seen of a trail, who owns an atom, and what one of them forces or explains.
 use Rattle.mono_base.specs.Partial.{is_open_in}
-use Rattle.std.specs.Prelude.{◌≡◌, ℕ, ◌<◌, ◌≤◌, Bool, false, ℤ, List, [], ◌∷◌, ◌++◌, length, take, filter, find, Option, MatchOption, Any, if◌then◌else◌, ◌+◌, ◌-◌, IsTrue, slice_index_or}
+use Rattle.std.specs.Prelude.{◌≡◌, ℕ, ◌<◌, ◌≤◌, Bool, false, ℤ, List, [], ◌∷◌, ◌++◌, length, take, filter, find, Option, Some, None, MatchOption, All, Any, if◌then◌else◌, ◌+◌, ◌-◌, IsTrue, slice_index_or}
 use Rattle.mono_base.specs.Literal.{var_of}
 use Rattle.mono_base.specs.declared.limits.TheConstants.{MAX_VARS}
 use Rattle.mono_graph.specs.Digraph.{has}
@@ -46,10 +46,10 @@ IsQuietTheory f = TheoryQuiet f.graph f.atoms f.seen
 abbrev pub IsShort : Facts → Type 0
 IsShort f = length f.seen ≤ MAX_VARS
 
--- each theory that is marked is quiet
-pub record AreQuietMarks (fs : List Facts) (marks : List Bool) : Type 0 where
-  pub count : length marks ≡ length fs
-  pub quiet : (i : ℕ) (f : Facts) → i < length fs → IsTrue (slice_index_or marks i false) → IsQuietTheory (slice_index_or fs i f)
+-- each theory that isn't listed is quiet
+pub record OthersAreQuiet (fs : List Facts) (listed : List Bool) : Type 0 where
+  pub count : length listed ≡ length fs
+  pub quiet : (i : ℕ) (f : Facts) → i < length fs → slice_index_or listed i false ≡ false → IsQuietTheory (slice_index_or fs i f)
 
 -- ---- what concerns whom
 
@@ -88,6 +88,16 @@ shown_of (f ∷ fs) t n = if owns_of f.atoms n then concerning f t else shown_of
 abbrev pub owner_of : List Facts → ℕ → Option Facts
 owner_of fs n = find (λ f. owns_of f.atoms n) fs
 
+-- the theory at the place owns the atom
+pub record IsOwnedAt (fs : List Facts) (n k : ℕ) : Type 0 where
+  pub within : k < length fs
+  pub owns : (f : Facts) → IsTrue (owns_of (slice_index_or fs k f).atoms n)
+
+-- each entry names a theory that owns the atom, and there is one for each atom that a theory owns
+pub record AreOwners (fs : List Facts) (owners : List (Option ℕ)) : Type 0 where
+  pub fits : All (λ f. (n : ℕ) → IsTrue (owns_of f.atoms n) → n < length owners) fs
+  pub named : (n k : ℕ) → slice_index_or owners n None ≡ Some k → IsOwnedAt fs n k
+
 -- ---- what is forced, and explained
 
 -- what one theory forces, by all that it has seen
@@ -97,6 +107,10 @@ pub record ForcesIt (r : Forced) (f : Facts) : Type 0 where
 
 abbrev pub AnyForces : List Facts → Forced → Type 0
 AnyForces fs r = Any (ForcesIt r) fs
+
+-- one of the theories forces it, or none forces anything
+abbrev pub IsAnswer : List Facts → Option Forced → Type 0
+IsAnswer fs r = MatchOption r (All IsQuietTheory fs) (AnyForces fs)
 
 -- the theory's atom forces the literal by the first `kept` literals that it has seen
 pub record ExplainsIt (n : ℕ) (l : ℤ) (kept : ℕ) (f : Facts) : Type 0 where

@@ -1,25 +1,20 @@
-//! What one of a list of theories forces, and its lemmas.
+//! What one of a list of theories forces, and what theories prefer.
 
-ghost use Rattle.std.specs.Prelude.{◌≡◌, ◌<◌, All, IfOk, IsTrue, MatchOption, length};
+ghost use Rattle.std.specs.Prelude.{◌≡◌, ◌<◌, All, IfOk, MatchOption, length};
 ghost use Rattle.mono_theory.specs.Owners.{fact_of, facts_of};
-ghost use Rattle.mono_search.specs.TheoryLists.{IsQuietTheory, AreQuietMarks, IsShort, AnyForces, ForcesIt, CanExplain, IsLemmaBy};
+ghost use Rattle.mono_search.specs.TheoryLists.{IsQuietTheory, OthersAreQuiet, AreOwners, IsShort, IsAnswer, ForcesIt};
 
 use crate::theories::Forced;
-use mono_base::Lit;
-use mono_steps::Lemma;
+use crate::worklist::Worklist;
 use mono_theory::{Force, Theory};
 use std::alloc::AllocError;
 
-/// A literal that an atom of the theory forces, or none where it is quiet. It isn't asked where it is known to be quiet.
-fn force_one<T: Theory>(theory: &mut T, quiet: bool) -> Result<Option<Forced>, AllocError>
-    requires quiet { IsTrue quiet → IsQuietTheory (fact_of T.graph T.atoms T.seen theory.old) }
-    requires short { IsShort (fact_of T.graph T.atoms T.seen theory.old) }
+/// A literal that an atom of the theory forces, or none where it is quiet.
+fn force_one<T: Theory>(theory: &mut T) -> Result<Option<Forced>, AllocError>
+    requires { IsShort (fact_of T.graph T.atoms T.seen theory.old) }
     ensures same { fact_of T.graph T.atoms T.seen theory.new ≡ fact_of T.graph T.atoms T.seen theory.old }
-    ensures answer { IfOk result (λ r. MatchOption r (IsQuietTheory (fact_of T.graph T.atoms T.seen theory.old)) (λ r. ForcesIt r (fact_of T.graph T.atoms T.seen theory.old))) }
+    ensures answer { let f = fact_of T.graph T.atoms T.seen theory.old in IfOk result (λ r. MatchOption r (IsQuietTheory f) (λ r. ForcesIt r f)) }
 {
-    if quiet {
-        return Ok(None);
-    }
     let kept = theory.seen();
     match theory.force()? {
         Force::Quiet => Ok(None),
@@ -31,23 +26,28 @@ fn force_one<T: Theory>(theory: &mut T, quiet: bool) -> Result<Option<Forced>, A
     }
 }
 
-/// The first literal that a theory forces, or none where all are quiet. Theories that are marked as quiet aren't asked.
+/// A literal that a theory forces, or none where all are quiet. Those on the list are asked, the one that joined last first,
+/// and leave it where they are quiet. The theory of the atom that is forced is known as its owner from then on.
 pub(crate) fn force_any<T: Theory>(
     theories: &mut Vec<T>,
-    quiet: &mut Vec<bool>,
+    worklist: &mut Worklist,
+    owners: &mut Vec<Option<usize>>,
 ) -> Result<Option<Forced>, AllocError>
-    requires quiet { AreQuietMarks (facts_of T.graph T.atoms T.seen theories.old.items) quiet.old.items }
+    requires others { OthersAreQuiet (facts_of T.graph T.atoms T.seen theories.old.items) worklist.old.listed }
+    requires known { AreOwners (facts_of T.graph T.atoms T.seen theories.old.items) owners.old.items }
     requires short { All IsShort (facts_of T.graph T.atoms T.seen theories.old.items) }
     ensures same { facts_of T.graph T.atoms T.seen theories.new.items ≡ facts_of T.graph T.atoms T.seen theories.old.items }
-    ensures quiet { AreQuietMarks (facts_of T.graph T.atoms T.seen theories.old.items) quiet.new.items }
-    ensures answer { IfOk result (λ r. MatchOption r (All IsQuietTheory (facts_of T.graph T.atoms T.seen theories.old.items)) (AnyForces (facts_of T.graph T.atoms T.seen theories.old.items))) }
+    ensures others { OthersAreQuiet (facts_of T.graph T.atoms T.seen theories.old.items) worklist.new.listed }
+    ensures known { AreOwners (facts_of T.graph T.atoms T.seen theories.old.items) owners.new.items }
+    ensures answer { IfOk result (IsAnswer (facts_of T.graph T.atoms T.seen theories.old.items)) }
 {
-    for i in 0..theories.len() {
-        let theory = &mut theories[i];
-        if let Some(forced) = force_one(theory, quiet[i])? {
+    while let Some(place) = worklist.last() {
+        let theory = &mut theories[place];
+        if let Some(forced) = force_one(theory)? {
+            owners[forced.atom as usize] = Some(place);
             return Ok(Some(forced));
         }
-        quiet[i] = true;
+        worklist.remove_last();
     }
     Ok(None)
 }
@@ -62,24 +62,4 @@ pub(crate) fn any_prefers<T: Theory>(theories: &[T], places: &[usize], var: u32)
         }
     }
     false
-}
-
-/// The lemma that the theory which owns the atom makes.
-pub(crate) fn explain_by_owner<T: Theory>(
-    theories: &mut Vec<T>,
-    atom: u32,
-    lit: Lit,
-    kept: usize,
-) -> Result<Lemma, AllocError>
-    requires { CanExplain (facts_of T.graph T.atoms T.seen theories.old.items) atom lit kept }
-    ensures same { facts_of T.graph T.atoms T.seen theories.new.items ≡ facts_of T.graph T.atoms T.seen theories.old.items }
-    ensures lemma { IfOk result (IsLemmaBy (facts_of T.graph T.atoms T.seen theories.old.items) atom lit kept) }
-{
-    for i in 0..theories.len() {
-        let theory = &mut theories[i];
-        if theory.owns(atom) {
-            return theory.explain(atom, lit, kept);
-        }
-    }
-    unreachable!()
 }

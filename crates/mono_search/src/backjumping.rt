@@ -31,7 +31,8 @@ impl<'p, T: Theory> State<'p, T> {
     }
 }
 
-/// Theories, trail and order go back to a level. It costs what is dropped.
+/// Theories, trail and order go back to a level. It costs the literals that are dropped, the theories that they concern, and what
+/// these undo for them.
 pub(crate) fn backjump<T: Theory>(
     theories: &mut Theories<'_, T>,
     trail: &mut Trail,
@@ -51,7 +52,7 @@ pub(crate) fn backjump<T: Theory>(
     let kept = trail.count_to(level);
     release(order, &trail.lits()[kept..]);
     let fewer = kept.min(theories.handed());
-    theories.take_back(trail.lits(), fewer);
+    theories.undo_to(trail.lits(), fewer);
     trail.backjump(level);
     let _ = trail.level();
 }

@@ -1,12 +1,10 @@
 //! Decisions, and the model when there is nothing left to decide.
 
-ghost use Rattle.std.specs.Prelude.{◌≡◌, ◌≤◌, ◌↔◌, ℕ, pos, length, false, IfOk, IsTrue};
-ghost use Rattle.mono_base.specs.declared.limits.TheConstants.{MAX_VARS};
-ghost use Rattle.mono_base.specs.Literal.{var_of, value_in};
+ghost use Rattle.std.specs.Prelude.{◌≡◌, ◌↔◌, ℕ, pos, length, false, IfOk, IsTrue};
+ghost use Rattle.mono_base.specs.Literal.{value_in};
 ghost use Rattle.mono_base.specs.Partial.{is_true_in};
 ghost use Rattle.mono_trail.specs.Moves.{IsVar};
 ghost use Rattle.mono_search.specs.Outcomes.{HasModel};
-ghost use Rattle.mono_steps.specs.Switching.{literal_of};
 ghost use Rattle.mono_search.specs.Runs.{IsQuietState, HasAdvanced, DecidesBySign, IsComplete};
 
 use crate::state::State;
@@ -39,7 +37,7 @@ impl<'p, T: Theory> State<'p, T> {
         let Some(var) = self.order.pick(&self.trail) else {
             return false;
         };
-        let lit = literal(var, self.sign_of(var));
+        let lit = Lit::of(var, self.sign_of(var));
         self.trail.decide(lit);
         let _ = self.trail.level();
         true
@@ -73,29 +71,6 @@ impl<'p, T: Theory> State<'p, T> {
     }
 }
 
-/// The literal that a variable is true.
-fn positive(var: u32) -> Lit
-    requires low { 1 ≤ var }
-    requires high { var ≤ MAX_VARS }
-    ensures { result ≡ pos var }
-{
-    match Lit::new(var as i32) {
-        Some(lit) => lit,
-        None => unreachable!(),
-    }
-}
-
-/// The literal of a variable with this sign.
-fn literal(var: u32, sign: bool) -> Lit
-    requires low { 1 ≤ var }
-    requires high { var ≤ MAX_VARS }
-    ensures value { result ≡ literal_of sign var }
-    ensures var { var_of result ≡ var }
-{
-    let lit = positive(var);
-    if sign { lit } else { lit.negated() }
-}
-
 /// Whether each variable is true, variable 1 first.
 fn values_of(alloc: Global, trail: &Trail) -> Result<Row<bool>, AllocError>
     ensures len { IfOk result (λ values. length values ≡ trail.now.vars) }
@@ -104,7 +79,7 @@ fn values_of(alloc: Global, trail: &Trail) -> Result<Row<bool>, AllocError>
     let _ = trail.level();
     let mut values = Vec::new(alloc);
     for place in 0..trail.vars() {
-        let value = trail.value(positive(place + 1));
+        let value = trail.value(Lit::of(place + 1, true));
         values.push(is_yes(value))?;
     }
     Ok(Row::from_vec(values))

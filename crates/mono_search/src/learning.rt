@@ -35,7 +35,8 @@ impl<'p, T: Theory> State<'p, T> {
         ensures journal { IsJournal self.new.theories.problem self.new.steps }
         ensures ends { IfOk result (ResolvedAs budget self.old self.new) }
         ensures back { IfOk result (λ end. IfNone end (CountsAndGoesBack restarts.old restarts.new self.old self.new)) }
-        ensures counted { IfOk result (λ end. IsTrue (may_go_on end) → KeepsCount (chain_count self.old.steps) (chain_count self.new.steps) restarts.old restarts.new) }
+        ensures counted { IfOk result (λ end. IsTrue (may_go_on end)
+            → KeepsCount (chain_count self.old.steps) (chain_count self.new.steps) restarts.old restarts.new) }
     {
         if self.trail.level() == 0 {
             self.refute(alloc, conflict)?;

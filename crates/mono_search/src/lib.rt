@@ -14,14 +14,14 @@ mod backjumping;
 mod concerns;
 /// Decisions, and the model when there is nothing left to decide.
 mod deciding;
-/// Handing literals to theories, and taking them back.
+/// Which theory owns an atom, and its lemmas.
+mod explaining;
+/// Handing literals to theories.
 mod handing;
 /// What a search begins with, beside its theories.
 mod inputs;
 /// What a conflict leads to.
 mod learning;
-/// Which theories are known to be quiet.
-mod marks;
 /// Signs that are preferred at decisions.
 mod preferring;
 /// What follows from the literals of the trail.
@@ -38,8 +38,12 @@ mod solving;
 mod state;
 /// A problem and the theories that own its atoms.
 mod theories;
+/// Taking literals back from theories.
+mod undoing;
 /// Worked rows of the definitions.
 pub mod worked;
+/// Which theories are to be asked what they force.
+mod worklist;
 
 pub use search::{Outcome, Search};
 pub use solving::{Solved, solve, solve_preferring};

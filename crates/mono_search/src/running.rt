@@ -26,7 +26,8 @@ impl<'p, T: Theory> State<'p, T> {
         ensures problem { self.new.theories.problem ≡ self.old.theories.problem }
         ensures journal { IsJournal self.new.theories.problem self.new.steps }
         ensures ends { IfOk result (IsEnd budget self.old self.new) }
-        ensures counted { IfOk result (λ o. IsTrue (is_unknown o) → KeepsCount (chain_count self.old.steps) (chain_count self.new.steps) restarts.old restarts.new) }
+        ensures counted { IfOk result (λ o. IsTrue (is_unknown o)
+            → KeepsCount (chain_count self.old.steps) (chain_count self.new.steps) restarts.old restarts.new) }
     {
         loop {
             if let Some(outcome) = self.step(alloc, restarts, budget)? {
@@ -46,7 +47,8 @@ impl<'p, T: Theory> State<'p, T> {
         ensures problem { self.new.theories.problem ≡ self.old.theories.problem }
         ensures journal { IsJournal self.new.theories.problem self.new.steps }
         ensures ends { IfOk result (SteppedAs budget self.old self.new) }
-        ensures counted { IfOk result (λ end. IsTrue (may_go_on end) → KeepsCount (chain_count self.old.steps) (chain_count self.new.steps) restarts.old restarts.new) }
+        ensures counted { IfOk result (λ end. IsTrue (may_go_on end)
+            → KeepsCount (chain_count self.old.steps) (chain_count self.new.steps) restarts.old restarts.new) }
     {
         match self.propagate()? {
             Propagated::Implied => Ok(None),

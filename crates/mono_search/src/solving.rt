@@ -90,7 +90,7 @@ fn refutation(problem: &Problem, journal: &Journal) -> Result<Solved, AllocError
     Ok(Solved::Refutation(Row::from_vec(steps)))
 }
 
-/// All steps.
+/// The progress: a copy of all steps that were made, lemmas too.
 fn progress(alloc: Global, journal: &Journal) -> Result<Solved, AllocError>
     ensures { (p : Instance) (budget : ℕ) → IsProgress p budget journal.now → IfOk result (IsSolved p budget) }
 {

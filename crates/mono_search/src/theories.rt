@@ -4,19 +4,21 @@
 //! theory as a plain record of its graph, its atoms and the literals that it has seen, so a call changes the whole list of
 //! theories by one `map`. Together they explain the literals that were forced without a lemma.
 
-ghost use Rattle.std.specs.Prelude.{◌≡◌, ◌≤◌, length, All, IfOk, MatchOption, IsTrue};
+ghost use Rattle.std.specs.Prelude.{◌≡◌, ◌≤◌, length, All, IfOk, IsTrue};
 ghost use Rattle.mono_base.specs.Literal.{IsLitWithin};
 ghost use Rattle.mono_base.specs.Partial.{is_partial};
 ghost use Rattle.mono_theory.specs.Owners.{facts_of};
 ghost use Rattle.mono_trail.specs.Moves.{IsVar};
-ghost use Rattle.mono_search.specs.TheoryLists.{seen_of, IsQuietTheory, IsShort, AnyForces};
+ghost use Rattle.mono_search.specs.TheoryLists.{seen_of, IsShort, IsAnswer};
 ghost use Rattle.mono_theory.specs.Owners.{OwnsEach};
 ghost use Rattle.mono_search.specs.Theories.{HaveSeen, having_seen};
 
-use crate::asking::{any_prefers, explain_by_owner, force_any};
+use crate::asking::{any_prefers, force_any};
 use crate::concerns::concern_table;
-use crate::handing::{hand_to, take_back_from_each};
-use crate::marks::{no_marks, unmark_all};
+use crate::explaining::{explain_by_owner, no_owners};
+use crate::handing::hand_to;
+use crate::undoing::{no_counts, undo_each_to};
+use crate::worklist::Worklist;
 use mono_base::Lit;
 use mono_graph::Buckets;
 use mono_learn::Explainer;
@@ -41,10 +43,12 @@ pub struct Theories<'p, T: Theory> {
     theories: Vec<T>,
     /// The places of the theories that each variable concerns.
     concerned: Buckets<usize>,
-    /// Room for a number for each theory.
+    /// By number of an atom, the place of the theory that owns it, where that theory has forced it before.
+    owners: Vec<Option<usize>>,
+    /// By place of a theory, 0: room to count the literals that are taken back from it.
     counts: Vec<usize>,
-    /// Which theories forced nothing when they were last asked, and have seen the same since.
-    quiet: Vec<bool>,
+    /// The theories that are to be asked what they force.
+    worklist: Worklist,
     /// So many literals of the trail were handed on.
     handed: usize,
 }
@@ -58,7 +62,8 @@ impl<'p, T: Theory> Model for Theories<'p, T> {
 
     ghost view = { λ b. record { problem = b.problem.now; facts = facts_of T.graph T.atoms T.seen b.theories.items; handed = b.handed } };
 
-    ghost invariant = { λ b. IsKept b.problem.now (facts_of T.graph T.atoms T.seen b.theories.items) b.concerned (length b.counts.items) b.quiet.items };
+    ghost invariant = { λ b. IsKept b.problem.now (facts_of T.graph T.atoms T.seen b.theories.items)
+        b.concerned b.owners.items b.counts.items b.worklist.listed };
 }
 
 impl<'p, T: Theory> Theories<'p, T> {
@@ -72,14 +77,16 @@ impl<'p, T: Theory> Theories<'p, T> {
         ensures { IfOk result (λ b. b ≡ record { problem = problem.now; facts = facts_of T.graph T.atoms T.seen theories.items; handed = 0 }) }
     {
         let concerned = concern_table(alloc, problem.vars(), theories.as_slice())?;
-        let counts = vec![in alloc; 0; theories.len()]?;
-        let quiet = no_marks(alloc, theories.as_slice())?;
+        let owners = no_owners(alloc, problem.atom_count())?;
+        let counts = no_counts(alloc, theories.len())?;
+        let worklist = Worklist::full(alloc, theories.len())?;
         Ok(Theories {
             problem,
             theories,
             concerned,
+            owners,
             counts,
-            quiet,
+            worklist,
             handed: 0,
         })
     }
@@ -110,7 +117,7 @@ impl<'p, T: Theory> Theories<'p, T> {
             let lit = lits[self.handed];
             hand_to(
                 &mut self.theories,
-                &mut self.quiet,
+                &mut self.worklist,
                 self.concerned.list(lit.var()),
                 lit,
             );
@@ -118,21 +125,22 @@ impl<'p, T: Theory> Theories<'p, T> {
         }
     }
 
-    /// Each theory goes back to what concerns it of the first `kept` literals, where it has seen more.
-    pub fn take_back(&mut self, lits: &[Lit], kept: usize)
+    /// Each theory goes back to what concerns it of the first `kept` literals. It costs the literals that are taken back and the
+    /// theories that they concern, and nothing for the others.
+    pub fn undo_to(&mut self, lits: &[Lit], kept: usize)
         requires shown { HaveSeen self.old lits.now }
         requires fewer { kept ≤ self.old.handed }
         requires within { All (IsLitWithin self.old.problem.vars) lits.now }
         ensures { self.new ≡ having_seen self.old lits.now kept }
     {
-        take_back_from_each(
+        undo_each_to(
             &mut self.theories,
             &mut self.counts,
+            &mut self.worklist,
             &self.concerned,
             &lits[..self.handed],
             kept,
         );
-        unmark_all(&mut self.quiet);
         self.handed = kept;
     }
 
@@ -143,13 +151,13 @@ impl<'p, T: Theory> Theories<'p, T> {
         any_prefers(self.theories.as_slice(), self.concerned.list(var), var)
     }
 
-    /// A literal that an atom forces, if there is one.
+    /// A literal that an atom forces, if there is one. Only theories that aren't known to be quiet are asked.
     pub fn force(&mut self) -> Result<Option<Forced>, AllocError>
         requires { All IsShort self.old.facts }
         ensures same { self.new ≡ self.old }
-        ensures answer { IfOk result (λ r. MatchOption r (All IsQuietTheory self.old.facts) (AnyForces self.old.facts)) }
+        ensures answer { IfOk result (IsAnswer self.old.facts) }
     {
-        force_any(&mut self.theories, &mut self.quiet)
+        force_any(&mut self.theories, &mut self.worklist, &mut self.owners)
     }
 }
 
@@ -160,6 +168,12 @@ impl<'p, T: Theory> Explainer for Theories<'p, T> {
 
     fn explain(&mut self, atom: u32, lit: Lit, kept: u32) -> Result<Lemma, AllocError> {
         let _vars = self.problem.vars();
-        explain_by_owner(&mut self.theories, atom, lit, kept as usize)
+        explain_by_owner(
+            &mut self.theories,
+            self.owners.as_slice(),
+            atom,
+            lit,
+            kept as usize,
+        )
     }
 }

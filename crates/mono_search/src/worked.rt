@@ -29,7 +29,8 @@ pub fn saved_signs()
 
 /// A decision on a variable whose sign was saved as true is never false.
 pub fn decisions_by_saved_signs()
-    ensures { (v w : StateView) → v.order.phases ≡ true ∷ true ∷ [] → v.trail ≡ no_literals 2 → w.trail ≡ joined (no_literals 2) (minus 1) Decided → DecidesBySign v w → ⊥ }
+    ensures { (v w : StateView) → v.order.phases ≡ true ∷ true ∷ [] → v.trail ≡ no_literals 2
+        → w.trail ≡ joined (no_literals 2) (minus 1) Decided → DecidesBySign v w → ⊥ }
 {}
 
 /// The variable of a dropped literal waits again with its sign, and the others wait as before.

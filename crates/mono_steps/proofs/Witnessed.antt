@@ -10,11 +10,11 @@ use Rattle.mono_graph.proofs.Membership.{same_truth}
 use Rattle.mono_graph.proofs.Places.{present_below}
 use Rattle.mono_graph.proofs.Parts.{in_part_by, part_by-has}
 use Rattle.mono_graph.proofs.Subparts.{is_path-larger, is_flow_of-larger, is_tree-larger, is_cut-smaller, is_labelling-smaller, is_flow_cut-smaller, is_split-smaller, is_least-smaller}
-use Rattle.mono_graph.proofs.WalkLaws.{cut_excludes, labelling_excludes}
-use Rattle.mono_graph.proofs.FlowLaws.{flow_cut_excludes}
-use Rattle.mono_graph.proofs.TreeLaws.{split_excludes}
-use Rattle.mono_graph.proofs.LeastLaw.{least_excludes}
-use Rattle.mono_graph.proofs.CycleLaws.{cycle_cyclic, order_acyclic, is_cycle-larger, is_order-smaller}
+use Rattle.mono_graph.proofs.CutsBoundWalks.{cut_excludes, labelling_excludes}
+use Rattle.mono_graph.proofs.CutsBoundFlows.{flow_cut_excludes}
+use Rattle.mono_graph.proofs.UncrossedSets.{split_excludes}
+use Rattle.mono_graph.proofs.LeastTrees.{least_excludes}
+use Rattle.mono_graph.proofs.RisingRanks.{cycle_cyclic, order_acyclic, is_cycle-larger, is_order-smaller}
 use Rattle.mono_problem.specs.declared.atom.Predicate.{Predicate}
 use Rattle.mono_problem.specs.declared.atom.Predicate.TheVariants as kind
 use Rattle.mono_problem.specs.WellFormed.{IsOver}

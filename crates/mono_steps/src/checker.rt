@@ -81,18 +81,6 @@ fn come_to_end(set: &mut LitSet, problem: &Problem, earlier: &[Clause], used: &[
     has_come
 }
 
-/// The literal that says whether the variable is true.
-fn literal_of(var: u32, sign: bool) -> Lit
-    requires low { 0 < var }
-    requires high { var ≤ MAX_VARS }
-    ensures { result ≡ literal_of sign var }
-{
-    match Lit::new(var as i32) {
-        Some(lit) => { if sign { lit } else { lit.negated() } }
-        None => unreachable!(),
-    }
-}
-
 /// What is wrong with a lemma whose word serves its predicate, and that names nothing unknown.
 fn fault_in_graph(
     graphs: &mut Vec<GraphChecker>,
@@ -112,7 +100,7 @@ fn fault_in_graph(
     ensures kept { graphs.new.items ≡ graphs.old.items }
 {
     let _ = problem.vars();
-    let has_own = set.has(literal_of(atom.var, is_positive(witness)));
+    let has_own = set.has(Lit::of(atom.var, is_positive(witness)));
     let lits = set.members();
     graphs[atom.graph as usize].fault(problem, atom, lits, has_own, witness, placed)
 }

@@ -36,7 +36,7 @@ pub fn carried_steps_are_justified()
     ensures { (p q : Instance) (old new : List (List ℤ)) (flags : List Bool) (f : ℕ → ℕ) (steps : List Step) → MayBeCarried p q old new flags f steps → IsTrue (are_justified_after p old steps) → IsTrue (are_justified_after q new (steps_with_numbers f flags steps)) }
 {}
 
-/// And so a refutation stays one, where its last step comes along.
+/// A refutation stays one when its steps are carried, where its last step comes along.
 pub fn carried_refutations_refute()
     ensures { (p q : Instance) (flags : List Bool) (f : ℕ → ℕ) (steps : List Step) → MayBeCarried p q p.clauses q.clauses flags f steps → length flags ≡ length steps → slice_index_or flags (length steps - 1) false ≡ true
         → IsTrue (is_refutation p steps) → IsTrue (is_refutation q (steps_with_numbers f flags steps)) }

@@ -5,7 +5,7 @@ use Rattle.std.proofs.lemmas.Bool.{and_parts}
 use Rattle.mono_base.specs.Literal.{var_of}
 use Rattle.mono_graph.specs.Worked.{parallel}
 use Rattle.mono_graph.specs.Walks.{is_walk}
-use Rattle.mono_graph.proofs.WalkLaws.{cut_excludes}
+use Rattle.mono_graph.proofs.CutsBoundWalks.{cut_excludes}
 use Rattle.mono_problem.specs.declared.atom.Predicate.TheVariants as kind
 use Rattle.mono_problem.specs.Holds.{Holds}
 use Rattle.mono_problem.specs.Quiet.{TheoryQuiet, under}
@@ -13,7 +13,7 @@ use Rattle.mono_steps.specs.declared.lemma.Witness.TheVariants as by
 use Rattle.mono_steps.specs.WorkedLemmas.{minus, of_1}
 use Rattle.mono_theory.specs.Theories.{IsForced, IsLemmaFor, IsLemmaOf, concerns_of}
 use Rattle.mono_theory.specs.Worked.{reaches, walk_along}
-use Rattle.mono_theory.proofs.TheoryLaws.{finding_by}
+use Rattle.mono_theory.proofs.ForcedAndExplained.{finding_by}
 
 their_vars : (i : ℕ) (d : ℤ) → i < 2 → IsTrue (concerns_of (parallel 1 1) reaches (var_of (get_or (walk_along 1).clause i d)))
 their_vars zero d lt = refl

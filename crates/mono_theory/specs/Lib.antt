@@ -14,3 +14,8 @@ pub mod Sound
 pub mod Watching
 pub mod Supports
 pub mod Worked
+pub mod DueAtoms
+pub mod RowSides
+pub mod EitherSides
+pub mod SureParts
+pub mod DueNodes

@@ -34,7 +34,7 @@ pub record AllWatch (watchers : List (List ℕ)) (supports : List (Option Eviden
 
 -- the atom stood, and waits now; its support rests on one of the edges
 pub record IsInvalidated (supports : List (Option Evidence)) (ks : List ℕ) (before after : List Stage) (a : ℕ) : Type 0 where
-  pub stood : stage_at before a ≡ stage.Stands
+  pub stood : stage_at before a ≡ stage.Supported
   pub waits : stage_at after a ≡ stage.Waits
   pub edge : ℕ
   pub among : IsTrue (has ks edge)
@@ -47,4 +47,4 @@ pub record AreInvalidated (supports : List (Option Evidence)) (ks : List ℕ) (b
 
 -- none of these atoms stands on the edge
 pub record NoneStandsOn (supports : List (Option Evidence)) (stages : List Stage) (atoms : List ℕ) (k : ℕ) : Type 0 where
-  pub each : (a : ℕ) → IsTrue (has atoms a) → RestsOn (evidence_at supports a) k → stage_at stages a ≢ stage.Stands
+  pub each : (a : ℕ) → IsTrue (has atoms a) → RestsOn (evidence_at supports a) k → stage_at stages a ≢ stage.Supported

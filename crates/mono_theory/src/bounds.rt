@@ -55,7 +55,7 @@ impl Bounds {
         Bounds::of_vars(alloc, vars)
     }
 
-    /// The same of a list of variables in place of those of edges.
+    /// The bounds of a graph whose edges have these variables, where no variable has a value.
     pub(crate) fn of_vars(alloc: Global, vars: Vec<u32>) -> Result<Bounds, AllocError>
         requires { length vars.items < 2 ^ 32 }
         ensures { IfOk result (λ b. IsBoundOf b vars.items []) }
@@ -76,13 +76,6 @@ impl Bounds {
         ensures { result ≡ has self.now.vars var }
     {
         self.vars.has(var)
-    }
-
-    /// The variables by place.
-    pub(crate) fn vars(&self) -> &Index
-        ensures { result.now ≡ self.now.vars }
-    {
-        &self.vars
     }
 
     /// The places of the edges of a variable.

@@ -176,7 +176,7 @@ fn range_between(entries: &[Entry], low: usize, high: usize, key: u32) -> (usize
     (start, end)
 }
 
-/// The same of all entries.
+/// From where to where the entries of a key stand, by its bucket.
 fn range_of(entries: &[Entry], starts: &[usize], least: u32, shift: u32, key: u32) -> (usize, usize)
     requires { AreBucketed entries.now starts.now least shift }
     ensures { IsRange entries.now key result.0 result.1 }

@@ -74,12 +74,7 @@ pub fn literal(var: u32, value: bool) -> Lit
     requires { IsVar var }
     ensures { result ≡ literal_of value var }
 {
-    let number = var as i32;
-    let signed = if value { number } else { -number };
-    match Lit::new(signed) {
-        Some(lit) => lit,
-        None => unreachable!(),
-    }
+    Lit::of(var, value)
 }
 
 /// The literal that says that the edge is present or absent.

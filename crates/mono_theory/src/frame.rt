@@ -11,6 +11,7 @@ ghost use Rattle.mono_graph.specs.Digraph.{IsGraph, has};
 ghost use Rattle.mono_problem.specs.Quiet.{under as under_of, over as over_of};
 ghost use Rattle.mono_problem.specs.Read.{no_atom};
 ghost use Rattle.mono_theory.specs.Bound.{edge_vars, IsBoundOf};
+ghost use Rattle.mono_theory.specs.Index.{ArePlacesOf};
 ghost use Rattle.mono_steps.specs.Switching.{literal_of};
 ghost use Rattle.mono_theory.specs.Frames.{AreAtomsOf, IsFrame, atom_vars, atom_numbers};
 ghost use Rattle.mono_theory.specs.Variables.{AreVarsOf};
@@ -140,7 +141,7 @@ fn tables_of(alloc: Global, graph: &Graph, atoms: &[Atom]) -> Result<Tables, All
 }
 
 /// The first literals stay, and the bounds are theirs.
-fn rewind(lits: &mut Vec<Lit>, edges: &mut Bounds, own: &mut Bounds, kept: usize)
+fn undo_literals_to(lits: &mut Vec<Lit>, edges: &mut Bounds, own: &mut Bounds, kept: usize)
     requires kept { kept ≤ length lits.old.items }
     requires partial { IsTrue (is_partial lits.old.items) }
     requires edges { IsBoundOf edges.old edges.old.vars lits.old.items }
@@ -165,10 +166,7 @@ fn push_within(lits: &mut Vec<Lit>, lit: Lit)
     ensures items { lits.new.items ≡ lits.old.items ++ lit ∷ [] }
     ensures room { vec_capacity lits.old ≤ vec_capacity lits.new }
 {
-    match lits.push(lit) {
-        Ok(()) => {}
-        Err(_) => unreachable!(),
-    }
+    lits.push_reserved(lit);
 }
 
 impl Frame {
@@ -178,8 +176,9 @@ impl Frame {
     ghost use Rattle.mono_theory.specs.Frames.{IsVar};
     ghost use Rattle.mono_theory.specs.Theories.{concerns_of, owns_of, atom_of};
 
-    /// Nothing was seen yet.
-    pub(crate) fn new(alloc: Global, graph: Graph, atoms: Vec<Atom>) -> Result<Frame, AllocError>
+    /// A graph and atoms over it, at most 100,000 of them under different numbers. Nothing was seen yet. There is room for one
+    /// literal of each edge and of each atom.
+    pub fn new(alloc: Global, graph: Graph, atoms: Vec<Atom>) -> Result<Frame, AllocError>
         requires known { AreAtomsOf graph atoms.items }
         requires few { length atoms.items ≤ MAX_ATOMS }
         ensures { IfOk result (λ s. s ≡ record { graph = graph; atoms = atoms.items; seen = [] }) }
@@ -197,15 +196,15 @@ impl Frame {
         })
     }
 
-    /// Whether the variable is one of the edges' or of the atoms'.
-    pub(crate) fn concerns(&self, var: u32) -> bool
+    /// Whether the variable is one of the edges' or of the atoms'. It takes a look-up in each of two tables.
+    pub fn concerns(&self, var: u32) -> bool
         ensures { result ≡ concerns_of self.now.graph self.now.atoms var }
     {
         self.edges.has(var) || self.own.has(var)
     }
 
     /// The variables of the edges and of the atoms, rising, each once.
-    pub(crate) fn variables(&self) -> &[u32]
+    pub fn variables(&self) -> &[u32]
         ensures { AreVarsOf self.now.graph self.now.atoms result.now }
     {
         self.vars.as_slice()
@@ -228,22 +227,30 @@ impl Frame {
         self.lits[place]
     }
 
-    /// The variables of the edges by place.
-    pub(crate) fn edge_vars(&self) -> &Index
-        ensures { result.now ≡ edge_vars self.now.graph }
+    /// The places of the edges of a variable.
+    pub fn edges_of(&self, var: u32) -> &[u32]
+        ensures { ArePlacesOf (edge_vars self.now.graph) var result.now }
     {
-        self.edges.vars()
+        self.edges.places_of(var)
+    }
+
+    /// The places of the atoms of a variable.
+    pub fn atoms_of(&self, var: u32) -> &[u32]
+        ensures { ArePlacesOf (atom_vars self.now.atoms) var result.now }
+    {
+        self.own.places_of(var)
     }
 
     /// Whether the atom of this number is one of these.
-    pub(crate) fn owns(&self, number: u32) -> bool
+    pub fn owns(&self, number: u32) -> bool
         ensures { result ≡ owns_of self.now.atoms number }
     {
         self.numbers.has(number)
     }
 
-    /// One more literal is seen.
-    pub(crate) fn assign(&mut self, lit: Lit)
+    /// One more literal is seen, behind the others. Its variable concerns the frame, and the list says nothing of it yet. It takes
+    /// no memory, and work in proportion to the edges and atoms of the variable.
+    pub fn assign(&mut self, lit: Lit)
         requires concerned { IsTrue (concerns_of self.old.graph self.old.atoms (var_of lit)) }
         requires fresh { IsTrue (is_open_in self.old.seen lit) }
         ensures { self.new ≡ record self.old { seen = self.old.seen ++ lit ∷ [] } }
@@ -253,12 +260,12 @@ impl Frame {
         push_within(&mut self.lits, lit);
     }
 
-    /// The first literals stay.
-    pub(crate) fn undo_to(&mut self, kept: usize)
+    /// The list is cut to its first `kept` literals. It takes no memory, and work in proportion to what goes.
+    pub fn undo_to(&mut self, kept: usize)
         requires { kept ≤ length self.old.seen }
         ensures { self.new ≡ record self.old { seen = take kept self.old.seen } }
     {
-        rewind(&mut self.lits, &mut self.edges, &mut self.own, kept);
+        undo_literals_to(&mut self.lits, &mut self.edges, &mut self.own, kept);
     }
 
     /// How many atoms there are.
@@ -294,7 +301,7 @@ impl Frame {
     }
 
     /// The atom of the number.
-    pub(crate) fn atom(&self, number: u32) -> Atom
+    pub fn atom(&self, number: u32) -> Atom
         requires { IsSome (atom_of self.now.atoms number) }
         ensures atom { atom_of self.now.atoms number ≡ Some result }
         ensures var { IsVar result.var }
@@ -313,22 +320,22 @@ impl Frame {
         &self.graph
     }
 
-    /// The surely present edges.
-    pub(crate) fn under(&self) -> &Part
+    /// The surely present edges: those whose variable is true.
+    pub fn under(&self) -> &Part
         ensures { result.now ≡ under_of self.now.graph self.now.seen }
     {
         self.edges.under()
     }
 
-    /// The possibly present edges.
-    pub(crate) fn over(&self) -> &Part
+    /// The possibly present edges: those whose variable isn't false.
+    pub fn over(&self) -> &Part
         ensures { result.now ≡ over_of self.now.graph self.now.seen }
     {
         self.edges.over()
     }
 
     /// The possibly present edges, or the surely present ones.
-    pub(crate) fn part(&self, possible: bool) -> &Part
+    pub fn part(&self, possible: bool) -> &Part
         ensures part { result.now ≡ part_of self.now.graph self.now.seen possible }
         ensures size { length result.now ≡ length self.now.graph.edges }
     {
@@ -351,24 +358,25 @@ impl Frame {
     }
 
     /// Whether the variable of the atom at a place is true.
-    pub(crate) fn is_true(&self, place: usize) -> bool
+    pub fn is_true(&self, place: usize) -> bool
         requires { place < length self.now.atoms }
         ensures { result ≡ is_true_in self.now.seen (pos (slice_index_or self.now.atoms place no_atom).var) }
     {
         self.own.under().has(place as u32)
     }
 
-    /// Whether it is false.
-    pub(crate) fn is_false(&self, place: usize) -> bool
+    /// Whether the variable of the atom at a place is false.
+    pub fn is_false(&self, place: usize) -> bool
         requires { place < length self.now.atoms }
         ensures { result ≡ is_false_in self.now.seen (pos (slice_index_or self.now.atoms place no_atom).var) }
     {
         !self.own.over().has(place as u32)
     }
 
-    /// What shows that the predicate holds or fails with the edges by which the literal is forced, under the first literals: the
-    /// evidence that is known, where it is right there.
-    pub(crate) fn evidence_at<K: Kind>(
+    /// What shows that the predicate holds or fails with the edges by which the literal is forced, under the first `kept`
+    /// literals: the evidence that is known, where it is right there, or else what a search finds. The bounds go back to these
+    /// literals and come again, also where memory is missing.
+    pub fn evidence_at<K: Kind>(
         &mut self,
         alloc: Global,
         kind: &mut K,

@@ -1,6 +1,6 @@
 //! Places by key. The places stand in a list in the order of their keys, where those of one key stand side by side.
 
-ghost use Rattle.std.specs.Prelude.{◌≡◌, ◌≢◌, ◌<◌, ◌≤◌, ◌-◌, ◌^◌, ℕ, length, map, take, drop, All, IfOk, MatchOption, slice_index, false};
+ghost use Rattle.std.specs.Prelude.{◌≡◌, ◌≢◌, ◌<◌, ◌≤◌, ◌-◌, ◌^◌, ℕ, List, length, map, take, drop, All, IfOk, MatchOption, slice_index, false};
 ghost use Rattle.mono_graph.specs.Digraph.{present, has};
 ghost use Rattle.mono_theory.specs.Entries.{entry_at};
 ghost use Rattle.mono_theory.specs.Index.{IsIndex, IsIndexed, IsPlaceOf, ArePlacesOf, switched};
@@ -30,19 +30,6 @@ impl Model for Index {
     ghost invariant = { λ i. IsIndexed i.keys.items i.entries i.places.items };
 }
 
-/// The first of the places of a key.
-fn first_of(keys: &[u32], places: &[u32], key: u32) -> Option<u32>
-    requires { ArePlacesOf keys.now key places.now }
-    ensures { MatchOption result (has keys.now key ≡ false) (IsPlaceOf keys.now key) }
-{
-    let _ = keys;
-    if places.is_empty() {
-        None
-    } else {
-        Some(places[0])
-    }
-}
-
 /// Puts the place into the part, or takes it out.
 fn set(part: &mut Part, place: u32, on: bool)
     requires { place < length part.old }
@@ -68,17 +55,6 @@ fn set_all(places: &[u32], part: &mut Part, on: bool)
         let place = places[i];
         set(part, place, on);
     }
-}
-
-/// Puts the places of a key, which are all of it, into the part, or takes them out.
-fn switch(keys: &[u32], places: &[u32], part: &mut Part, key: u32, on: bool)
-    requires places { ArePlacesOf keys.now key places.now }
-    requires size { length part.old ≡ length keys.now }
-    ensures part { part.new ≡ switched keys.now key on part.old }
-    ensures size { length part.new ≡ length part.old }
-{
-    let _ = keys;
-    set_all(places, part, on);
 }
 
 /// The places with their keys.
@@ -127,11 +103,10 @@ fn items_between(items: &[u32], start: usize, end: usize) -> &[u32]
 }
 
 /// The places of a key.
-fn places_between<'a>(keys: &[u32], entries: &Entries, places: &'a [u32], key: u32) -> &'a [u32]
-    requires { IsIndexed keys.now entries.now places.now }
-    ensures { ArePlacesOf keys.now key result.now }
+fn places_between<'a>(entries: &Entries, places: &'a [u32], key: u32) -> &'a [u32]
+    requires { length places.now ≡ length entries.now }
+    ensures { (keys : List ℕ) → IsIndexed keys entries.now places.now → ArePlacesOf keys key result.now }
 {
-    let _ = keys;
     let (start, end) = entries.range_of(key);
     items_between(places, start, end)
 }
@@ -155,7 +130,11 @@ impl Index {
     pub(crate) fn place(&self, key: u32) -> Option<u32>
         ensures { MatchOption result (has self.now key ≡ false) (IsPlaceOf self.now key) }
     {
-        first_of(self.keys.as_slice(), self.places_of(key), key)
+        let places = self.places_of(key);
+        if places.is_empty() {
+            return None;
+        }
+        Some(places[0])
     }
 
     /// Whether a place has the key.
@@ -176,12 +155,7 @@ impl Index {
     pub(crate) fn places_of(&self, key: u32) -> &[u32]
         ensures { ArePlacesOf self.now key result.now }
     {
-        places_between(
-            self.keys.as_slice(),
-            &self.entries,
-            self.places.as_slice(),
-            key,
-        )
+        places_between(&self.entries, self.places.as_slice(), key)
     }
 
     /// Puts all places of a key into a part with as many places, or takes them out.
@@ -190,6 +164,7 @@ impl Index {
         ensures part { part.new ≡ switched self.now key on part.old }
         ensures size { length part.new ≡ length part.old }
     {
-        switch(self.keys.as_slice(), self.places_of(key), part, key, on);
+        let places = self.places_of(key);
+        set_all(places, part, on);
     }
 }

@@ -16,7 +16,7 @@ fn invalidate_one(supports: &KeptEvidence, stages: &mut Stages, atom: u32, edge:
     requires count { length stages.old ≡ length supports.now }
     requires known { atom < length supports.now }
     ensures fewer { (ks : List ℕ) → IsTrue (has ks edge) → AreInvalidated supports.now ks stages.old stages.new }
-    ensures gone { RestsOn (evidence_at supports.now atom) edge → stage_at stages.new atom ≢ stage.Stands }
+    ensures gone { RestsOn (evidence_at supports.now atom) edge → stage_at stages.new atom ≢ stage.Supported }
 {
     if !stages.is_standing(atom) {
         return;

@@ -1,8 +1,12 @@
 //! Theories of predicates over one graph: what they answer, and all that they share (Bayless et al. 2015).
 #![tactic(auto)]
 
+/// Atoms by a node of theirs.
+mod atoms_by_node;
 /// The edges that are surely and possibly present.
 mod bounds;
+/// The atoms that are due.
+mod due;
 /// Places in the order of their keys.
 mod entries;
 /// What shows that a predicate holds or fails, as a lemma.
@@ -29,12 +33,18 @@ mod looking;
 mod node_marks;
 /// What the first literals seen show.
 mod past;
+/// Rows where they are few, and what searches found where they are many.
+mod either_side;
+/// What is kept of searches along the edges of one side.
+mod rows;
+/// Rows and the literals that they are of.
+mod rows_side;
+/// What is kept of atoms on one side.
+mod side;
 /// What is known of an atom on one side.
 mod stage;
 /// The stages of the atoms, and which to look at next.
 mod stages;
-/// What is kept of atoms with the surely present edges.
-mod sure_side;
 /// What theories answer.
 mod theory;
 /// The edges that atoms would have present.
@@ -46,13 +56,18 @@ pub mod walks;
 /// Rows of lemmas that were worked by hand.
 pub mod worked;
 
+pub use atoms_by_node::AtomsByNode;
 pub use bounds::Bounds;
+pub use due::Due;
+pub use either_side::EitherSide;
 pub use evidence::{Evidence, literal, shown_by};
 pub use frame::Frame;
 pub use graph_theory::GraphTheory;
 pub use kept_side::KeptSide;
 pub use kind::Kind;
 pub use node_marks::NodeMarks;
+pub use rows::Rows;
+pub use rows_side::RowsSide;
+pub use side::{NewSide, Side};
 pub use stage::Stage;
-pub use sure_side::SureSide;
 pub use theory::{Finding, Force, Theory};

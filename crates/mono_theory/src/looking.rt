@@ -4,10 +4,10 @@
 //! or it shows if that is true. Only for the rest is there a search: it finds another support, or evidence of the other kind.
 //! Where predicates of settled atoms needn't be decided, a settled atom shows without a look.
 
-ghost use Rattle.std.specs.Prelude.{◌≡◌, not, length, IfOk};
+ghost use Rattle.std.specs.Prelude.{◌≡◌, ◌<◌, not, length, IfOk};
 ghost use Rattle.mono_theory.specs.Sound.{IsRightIn, evidence_at};
 ghost use Rattle.mono_theory.specs.Stages.{NoneWaits};
-ghost use Rattle.mono_theory.specs.Supports.{AreCovered, ExamineIs, IsNext, IsSide, SideIs, part_of};
+ghost use Rattle.mono_theory.specs.Supports.{AreCovered, ExamineIs, IsAlike, IsNext, IsSide, SideIs, part_of};
 
 use crate::evidence::{literal, rests_on_present, shown_by};
 use crate::frame::Frame;
@@ -16,22 +16,23 @@ use crate::{Force, Kind};
 use std::alloc::{AllocError, Global};
 
 /// An atom that waits shows, or forces its literal where that isn't true.
-fn answer_shown(frame: &Frame, side: &mut KeptSide, possible: bool, place: u32) -> Force
-    requires side { IsSide frame.now possible side.old }
-    requires next { IsNext frame.now side.old place }
-    requires right { IsRightIn (part_of frame.now.graph frame.now.seen possible) (not possible) (evidence_at side.old.shown place) }
-    ensures side { IsSide frame.now possible side.new }
+fn answer_shown(frame: &Frame, side: &mut KeptSide, place: u32) -> Force
+    requires side { IsSide frame.now side.old.possible side.old }
+    requires place { place < length frame.now.atoms }
+    requires next { IsNext side.old place }
+    requires right { IsRightIn (part_of frame.now.graph frame.now.seen side.old.possible) (not side.old.possible) (evidence_at side.old.shown place) }
+    ensures side { IsSide frame.now side.new.possible side.new }
     ensures answer { ExamineIs frame.now side.old side.new result }
 {
-    if frame.is_settled(place as usize, possible) {
-        side.show(frame, possible, place);
+    if side.is_settled(frame, place) {
+        side.show(frame, place);
         return Force::Quiet;
     }
     let _ = frame.graph();
     let atom = frame.atom_at(place as usize);
     Force::Literal {
         atom: atom.number,
-        lit: literal(atom.var, shown_by(atom.predicate, !possible)),
+        lit: literal(atom.var, shown_by(atom.predicate, !side.is_possible())),
     }
 }
 
@@ -41,27 +42,27 @@ fn search<K: Kind>(
     kind: &mut K,
     frame: &Frame,
     side: &mut KeptSide,
-    possible: bool,
     place: u32,
 ) -> Result<Force, AllocError>
     requires size { K.nodes kind.old ≡ frame.now.graph.nodes }
     requires covered { AreCovered K.covers frame.now.atoms }
-    requires side { IsSide frame.now possible side.old }
-    requires next { IsNext frame.now side.old place }
+    requires side { IsSide frame.now side.old.possible side.old }
+    requires place { place < length frame.now.atoms }
+    requires next { IsNext side.old place }
     ensures size { K.nodes kind.new ≡ K.nodes kind.old }
-    ensures side { IsSide frame.now possible side.new }
-    ensures thorough { side.new.thorough ≡ side.old.thorough }
+    ensures side { IsSide frame.now side.new.possible side.new }
+    ensures alike { IsAlike side.old side.new }
     ensures answer { IfOk result (ExamineIs frame.now side.old side.new) }
 {
     let atom = frame.atom_at(place as usize);
     let graph = frame.graph();
-    let evidence = kind.evidence(alloc, graph, frame.part(possible), atom.predicate)?;
-    if rests_on_present(&evidence.witness) == possible {
-        side.take_up(alloc, frame, possible, place, evidence)?;
+    let evidence = kind.evidence(alloc, graph, side.part(frame), atom.predicate)?;
+    if rests_on_present(&evidence.witness) == side.is_possible() {
+        side.take_up(alloc, frame, place, evidence)?;
         return Ok(Force::Quiet);
     }
-    side.put_shown(frame, possible, place, evidence);
-    Ok(answer_shown(frame, side, possible, place))
+    side.put_shown(place, evidence);
+    Ok(answer_shown(frame, side, place))
 }
 
 /// Looks at an atom that waits.
@@ -70,30 +71,30 @@ fn examine<K: Kind>(
     kind: &mut K,
     frame: &Frame,
     side: &mut KeptSide,
-    possible: bool,
     place: u32,
 ) -> Result<Force, AllocError>
     requires size { K.nodes kind.old ≡ frame.now.graph.nodes }
     requires covered { AreCovered K.covers frame.now.atoms }
-    requires side { IsSide frame.now possible side.old }
-    requires next { IsNext frame.now side.old place }
+    requires side { IsSide frame.now side.old.possible side.old }
+    requires place { place < length frame.now.atoms }
+    requires next { IsNext side.old place }
     ensures size { K.nodes kind.new ≡ K.nodes kind.old }
-    ensures side { IsSide frame.now possible side.new }
-    ensures thorough { side.new.thorough ≡ side.old.thorough }
+    ensures side { IsSide frame.now side.new.possible side.new }
+    ensures alike { IsAlike side.old side.new }
     ensures answer { IfOk result (ExamineIs frame.now side.old side.new) }
 {
-    if !side.is_thorough() && frame.is_settled(place as usize, possible) {
-        side.show(frame, possible, place);
+    if !side.is_thorough() && side.is_settled(frame, place) {
+        side.show(frame, place);
         return Ok(Force::Quiet);
     }
-    if side.is_supported(frame, possible, place) {
-        side.stand(frame, possible, place);
+    if side.is_supported(frame, place) {
+        side.stand(place);
         return Ok(Force::Quiet);
     }
-    if side.is_shown(frame, possible, place) {
-        return Ok(answer_shown(frame, side, possible, place));
+    if side.is_shown(frame, place) {
+        return Ok(answer_shown(frame, side, place));
     }
-    search::<K>(alloc, kind, frame, side, possible, place)
+    search::<K>(alloc, kind, frame, side, place)
 }
 
 /// What the side forces: looks at the atoms that wait, up to the first that forces a literal.
@@ -102,20 +103,19 @@ pub(crate) fn force_by<K: Kind>(
     kind: &mut K,
     frame: &Frame,
     side: &mut KeptSide,
-    possible: bool,
 ) -> Result<Force, AllocError>
     requires size { K.nodes kind.old ≡ frame.now.graph.nodes }
     requires covered { AreCovered K.covers frame.now.atoms }
-    requires side { IsSide frame.now possible side.old }
+    requires side { IsSide frame.now side.old.possible side.old }
     ensures size { K.nodes kind.new ≡ K.nodes kind.old }
-    ensures side { IsSide frame.now possible side.new }
-    ensures thorough { side.new.thorough ≡ side.old.thorough }
-    ensures answer { IfOk result (SideIs frame.now possible) }
+    ensures side { IsSide frame.now side.new.possible side.new }
+    ensures alike { IsAlike side.old side.new }
+    ensures answer { IfOk result (SideIs frame.now side.old.possible) }
     ensures none_waits { IfOk result (λ answer. answer ≡ Force.Quiet → NoneWaits side.new.stages) }
 {
     let _ = frame.graph();
-    'waiting: while let Some(place) = side.next(frame, possible) {
-        match examine::<K>(alloc, kind, frame, side, possible, place)? {
+    'waiting: while let Some(place) = side.next() {
+        match examine::<K>(alloc, kind, frame, side, place)? {
             Force::Quiet => {}
             Force::Literal { atom, lit } => return Ok(Force::Literal { atom, lit }),
         }

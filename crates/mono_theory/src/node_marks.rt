@@ -2,7 +2,7 @@
 //!
 //! They are found from the nodes of the set, and so in proportion to the edges there and not to the graph.
 
-ghost use Rattle.std.specs.Prelude.{◌≡◌, ◌<◌, ◌++◌, ℕ, false, length, All, IfOk, slice_index_or};
+ghost use Rattle.std.specs.Prelude.{◌≡◌, ◌<◌, ◌++◌, ℕ, List, false, length, All, IfOk, slice_index_or};
 ghost use Rattle.mono_graph.specs.Digraph.{IsPartOf, has};
 ghost use Rattle.mono_theory.specs.Resting.{absent_from, absent_into, absent_out, absent_across};
 
@@ -35,15 +35,12 @@ fn push_leaving(
     marks: &[bool],
     node: u32,
     edges: &mut Vec<u32>,
-    nodes: &[u32],
 ) -> Result<(), AllocError>
     requires part { IsPartOf part.now graph.now }
     requires node { node < graph.now.nodes }
     requires len { length marks.now ≡ graph.now.nodes }
-    requires marked { (u : ℕ) → slice_index_or marks.now u false ≡ has nodes.now u }
-    ensures { IfOk result (λ _. edges.new.items ≡ edges.old.items ++ absent_from graph.now part.now nodes.now node) }
+    ensures { (nodes : List ℕ) → ((u : ℕ) → slice_index_or marks.now u false ≡ has nodes u) → IfOk result (λ _. edges.new.items ≡ edges.old.items ++ absent_from graph.now part.now nodes node) }
 {
-    let _ = nodes;
     for place in graph.leaving(node) {
         let edge = graph.edge(*place);
         if !part.has(*place) && !marks[edge.to as usize] {
@@ -60,15 +57,12 @@ fn push_entering(
     marks: &[bool],
     node: u32,
     edges: &mut Vec<u32>,
-    nodes: &[u32],
 ) -> Result<(), AllocError>
     requires part { IsPartOf part.now graph.now }
     requires node { node < graph.now.nodes }
     requires len { length marks.now ≡ graph.now.nodes }
-    requires marked { (u : ℕ) → slice_index_or marks.now u false ≡ has nodes.now u }
-    ensures { IfOk result (λ _. edges.new.items ≡ edges.old.items ++ absent_into graph.now part.now nodes.now node) }
+    ensures { (nodes : List ℕ) → ((u : ℕ) → slice_index_or marks.now u false ≡ has nodes u) → IfOk result (λ _. edges.new.items ≡ edges.old.items ++ absent_into graph.now part.now nodes node) }
 {
-    let _ = nodes;
     for place in graph.entering(node) {
         let edge = graph.edge(*place);
         if !part.has(*place) && !marks[edge.from as usize] {
@@ -94,7 +88,7 @@ fn leaving_marked(
 {
     let mut edges = Vec::new(alloc);
     for node in nodes {
-        push_leaving(graph, part, marks, *node, &mut edges, nodes)?;
+        push_leaving(graph, part, marks, *node, &mut edges)?;
     }
     Ok(edges)
 }
@@ -115,8 +109,8 @@ fn crossing_marked(
 {
     let mut edges = Vec::new(alloc);
     for node in nodes {
-        push_leaving(graph, part, marks, *node, &mut edges, nodes)?;
-        push_entering(graph, part, marks, *node, &mut edges, nodes)?;
+        push_leaving(graph, part, marks, *node, &mut edges)?;
+        push_entering(graph, part, marks, *node, &mut edges)?;
     }
     Ok(edges)
 }

@@ -18,7 +18,7 @@ use mono_problem::Predicate;
 use std::alloc::{AllocError, Global};
 
 /// The bounds go back to the first literals.
-fn retreat(lits: &[Lit], bounds: &mut Bounds, kept: usize)
+fn undo_bounds_to(lits: &[Lit], bounds: &mut Bounds, kept: usize)
     requires within { kept ≤ length lits.now }
     requires partial { IsTrue (is_partial lits.now) }
     requires bounds { IsBoundOf bounds.old bounds.old.vars lits.now }
@@ -118,7 +118,7 @@ pub(crate) fn evidence_by<K: Kind>(
     ensures same { bounds.new ≡ bounds.old }
     ensures evidence { IfOk result (IsEvidence graph.now (side graph.now predicate (take kept lits.now) lit) predicate) }
 {
-    retreat(lits, bounds, kept);
+    undo_bounds_to(lits, bounds, kept);
     let found = evidence_beside::<K>(alloc, kind, graph, bounds, known, predicate, lit);
     advance(lits, bounds, kept);
     found

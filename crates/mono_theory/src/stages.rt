@@ -93,11 +93,11 @@ fn change(
 
 /// Whether an atom of this stage stands.
 fn is_standing(its: Stage) -> bool
-    ensures stands { IsTrue result → its ≡ stage.Stands }
-    ensures other { result ≡ false → its ≢ stage.Stands }
+    ensures stands { IsTrue result → its ≡ stage.Supported }
+    ensures other { result ≡ false → its ≢ stage.Supported }
     ensures same { result ≡ false → waiting its ≡ its }
 {
-    matches!(its, Stage::Stands)
+    matches!(its, Stage::Supported)
 }
 
 /// Whether an atom of this stage shows only by literals after the first `kept`.
@@ -106,7 +106,7 @@ fn is_after(its: Stage, kept: usize) -> bool
     ensures up_to { result ≡ false → IsUpTo kept its }
 {
     match its {
-        Stage::Shows(count) => count > kept,
+        Stage::Forcing(count) => count > kept,
         _ => false,
     }
 }
@@ -131,20 +131,13 @@ fn last_after(items: &[u32], stages: &Vec<Stage>, shown: usize, kept: usize) -> 
 }
 
 /// The atoms that show only by literals after the first `kept` wait.
-fn retreat(
-    items: &[u32],
-    stages: &mut Vec<Stage>,
-    shown: usize,
-    border: usize,
-    kept: usize,
-) -> usize
+fn undo_stages_to(items: &[u32], stages: &mut Vec<Stage>, shown: usize, kept: usize) -> usize
     requires all { AreAll items.now }
     requires as_many { length stages.old.items ≡ length items.now }
-    requires runs { AreRuns items.now stages.old.items shown border }
-    ensures runs { AreRuns items.now stages.new.items result border }
+    requires runs { (border : ℕ) × AreRuns items.now stages.old.items shown border }
+    ensures runs { (border : ℕ) → AreRuns items.now stages.old.items shown border → AreRuns items.now stages.new.items result border }
     ensures stages { stages.new.items ≡ map (undone kept) stages.old.items }
 {
-    let _ = border;
     let mut left = shown;
     while let Some(atom) = last_after(items, stages, left, kept) {
         stages[atom as usize] = Stage::Waits;
@@ -181,7 +174,7 @@ impl Stages {
     /// Whether an atom stands.
     pub(crate) fn is_standing(&self, atom: u32) -> bool
         requires { atom < length self.now }
-        ensures { result ≡ false → stage_at self.now atom ≢ stage.Stands }
+        ensures { result ≡ false → stage_at self.now atom ≢ stage.Supported }
     {
         is_standing(self.stage(atom))
     }
@@ -200,7 +193,7 @@ impl Stages {
     pub(crate) fn stand(&mut self, atom: u32)
         requires atom { atom < length self.old }
         requires waits { stage_at self.old atom ≡ stage.Waits }
-        ensures { self.new ≡ slice_set self.old atom stage.Stands }
+        ensures { self.new ≡ slice_set self.old atom stage.Supported }
     {
         let place = self.places[atom as usize] as usize;
         let last = self.border - 1;
@@ -210,7 +203,7 @@ impl Stages {
             &mut self.stages,
             place,
             last,
-            Stage::Stands,
+            Stage::Supported,
         );
         self.border = last;
     }
@@ -220,7 +213,7 @@ impl Stages {
         requires atom { atom < length self.old }
         requires waits { stage_at self.old atom ≡ stage.Waits }
         requires latest { All (IsUpTo count) self.old }
-        ensures { self.new ≡ slice_set self.old atom (stage.Shows count) }
+        ensures { self.new ≡ slice_set self.old atom (stage.Forcing count) }
     {
         let place = self.places[atom as usize] as usize;
         change(
@@ -229,7 +222,7 @@ impl Stages {
             &mut self.stages,
             place,
             self.shown,
-            Stage::Shows(count),
+            Stage::Forcing(count),
         );
         self.shown += 1;
     }
@@ -258,6 +251,6 @@ impl Stages {
     pub(crate) fn undo_to(&mut self, kept: usize)
         ensures { self.new ≡ map (undone kept) self.old }
     {
-        self.shown = retreat(&self.items, &mut self.stages, self.shown, self.border, kept);
+        self.shown = undo_stages_to(&self.items, &mut self.stages, self.shown, kept);
     }
 }

@@ -291,10 +291,7 @@ fn put<T: Drop>(items: &mut Vec<T>, item: T)
     ensures items { items.new.items ≡ items.old.items ++ item ∷ [] }
     ensures room { vec_capacity items.old ≤ vec_capacity items.new }
 {
-    match items.push(item) {
-        Ok(()) => {}
-        Err(_) => unreachable!(),
-    }
+    items.push_reserved(item);
 }
 
 /// The literals and their negations are open again.

@@ -3,8 +3,8 @@ use Rattle.std.proofs.Common.{ℕ, Bool, List, refl, ℤ}
 use Rattle.std.specs.Prelude.{IsTrue, ◌↔◌}
 use Rattle.mono_graph.specs.Digraph.{Digraph}
 use Rattle.mono_graph.specs.Trees.{is_tree}
-use Rattle.mono_graph.proofs.TreeLaws.{split_excludes}
-use Rattle.mono_graph.proofs.LeastLaw.{least_excludes}
+use Rattle.mono_graph.proofs.UncrossedSets.{split_excludes}
+use Rattle.mono_graph.proofs.LeastTrees.{least_excludes}
 use Rattle.mono_trees.specs.declared.finder.TreeFound.{TreeFound}
 use Rattle.mono_trees.specs.declared.finder.TreeFound.TheVariants.{Tree, Split, Least}
 use Rattle.mono_trees.specs.Found.{Passes, is_tree_found}

@@ -73,7 +73,8 @@ class Run:
         self.splitting = splitting
         self.open = deque(cube for cube in folder.tree.leaves() if cube.state is State.OPEN)
         self.at_work: dict[int, bool] = {}
-        self.tries = 0
+        # A run that goes on has those behind it that its folder tells of.
+        self.tries = sum(cube.is_probed or cube.state is not State.OPEN for cube in folder.tree.cubes)
         self.refuted = sum(cube.state is State.REFUTED for cube in folder.tree.leaves())
         self.longest = max((cube.seconds for cube in folder.tree.cubes), default=0.0)
         self.last_fault = ""

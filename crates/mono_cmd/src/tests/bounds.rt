@@ -8,13 +8,13 @@ use std::test::Fail;
 /// Two edges from node 0 to node 1, of the weights 3 and 4, and the flow over them.
 const PARALLEL: &[u8] =
     b"digraph int 2 2 0\nedge 0 0 1 1 3\nedge 0 0 1 2 4\nmaximum_flow_geq 0 0 1 3 7\nmaximum_flow_geq 0 0 1 4 8\n";
-/// The same where the first edge is absent.
+/// The two edges and their flows, where the first edge is absent.
 const ALONE: &[u8] =
     b"digraph int 2 2 0\nedge 0 0 1 1 3\nedge 0 0 1 2 4\nmaximum_flow_geq 0 0 1 3 7\nmaximum_flow_geq 0 0 1 4 8\n-1 0\n";
 /// A detour of the weight 10, and a direct edge of the weight 3.
 const TRIANGLE: &[u8] =
     b"digraph int 3 3 0\nedge 0 0 1 1 5\nedge 0 1 2 2 5\nedge 0 0 2 3 3\nweighted_distance_leq 0 0 2 4 8\n";
-/// The same without the direct edge, and without any walk.
+/// The detour without the direct edge.
 const DETOUR: &[u8] =
     b"digraph int 3 3 0\nedge 0 0 1 1 5\nedge 0 1 2 2 5\nedge 0 0 2 3 3\nweighted_distance_leq 0 0 2 4 8\n-3 0\n";
 

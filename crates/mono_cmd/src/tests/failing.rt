@@ -11,7 +11,7 @@ const DENIED: &str =
 
 const REFUTATION: &str = "s UNSATISFIABLE\npath 1 -1 -2 3 0 1 2\nchain 0 4 1 2 3\n";
 
-/// The same, and nothing is denied.
+/// The line of two edges and its predicate, of which nothing is denied.
 const ROUTE: &str = "digraph int 3 2 0\nedge 0 0 1 1\nedge 0 1 2 2\nreach 0 0 2 3\n1 0\n2 0\n";
 
 /// Each call on the shelf fails in turn, until a run makes no further call: it writes this, and ends so.

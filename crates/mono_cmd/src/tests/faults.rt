@@ -35,7 +35,7 @@ fn ends_in(
     Ok(())
 }
 
-/// The same, into an output of so many bytes.
+/// How a run ends whose output takes so many bytes.
 pub(super) fn ends_within(
     rt: &(impl Abort + AllocGlobal),
     line: &[&str],

@@ -91,7 +91,7 @@ fn found_by(search: &mut Search<'_, Wrapped>) -> Result<Option<bool>, AllocError
     }
 }
 
-/// The same of a search over the problem with one wrapped theory.
+/// What a search over the problem with one wrapped theory finds.
 fn found_over_one(alloc: Global, problem: &Problem) -> Result<Option<bool>, AllocError>
     requires one { length problem.now.atoms ≡ 1 }
     requires graph { (atom_numbered problem.now 1).graph ≡ 0 }

@@ -27,7 +27,7 @@ fn runs_until_the_end(search: &mut Search<'_, AnyTheory>) -> Result<(u32, bool),
     Ok((9, false))
 }
 
-/// The same of a search over the problem.
+/// How many runs a search over the problem takes, and whether it ends with a refutation.
 fn runs_over(alloc: Global, problem: &Problem) -> Result<(u32, bool), AllocError> {
     let theories = all_theories(alloc, problem)?;
     let mut search = Search::new(alloc, problem, theories)?;

@@ -45,7 +45,7 @@ fn what_weighs_too_much_is_refuted(rt: HostRuntime) -> Result<(), Fail> {
     refutes_each(&rt, &[DENIED_FLOW, HEAVY_WAY, HEAVY_TREE, TIED_TREES])
 }
 
-/// The same triangle, and nothing is asked for.
+/// A triangle of free edges with a bound on its spanning trees, of which nothing is asked for.
 const FREE_TREES: &str =
     "digraph int 3 3 0\nedge 0 0 1 1\nedge 0 1 2 2\nedge 0 2 0 3\nmst_weight_leq 0 4 1\n1 0 2 0 3 0\n";
 

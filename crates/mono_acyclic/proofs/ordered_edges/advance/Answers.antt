@@ -2,9 +2,9 @@ use Rattle.std.proofs.Common.{◌+◌, ℕ, List, take, subst, sym, ◌∙◌, a
 use Rattle.std.specs.Prelude.{IsTrue}
 use Rattle.mono_graph.specs.Digraph.{Digraph}
 use Rattle.mono_graph.specs.Cycles.{is_cycle}
-use Rattle.mono_rows.specs.SureParts.{sure_parts}
+use Rattle.mono_theory.specs.SureParts.{sure_parts}
 use Rattle.mono_acyclic.specs.Together.{IsPutIn}
-use Rattle.mono_acyclic.proofs.OrderLaws.{AreItsEdges, closed_by, on_err, ordered_again, ordered_on}
+use Rattle.mono_acyclic.proofs.OrderStays.{AreItsEdges, closed_by, on_err, ordered_again, ordered_on}
 use Rattle.mono_acyclic.proofs.ordered_edges.advance.Goals as goal
 
 pub returns-then-insert_all-clause-kept : goal.returns-then-insert_all-clause-kept

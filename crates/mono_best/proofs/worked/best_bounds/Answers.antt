@@ -10,7 +10,7 @@ use Rattle.mono_problem.specs.declared.atom.Predicate.TheVariants as kind
 use Rattle.mono_problem.specs.Holds.{Holds, HoldsAtom, Satisfies}
 use Rattle.mono_problem.specs.Worked.{only}
 use Rattle.mono_problem.proofs.Monotone.{Holds-larger}
-use Rattle.mono_graph.proofs.WalkLaws.{labelling_excludes}
+use Rattle.mono_graph.proofs.CutsBoundWalks.{labelling_excludes}
 use Rattle.mono_best.specs.Worked.{weighed, distance_to_2}
 use Rattle.mono_best.proofs.Optimal.{next_met}
 use Rattle.mono_best.proofs.worked.best_bounds.Goals as goal

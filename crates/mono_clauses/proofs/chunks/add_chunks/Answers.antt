@@ -1,13 +1,13 @@
 use Rattle.std.proofs.Common.{◌≡◌, ◌<◌, ◌+◌, ◌*◌, ◌∙◌, ap, sym, subst, List, [], ◌∷◌, ◌++◌, ℕ, length, arith, length-append}
 use Rattle.std.specs.Prelude.{replicate}
-use Rattle.mono_clauses.proofs.ChunkLemmas.{pool_none}
-use Rattle.mono_clauses.proofs.PoolLemmas.{pool_more}
+use Rattle.mono_clauses.proofs.WatchLists.{pool_none}
+use Rattle.mono_clauses.proofs.ChunkPool.{pool_more}
 use Rattle.mono_clauses.specs.Stacks.{IsPool}
 use Rattle.mono_clauses.proofs.chunks.add_chunks.Goals as goal
 
 pub chunks-init : goal.chunks-init
 chunks-init c = record {
-  pool = subst (λ (ls : List ℕ). IsPool c.args.count ls c.args.spare.now.items (replicate c.args.count 4294967295) (replicate c.args.count [])) (sym c.requires.empty.1)
+  pool = subst (λ (ls : List ℕ). IsPool c.args.count ls c.args.free_chunks.now.items (replicate c.args.count 4294967295) (replicate c.args.count [])) (sym c.requires.empty.1)
       (subst (λ (ss : List ℕ). IsPool c.args.count [] ss (replicate c.args.count 4294967295) (replicate c.args.count [])) (sym c.requires.empty.2) (pool_none c.args.count));
   size = omega (arith, ap (λ (xs : List ℕ). length xs) c.requires.empty.0, ap (λ (xs : List ℕ). length xs) c.requires.empty.1);
   most = omega (arith, ap (λ (xs : List ℕ). length xs) c.requires.empty.1);
@@ -17,15 +17,15 @@ chunks-init c = record {
 pub chunks-preserved : goal.chunks-preserved
 chunks-preserved c =
     let links : c.add_chunk.new.links.items ≡ c.chunks.links.items ++ 4294967295 ∷ [] = c.add_chunk.ensures.links ∙ ap (λ (xs : List ℕ). xs ++ 4294967295 ∷ []) c.in_ok-reserve_chunk.ensures.links in
-    let spare : c.add_chunk.new.spare.items ≡ c.chunks.spare.items ++ (8 * length c.chunks.links.items) ∷ [] = c.add_chunk.ensures.spare ∙ ap (λ (xs : List ℕ). xs ++ (8 * length c.reserve_chunk.new.links.items) ∷ []) c.in_ok-reserve_chunk.ensures.spare
-    ∙ ap (λ (xs : List ℕ). c.chunks.spare.items ++ (8 * length xs) ∷ []) c.in_ok-reserve_chunk.ensures.links in
+    let free_chunks : c.add_chunk.new.free_chunks.items ≡ c.chunks.free_chunks.items ++ (8 * length c.chunks.links.items) ∷ [] = c.add_chunk.ensures.free_chunks ∙ ap (λ (xs : List ℕ). xs ++ (8 * length c.reserve_chunk.new.links.items) ∷ []) c.in_ok-reserve_chunk.ensures.free_chunks
+    ∙ ap (λ (xs : List ℕ). c.chunks.free_chunks.items ++ (8 * length xs) ∷ []) c.in_ok-reserve_chunk.ensures.links in
     let cells : c.add_chunk.new.cells.items ≡ c.chunks.cells.items ++ replicate 8 0 = c.add_chunk.ensures.cells ∙ ap (λ (xs : List ℕ). xs ++ replicate 8 0) c.in_ok-reserve_chunk.ensures.cells in
     let test : length c.chunks.links.items < c.args.count = omega (arith, c.chunks-test.true) in
     let more : length c.add_chunk.new.links.items ≡ length c.chunks.links.items + 1 = omega (arith, ap (λ (xs : List ℕ). length xs) links, length-append c.chunks.links.items (4294967295 ∷ [])) in
     record {
-      pool = subst (λ (ls : List ℕ). IsPool c.args.count ls c.add_chunk.new.spare.items (replicate c.args.count 4294967295) (replicate c.args.count [])) (sym links)
-          (subst (λ (ss : List ℕ). IsPool c.args.count (c.chunks.links.items ++ 4294967295 ∷ []) ss (replicate c.args.count 4294967295) (replicate c.args.count [])) (sym spare)
-          (pool_more c.args.count c.chunks.links.items c.chunks.spare.items (replicate c.args.count 4294967295) (replicate c.args.count []) 4294967295 c.chunks.invariant.pool (omega (arith, test, c.requires.few))));
+      pool = subst (λ (ls : List ℕ). IsPool c.args.count ls c.add_chunk.new.free_chunks.items (replicate c.args.count 4294967295) (replicate c.args.count [])) (sym links)
+          (subst (λ (ss : List ℕ). IsPool c.args.count (c.chunks.links.items ++ 4294967295 ∷ []) ss (replicate c.args.count 4294967295) (replicate c.args.count [])) (sym free_chunks)
+          (pool_more c.args.count c.chunks.links.items c.chunks.free_chunks.items (replicate c.args.count 4294967295) (replicate c.args.count []) 4294967295 c.chunks.invariant.pool (omega (arith, test, c.requires.few))));
       size = omega (arith, ap (λ (xs : List ℕ). length xs) cells, length-append c.chunks.cells.items (replicate 8 0), more, c.chunks.invariant.size);
       most = omega (arith, more, test);
       capacity = (let room = c.in_ok-reserve_chunk.ensures.room in omega (arith, more, room.2, ap (λ (xs : List ℕ). length xs) c.in_ok-reserve_chunk.ensures.links, c.add_chunk.ensures.capacity));

@@ -3,8 +3,8 @@ use Rattle.std.specs.Bool.{OnTrue}
 use Rattle.std.specs.Option.{option_map}
 use Rattle.std.proofs.lemmas.Bool.{leb-true}
 use Rattle.mono_base.specs.Literal.{var_of}
-use Rattle.mono_clauses.proofs.LateLemmas.{fell_at}
-use Rattle.mono_clauses.specs.Walk.{FellAt}
+use Rattle.mono_clauses.proofs.LateWatches.{fell_at}
+use Rattle.mono_clauses.specs.Visits.{FellAt}
 use Rattle.mono_trail.specs.Places.{place_in, level_at}
 use Rattle.mono_clauses.proofs.due.fell.Goals as goal
 

@@ -2,10 +2,10 @@ use Rattle.std.proofs.Common.{◌≡◌, ℕ, List, arith, ap, subst, ◌∙◌,
 use Rattle.std.specs.Prelude.{ℤ}
 use Rattle.std.specs.Option.{option_map}
 use Rattle.mono_base.specs.Literal.{var_of}
-use Rattle.mono_clauses.proofs.DueLemmas.{second_idle, tried_true}
-use Rattle.mono_clauses.proofs.LateLemmas.{attach_late, attach_alone}
+use Rattle.mono_clauses.proofs.DueClauses.{second_idle, tried_true}
+use Rattle.mono_clauses.proofs.LateWatches.{attach_late, attach_alone}
 use Rattle.mono_clauses.specs.Store.{clause_at}
-use Rattle.mono_clauses.specs.Walk.{IsLate}
+use Rattle.mono_clauses.specs.Visits.{IsLate}
 use Rattle.mono_trail.specs.Places.{place_in, level_at}
 use Rattle.mono_clauses.proofs.due.watch_late.Goals as goal
 use Rattle.mono_clauses.proofs.due.watch_late.Goals.{In-Some}

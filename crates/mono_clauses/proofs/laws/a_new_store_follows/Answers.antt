@@ -1,4 +1,4 @@
-use Rattle.mono_clauses.proofs.FollowLaws.{follows_new}
+use Rattle.mono_clauses.proofs.FollowsKept.{follows_new}
 use Rattle.mono_clauses.proofs.laws.a_new_store_follows.Goals as goal
 
 pub returns : goal.returns

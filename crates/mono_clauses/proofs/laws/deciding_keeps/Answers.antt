@@ -1,4 +1,4 @@
-use Rattle.mono_clauses.proofs.FollowLaws.{follows_decide}
+use Rattle.mono_clauses.proofs.FollowsKept.{follows_decide}
 use Rattle.mono_clauses.proofs.laws.deciding_keeps.Goals as goal
 
 pub returns : goal.returns

@@ -1,4 +1,4 @@
-use Rattle.mono_clauses.proofs.FollowLaws.{follows_back}
+use Rattle.mono_clauses.proofs.FollowsKept.{follows_back}
 use Rattle.mono_clauses.proofs.laws.going_back_keeps.Goals as goal
 
 pub returns : goal.returns

@@ -1,4 +1,4 @@
-use Rattle.mono_clauses.proofs.FollowLaws.{follows_settle, below_settle}
+use Rattle.mono_clauses.proofs.FollowsKept.{follows_settle, below_settle}
 use Rattle.mono_clauses.proofs.laws.settling_keeps.Goals as goal
 
 pub returns-clause-follows : goal.returns-clause-follows

@@ -10,8 +10,8 @@ use Rattle.mono_clauses.proofs.scan.next_watch.Goals as goal
 pub returns-then-number-2-clause-none : goal.returns-then-number-2-clause-none
 returns-then-number-2-clause-none c =
     let n : length (clause_at c.args.clauses.now.list c.args.place).lits ≡ 3 = omega (arith, c.if-head-eq3.true, c.head-head.ensures.len) in
-    let x : Stands (clause_at c.args.clauses.now.list c.args.place).lits c.head-head.result.third = c.head-head.ensures.third (omega (arith, n)) in
-    let other : c.head-head.result.third ≢ c.args.lit = λ e. grind (arith, common_steps, e) in
-    let apart : c.head-head.result.third ≢ c.args.mate = λ e. grind (arith, common_steps, e) in
-    let gone : value_by c.args.trail.now.lits c.head-head.result.third ≡ No = grind (arith, common_steps) in
-    cover_three c.args.trail.now.lits (clause_at c.args.clauses.now.list c.args.place).lits c.args.lit c.args.mate c.head-head.result.third n c.requires.has_lit c.requires.has_mate x c.requires.differ other apart c.requires.falsified gone
+    let x : Stands (clause_at c.args.clauses.now.list c.args.place).lits c.head-head.result.cached = c.head-head.ensures.cached (omega (arith, n)) in
+    let other : c.head-head.result.cached ≢ c.args.lit = λ e. grind (arith, common_steps, e) in
+    let apart : c.head-head.result.cached ≢ c.args.mate = λ e. grind (arith, common_steps, e) in
+    let gone : value_by c.args.trail.now.lits c.head-head.result.cached ≡ No = grind (arith, common_steps) in
+    cover_three c.args.trail.now.lits (clause_at c.args.clauses.now.list c.args.place).lits c.args.lit c.args.mate c.head-head.result.cached n c.requires.has_lit c.requires.has_mate x c.requires.differ other apart c.requires.falsified gone

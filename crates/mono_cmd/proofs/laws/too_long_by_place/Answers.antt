@@ -1,4 +1,4 @@
-use Rattle.mono_cmd.proofs.PlaceLaws.{solve_too_long, print_too_long, team_too_long, file_too_long, answer_too_long, migrated_file_too_long, migrated_answer_too_long, core_too_long, best_too_long, ask_too_long, file_with_too_long, answer_with_too_long}
+use Rattle.mono_cmd.proofs.PlaceByEnding.{solve_too_long, print_too_long, team_too_long, file_too_long, answer_too_long, migrated_file_too_long, migrated_answer_too_long, core_too_long, best_too_long, ask_too_long, file_with_too_long, answer_with_too_long}
 use Rattle.mono_cmd.proofs.laws.too_long_by_place.Goals as goal
 
 pub returns-clause-solve : goal.returns-clause-solve

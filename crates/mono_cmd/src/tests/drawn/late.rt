@@ -50,7 +50,7 @@ fn is_explained(alloc: Global, theory: AnyTheory) -> Result<bool, AllocError> {
     }
 }
 
-/// The same of each of these theories.
+/// Whether each of these theories explains literal 3 by the two before it.
 fn are_explained(alloc: Global, theories: Vec<AnyTheory>) -> Result<bool, AllocError> {
     for theory in theories {
         if !is_explained(alloc, theory)? {
@@ -60,7 +60,7 @@ fn are_explained(alloc: Global, theories: Vec<AnyTheory>) -> Result<bool, AllocE
     Ok(true)
 }
 
-/// The same of the one theory of that problem.
+/// Whether the one theory of that problem explains literal 3 by the two before it.
 fn route_is_explained(alloc: Global) -> Result<bool, Fail> {
     let problem = read_gnf(alloc, ROUTE)?;
     let theories = all_theories(alloc, &problem)?;

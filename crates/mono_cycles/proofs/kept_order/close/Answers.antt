@@ -3,7 +3,7 @@ use Rattle.std.specs.Prelude.{IsTrue}
 use Rattle.mono_graph.specs.Walks.{is_walk}
 use Rattle.mono_graph.specs.Digraph.{edge_at}
 use Rattle.mono_graph.specs.declared.edge.Edge.{Edge}
-use Rattle.mono_graph.proofs.CycleLaws.{is_cycle_of}
+use Rattle.mono_graph.proofs.RisingRanks.{is_cycle_of}
 use Rattle.mono_cycles.proofs.Walking.{walk_none, walk_push}
 use Rattle.mono_cycles.proofs.kept_order.close.Goals as goal
 

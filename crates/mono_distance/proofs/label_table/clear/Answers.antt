@@ -2,7 +2,7 @@ use Rattle.std.proofs.Common.{List, map, subst, ◌∙◌}
 use Rattle.std.proofs.lemmas.List.{take_all}
 use Rattle.mono_graph.specs.declared.label.Label.{Label}
 use Rattle.mono_graph.proofs.Prefixes.{Cleared, cleared_all}
-use Rattle.mono_distance.proofs.LabelLaws.{unlisted}
+use Rattle.mono_distance.proofs.TableLabels.{unlisted}
 use Rattle.mono_distance.proofs.label_table.clear.Goals as goal
 
 pub returns-clause-clear : goal.returns-clause-clear

@@ -1,4 +1,4 @@
-use Rattle.mono_distance.proofs.ReadingLaws.{labels_decide}
+use Rattle.mono_distance.proofs.KnownLabels.{labels_decide}
 use Rattle.mono_distance.proofs.laws.labels_of_last_nodes_decide.Goals as goal
 
 pub returns : goal.returns

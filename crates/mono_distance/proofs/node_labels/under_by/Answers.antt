@@ -1,4 +1,4 @@
-use Rattle.mono_distance.proofs.SureLaws.{labels_uncut}
+use Rattle.mono_distance.proofs.SureLabels.{labels_uncut}
 use Rattle.mono_distance.proofs.node_labels.under_by.Goals as goal
 
 pub under_by_rows-requires-clause-right : goal.under_by_rows-requires-clause-right

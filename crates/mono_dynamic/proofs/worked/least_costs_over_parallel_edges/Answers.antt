@@ -4,9 +4,9 @@ use Rattle.std.specs.List.{list_all}
 use Rattle.std.proofs.lemmas.List.Sums.{sum_by-cons}
 use Rattle.mono_graph.specs.declared.limit.Limit.TheVariants.{Weight}
 use Rattle.mono_graph.specs.Digraph.{edge_at, present}
-use Rattle.mono_graph.specs.Walks.{is_walk, leads, cost_of}
+use Rattle.mono_graph.specs.Walks.{is_walk, leads, cost_of, cost_along}
 use Rattle.mono_graph.specs.Worked.{parallel, round_trip, looped, both, last_alone}
-use Rattle.mono_dynamic.specs.Costs.{label_of, cost_along}
+use Rattle.mono_dynamic.specs.Costs.{label_of}
 use Rattle.mono_dynamic.proofs.Exact.{walks}
 use Rattle.mono_dynamic.proofs.Rows.{least_by_test}
 use Rattle.mono_dynamic.proofs.CostRows.{least_both, least_last, least_steps, least_capped}

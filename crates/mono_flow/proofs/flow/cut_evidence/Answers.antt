@@ -27,5 +27,5 @@ returns-clause-each c =
     let out : List ℕ = absent_out g c.args.part.now c.args.nodes.items in
     let is : c.as_slice-2.result.now ≡ out =
     c.as_slice-2.ensures.value ∙ (c.in_ok-absent.ensures.edges ∙ ap (absent_out g c.args.part.now) c.as_slice.ensures.value) in
-    subst (λ (named : List ℕ). EachIsNeeded g c.args.spare out named) (sym c.from_vec-2.ensures)
-    (subst (λ (ks : List ℕ). EachIsNeeded g c.args.spare ks c.in_ok-edges.edges.items) is c.in_ok-edges.ensures.each)
+    subst (λ (named : List ℕ). EachIsNeeded g c.args.slack out named) (sym c.from_vec-2.ensures)
+    (subst (λ (ks : List ℕ). EachIsNeeded g c.args.slack ks c.in_ok-edges.edges.items) is c.in_ok-edges.ensures.each)

@@ -9,7 +9,7 @@ loop-place-preserved-then-edge-left c =
     let g = c.args.graph.now in
     let k : ℕ = slice_index_or c.args.absent.now c.loop-place.place-index 0 in
     let weight : c.edge-edge.result.weight ≡ (edge_at g k).weight = ap (λ (e : Edge). e.weight) c.edge-edge.ensures.edge in
-    subst (λ (w : ℕ). AreNeededSoFar g c.args.spare c.args.absent.now c.loop-place.named.items (c.loop-place.left - w) (c.loop-place.place-index + 1)) (sym weight)
+    subst (λ (w : ℕ). AreNeededSoFar g c.args.slack c.args.absent.now c.loop-place.named.items (c.loop-place.left - w) (c.loop-place.place-index + 1)) (sym weight)
     (so_far_left k c.loop-place-test.true refl (let le = c.if-edge-left.true in omega (arith, weight, le)) c.loop-place.invariant)
 
 pub loop-place-preserved : goal.loop-place-preserved
@@ -17,7 +17,7 @@ loop-place-preserved c =
     let g = c.args.graph.now in
     let k : ℕ = slice_index_or c.args.absent.now c.loop-place.place-index 0 in
     let weight : c.edge-edge.result.weight ≡ (edge_at g k).weight = ap (λ (e : Edge). e.weight) c.edge-edge.ensures.edge in
-    subst (λ (named : List ℕ). AreNeededSoFar c.args.graph.now c.args.spare c.args.absent.now named c.loop-place.left (c.loop-place.place-index + 1)) (sym c.in_ok-push.ensures.items)
+    subst (λ (named : List ℕ). AreNeededSoFar c.args.graph.now c.args.slack c.args.absent.now named c.loop-place.left (c.loop-place.place-index + 1)) (sym c.in_ok-push.ensures.items)
     (so_far_named k c.loop-place-test.true refl (let more = c.if-edge-left.false in omega (arith, weight, more)) c.loop-place.invariant)
 
 pub returns-clause-others : goal.returns-clause-others

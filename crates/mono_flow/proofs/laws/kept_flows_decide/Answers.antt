@@ -1,4 +1,4 @@
-use Rattle.mono_flow.proofs.DecidedLaws.{over_decided, under_decided}
+use Rattle.mono_flow.proofs.KeptFlowsDecide.{over_decided, under_decided}
 use Rattle.mono_flow.proofs.laws.kept_flows_decide.Goals as goal
 
 pub returns : goal.returns

@@ -1,4 +1,4 @@
-use Rattle.mono_flow.proofs.StayingLaws.{over_stays, over_stays_back, under_stays}
+use Rattle.mono_flow.proofs.KeptFlowsStay.{over_stays, over_stays_back, under_stays}
 use Rattle.mono_flow.proofs.laws.kept_flows_stay.Goals as goal
 
 pub returns : goal.returns

@@ -1,4 +1,4 @@
-use Rattle.mono_graph.proofs.FlowLaws.{value_of-le}
+use Rattle.mono_graph.proofs.CutsBoundFlows.{value_of-le}
 use Rattle.mono_graph.proofs.laws.flow_value_is_at_most_cut.Goals as goal
 
 pub returns : goal.returns

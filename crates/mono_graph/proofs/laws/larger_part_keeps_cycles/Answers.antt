@@ -1,4 +1,4 @@
-use Rattle.mono_graph.proofs.CycleLaws.{is_cycle-larger}
+use Rattle.mono_graph.proofs.RisingRanks.{is_cycle-larger}
 use Rattle.mono_graph.proofs.laws.larger_part_keeps_cycles.Goals as goal
 
 pub returns : goal.returns

@@ -1,4 +1,4 @@
-use Rattle.mono_graph.proofs.LeastLaw.{is_least-le}
+use Rattle.mono_graph.proofs.LeastTrees.{is_least-le}
 use Rattle.mono_graph.proofs.laws.least_tree_is_lightest.Goals as goal
 
 pub returns : goal.returns

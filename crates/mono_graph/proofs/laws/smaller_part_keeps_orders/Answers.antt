@@ -1,4 +1,4 @@
-use Rattle.mono_graph.proofs.CycleLaws.{is_order-smaller, acyclic-smaller}
+use Rattle.mono_graph.proofs.RisingRanks.{is_order-smaller, acyclic-smaller}
 use Rattle.mono_graph.proofs.laws.smaller_part_keeps_orders.Goals as goal
 
 pub returns-clause-order : goal.returns-clause-order

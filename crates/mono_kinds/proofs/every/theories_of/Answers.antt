@@ -4,7 +4,7 @@ use Rattle.std.proofs.lemmas.List.{map_push}
 use Rattle.mono_theory.specs.Owners.{fact_of, facts_of}
 use Rattle.mono_kinds.specs.Kinds.{graph_of, atoms_of, seen_of}
 use Rattle.mono_kinds.specs.Slots.{AreMade, made_of, numbers_in}
-use Rattle.mono_kinds.proofs.SlotLaws.{made_push, made_skip}
+use Rattle.mono_kinds.proofs.SlotNumbers.{made_push, made_skip}
 use Rattle.mono_kinds.proofs.every.theories_of.Goals as goal
 use Rattle.mono_kinds.proofs.every.theories_of.Goals.{then-not-is_empty+in_ok-theory_of+in_ok-push, else-not-is_empty}
 

@@ -4,7 +4,7 @@ use Rattle.mono_distance.specs.Distances.{is_distance}
 use Rattle.mono_flow.specs.Flowing.{is_flow_predicate}
 use Rattle.mono_tree.specs.Spanning.{is_tree_predicate}
 use Rattle.mono_acyclic.specs.Cyclic.{is_cycle_predicate}
-use Rattle.mono_kinds.proofs.SlotLaws.{numbers_are, reach_kind, distance_kind, flow_kind, tree_kind, acyclic_kind}
+use Rattle.mono_kinds.proofs.SlotNumbers.{numbers_are, reach_kind, distance_kind, flow_kind, tree_kind, acyclic_kind}
 use Rattle.mono_kinds.proofs.every.theory_of.Goals as goal
 
 pub new-requires-clause-atoms : goal.new-requires-clause-atoms

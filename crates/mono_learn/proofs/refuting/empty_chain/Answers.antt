@@ -22,19 +22,19 @@ pub returns-then-is_empty-clause-exact : goal.returns-then-is_empty-clause-exact
 returns-then-is_empty-clause-exact g c = empty_false (clauses_after c.args.problem.now c.args.journal.now) c.args.trail.now.lits c.args.conflict c.clause.result.now c.push.new.self.items c.requires.conflict c.clause.ensures (sym c.is_empty.ensures ∙ c.if-is_empty.true)
     (c.in_ok-push.ensures.items ∙ ap (λ (ns : List ℕ). ns ++ c.args.conflict ∷ []) c.new-used.ensures.items)
 
-pub returns-in_err-resolvent-clause-asks : goal.returns-in_err-resolvent-clause-asks
-returns-in_err-resolvent-clause-asks g c = asks_same c.args.problem.now c.args.trail.now c.new.new.trail c.args.journal.now c.new.ensures.same
+pub returns-in_err-analysis-clause-asks : goal.returns-in_err-analysis-clause-asks
+returns-in_err-analysis-clause-asks g c = asks_same c.args.problem.now c.args.trail.now c.new.new.trail c.args.journal.now c.new.ensures.same
 
 pub begin-requires-clause-start : goal.begin-requires-clause-start
 begin-requires-clause-start g c =
     let lt = some_lits (clauses_after c.args.problem.now c.args.journal.now) c.args.trail.now.lits c.args.conflict c.clause.result.now c.requires.conflict c.clause.ensures (sym c.is_empty.ensures ∙ c.if-is_empty.false) in
-    subst (λ (t : TrailView). 0 < length t.lits) (sym c.new.ensures.same) lt
+    rw c.in_ok-analysis.ensures.start (subst (λ (t : TrailView). 0 < length t.lits) (sym c.new.ensures.same) lt)
 
 pub returns-in_err-begin-clause-asks : goal.returns-in_err-begin-clause-asks
 returns-in_err-begin-clause-asks g c = asks_same c.args.problem.now c.args.trail.now c.new.new.trail c.args.journal.now c.new.ensures.same
 
 pub give_back-requires : goal.give_back-requires
-give_back-requires g c = none_marked (clauses_after c.args.problem.now c.unwind.new.journal) c.unwind.new.trail.lits 0 c.unwind.new.resolvent c.unwind.new.used.items c.in_ok-unwind.ensures.come
+give_back-requires g c = none_marked (clauses_after c.args.problem.now c.resolve_all.new.journal) c.resolve_all.new.trail.lits c.resolve_all.new.self.start c.resolve_all.new.self.resolvent c.resolve_all.new.self.used.items c.in_ok-resolve_all.ensures.come
 
 pub returns-clause-exact : goal.returns-clause-exact
-returns-clause-exact g c = none_left (clauses_after c.args.problem.now c.unwind.new.journal) c.unwind.new.trail.lits 0 c.unwind.new.resolvent c.unwind.new.used.items c.in_ok-unwind.ensures.come
+returns-clause-exact g c = none_left (clauses_after c.args.problem.now c.resolve_all.new.journal) c.resolve_all.new.trail.lits c.resolve_all.new.self.start c.resolve_all.new.self.resolvent c.resolve_all.new.self.used.items c.in_ok-resolve_all.ensures.come

@@ -2,8 +2,8 @@ use Rattle.std.proofs.Common.{◌≡◌, ◌<◌, ◌+◌, length, reverse}
 use Rattle.std.specs.Prelude.{All, IsTrue}
 use Rattle.std.specs.List.{list_all}
 use Rattle.mono_graph.specs.Digraph.{is_place, present}
-use Rattle.mono_graph.specs.Walks.{leads}
-use Rattle.mono_paths.specs.Trails.{visit_at, cost_along}
+use Rattle.mono_graph.specs.Walks.{leads, cost_along}
+use Rattle.mono_paths.specs.Trails.{visit_at}
 use Rattle.mono_paths.proofs.visit.walk_to.Given as goal
 
 abbrev pub invariant-loop-at : goal.invariant-loop-at

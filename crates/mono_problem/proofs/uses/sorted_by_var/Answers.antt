@@ -5,7 +5,7 @@ use Rattle.std.proofs.lemmas.Fn.{always_returns_same}
 use Rattle.std.proofs.lemmas.List.Sorted.{IsNonDecreasingBy-from_sort_by_key}
 use Rattle.mono_problem.specs.declared.uses.Use.TheVariants as use_of
 use Rattle.mono_problem.specs.declared.uses.VarUse.{VarUse}
-use Rattle.mono_problem.proofs.UseLemmas.{filter-same, ties-var}
+use Rattle.mono_problem.proofs.SortedUses.{filter-same, ties-var}
 use Rattle.mono_problem.proofs.uses.sorted_by_var.Goals as goal
 
 pub returns-clause-sorted : goal.returns-clause-sorted

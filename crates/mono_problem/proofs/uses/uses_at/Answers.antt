@@ -1,4 +1,4 @@
-use Rattle.mono_problem.proofs.UseLemmas.{range-is}
+use Rattle.mono_problem.proofs.SortedUses.{range-is}
 use Rattle.mono_problem.proofs.uses.uses_at.Goals as goal
 
 pub returns : goal.returns

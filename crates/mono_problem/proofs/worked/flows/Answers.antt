@@ -2,7 +2,7 @@ use Rattle.std.proofs.Common.{◌<◌, ℕ, [], ◌∷◌, refl, arith, pos}
 use Rattle.mono_graph.specs.declared.edge.Edge.{Edge}
 use Rattle.mono_graph.specs.Digraph.{HasEnds}
 use Rattle.mono_graph.specs.Worked.{edge, pipe, both, first_alone}
-use Rattle.mono_problem.proofs.WorkedLaws.{flow_fails, all_two}
+use Rattle.mono_problem.proofs.WorkedFailures.{flow_fails, all_two}
 use Rattle.mono_problem.proofs.worked.flows.Goals as goal
 
 ends : HasEnds (pipe 3 2)

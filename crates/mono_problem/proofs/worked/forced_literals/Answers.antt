@@ -2,7 +2,7 @@ use Rattle.std.proofs.Common.{[], ◌∷◌, refl, inl, inr, pos}
 use Rattle.mono_graph.specs.Worked.{pipe}
 use Rattle.mono_problem.specs.Quiet.{under, over}
 use Rattle.mono_problem.specs.Worked.{minus}
-use Rattle.mono_problem.proofs.WorkedLaws.{not_through}
+use Rattle.mono_problem.proofs.WorkedFailures.{not_through}
 use Rattle.mono_problem.proofs.worked.forced_literals.Goals as goal
 
 pub returns-clause-by_walk : goal.returns-clause-by_walk

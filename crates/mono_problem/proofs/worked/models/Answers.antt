@@ -5,7 +5,7 @@ use Rattle.mono_graph.specs.Worked.{pipe}
 use Rattle.mono_problem.specs.declared.atom.Atom.{Atom}
 use Rattle.mono_problem.specs.Holds.{HoldsAtom}
 use Rattle.mono_problem.specs.Worked.{reaches_2, piped, only}
-use Rattle.mono_problem.proofs.WorkedLaws.{not_through, all_one}
+use Rattle.mono_problem.proofs.WorkedFailures.{not_through, all_one}
 use Rattle.mono_problem.proofs.worked.models.Goals as goal
 
 -- the atom agrees

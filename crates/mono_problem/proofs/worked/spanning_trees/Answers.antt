@@ -1,6 +1,6 @@
 use Rattle.std.proofs.Common.{[], ◌∷◌, refl, pos, negsuc}
 use Rattle.mono_graph.specs.Worked.{triangle, pipe, lone, first_alone, all_three}
-use Rattle.mono_problem.proofs.WorkedLaws.{split_fails, least_fails}
+use Rattle.mono_problem.proofs.WorkedFailures.{split_fails, least_fails}
 use Rattle.mono_problem.proofs.worked.spanning_trees.Goals as goal
 
 pub returns-clause-three : goal.returns-clause-three

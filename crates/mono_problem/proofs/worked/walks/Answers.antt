@@ -1,6 +1,6 @@
 use Rattle.std.proofs.Common.{[], ◌∷◌, refl, pos, negsuc}
 use Rattle.mono_graph.specs.Worked.{label, pipe, both, first_alone}
-use Rattle.mono_problem.proofs.WorkedLaws.{cut_fails, not_through, steps_fail, distance_fails}
+use Rattle.mono_problem.proofs.WorkedFailures.{cut_fails, not_through, steps_fail, distance_fails}
 use Rattle.mono_problem.proofs.worked.walks.Goals as goal
 
 pub returns-clause-reached : goal.returns-clause-reached

@@ -1,4 +1,4 @@
-use Rattle.mono_reach.proofs.ReachLaws.{near_shows, far_shows}
+use Rattle.mono_reach.proofs.WalksAndCuts.{near_shows, far_shows}
 use Rattle.mono_reach.proofs.reach.least_cut.Goals as goal
 
 pub returns-then-as_slice-lt2-clause-evidence : goal.returns-then-as_slice-lt2-clause-evidence

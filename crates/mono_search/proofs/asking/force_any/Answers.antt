@@ -1,62 +1,70 @@
-use Rattle.std.proofs.Common.{set, arith, ◌≡◌, ◌<◌, length, map, get_or, sym, subst}
-use Rattle.std.proofs.lemmas.List.{length-map}
+use Rattle.std.proofs.Common.{◌≡◌, ◌∙◌, ◌<◌, ℕ, false, get_or, set, length, map, arith, sym, ap, subst}
 use Rattle.mono_theory.specs.Owners.{fact_of, facts_of}
-use Rattle.mono_search.specs.TheoryLists.{IsQuietTheory, IsShort}
-use Rattle.mono_search.proofs.Sweeps.{same_read, same_write, one_more}
-use Rattle.mono_search.proofs.QuietMarks.{marked, is_quiet}
+use Rattle.mono_search.specs.TheoryLists.{IsShort, OthersAreQuiet}
+use Rattle.mono_search.proofs.Sweeps.{same_read, same_write}
+use Rattle.mono_search.proofs.QuietOthers.{settled}
+use Rattle.mono_search.proofs.KnownOwners.{owner_fits, one_known}
 use Rattle.mono_search.proofs.asking.force_any.Goals as goal
-use Rattle.mono_search.proofs.asking.force_any.Goals.{After-force_one}
+use Rattle.mono_search.proofs.asking.force_any.Goals.{After-index_mut-theory, After-force_one}
 use Rattle.mono_search.proofs.asking.force_any.Given as given
 
-within : (g : given.Over) (c : After-force_one g) → c.loop-i.i < length (facts_of g.T.Theory.graph g.T.Theory.atoms g.T.Theory.seen c.args.theories.now.items)
-within g c = rw length-map (omega (arith, c.loop-i-test.true, c.len-i-end.ensures))
+within : (g : given.Over) (c : After-index_mut-theory g) → c.in-Some.place < length (facts_of g.T.Theory.graph g.T.Theory.atoms g.T.Theory.seen c.args.theories.now.items)
+within g c =
+    let last = rw c.in-Some.is at c.last.ensures.last in
+    let lt = last.within in
+    let all = c.loop-place.invariant.others.count in
+    omega (arith, lt, all)
 
-same : (g : given.Over) (c : After-force_one g) → facts_of g.T.Theory.graph g.T.Theory.atoms g.T.Theory.seen (set c.loop-i.theories.items c.loop-i.i c.force_one.new.theory) ≡ facts_of g.T.Theory.graph g.T.Theory.atoms g.T.Theory.seen c.args.theories.now.items
+-- the fact of the theory at the place
+read : (g : given.Over) (c : After-index_mut-theory g) → let fact = fact_of g.T.Theory.graph g.T.Theory.atoms g.T.Theory.seen in fact c.index_mut-theory.result.now ≡ get_or (map fact c.args.theories.now.items) c.in-Some.place (fact c.index_mut-theory.result.now)
+read g c = same_read (fact_of g.T.Theory.graph g.T.Theory.atoms g.T.Theory.seen) _ _ c.in-Some.place c.index_mut-theory.result.now c.loop-place.invariant.same c.index_mut-theory.ensures.value
+
+same : (g : given.Over) (c : After-force_one g) → facts_of g.T.Theory.graph g.T.Theory.atoms g.T.Theory.seen (set c.loop-place.theories.items c.in-Some.place c.force_one.new.theory) ≡ facts_of g.T.Theory.graph g.T.Theory.atoms g.T.Theory.seen c.args.theories.now.items
 same g c =
     let t = g.T.Theory in
-    same_write (fact_of t.graph t.atoms t.seen) _ _ c.loop-i.i c.index_mut-theory.result.now c.force_one.new.theory c.loop-i.invariant.same c.index_mut-theory.ensures.value c.force_one.ensures.same
+    same_write (fact_of t.graph t.atoms t.seen) _ _ c.in-Some.place c.index_mut-theory.result.now c.force_one.new.theory c.loop-place.invariant.same c.index_mut-theory.ensures.value c.force_one.ensures.same
+
+pub force_one-requires : goal.force_one-requires
+force_one-requires g c =
+    let at : After-index_mut-theory g = (goal.at.force_one-requires g c).After-index_mut-theory in
+    subst IsShort (sym (read g at)) (c.requires.short c.in-Some.place (fact_of g.T.Theory.graph g.T.Theory.atoms g.T.Theory.seen c.index_mut-theory.result.now) (within g at))
 
 pub returns-in_err-forced-clause-same : goal.returns-in_err-forced-clause-same
 returns-in_err-forced-clause-same g c = same g (goal.at.returns-in_err-forced-clause-same g c).After-force_one
 
-pub returns-in-Some-clause-same : goal.returns-in-Some-clause-same
-returns-in-Some-clause-same g c = same g (goal.at.returns-in-Some-clause-same g c).After-force_one
+pub returns-in-Some-2-clause-same : goal.returns-in-Some-2-clause-same
+returns-in-Some-2-clause-same g c = same g (goal.at.returns-in-Some-2-clause-same g c).After-force_one
 
--- the fact of the theory at the place
-read : (g : given.Over) (c : After-force_one g) → let fact = fact_of g.T.Theory.graph g.T.Theory.atoms g.T.Theory.seen in fact c.index_mut-theory.result.now ≡ get_or (map fact c.args.theories.now.items) c.loop-i.i (fact c.index_mut-theory.result.now)
-read g c = same_read (fact_of g.T.Theory.graph g.T.Theory.atoms g.T.Theory.seen) _ _ c.loop-i.i c.index_mut-theory.result.now c.loop-i.invariant.same c.index_mut-theory.ensures.value
+pub index_mut-requires : goal.index_mut-requires
+index_mut-requires g c =
+    let at : After-index_mut-theory g = (goal.at.index_mut-requires g c).After-index_mut-theory in
+    let its = rw c.in-Some-2.is at c.in_ok-forced.ensures.answer in
+    let fits = owner_fits (facts_of g.T.Theory.graph g.T.Theory.atoms g.T.Theory.seen c.args.theories.now.items) c.loop-place.owners.items c.in-Some.place c.in-Some-2.forced (fact_of g.T.Theory.graph g.T.Theory.atoms g.T.Theory.seen c.index_mut-theory.result.now)
+    c.loop-place.invariant.known (within g at) (read g at) its in
+    omega (arith, fits)
 
-pub returns-in-Some-clause-answer : goal.returns-in-Some-clause-answer
-returns-in-Some-clause-answer g c =
-    let after : After-force_one g = (goal.at.returns-in-Some-clause-answer g c).After-force_one in
-    let here = read g after in
-    let its = rw c.in-Some.is at c.in_ok-forced.ensures.answer in
-    (c.loop-i.i, fact_of g.T.Theory.graph g.T.Theory.atoms g.T.Theory.seen c.index_mut-theory.result.now, within g after, sym here, its)
+pub returns-in-Some-2-clause-known : goal.returns-in-Some-2-clause-known
+returns-in-Some-2-clause-known g c =
+    let at : After-index_mut-theory g = (goal.at.returns-in-Some-2-clause-known g c).After-index_mut-theory in
+    let its = rw c.in-Some-2.is at c.in_ok-forced.ensures.answer in
+    one_known (facts_of g.T.Theory.graph g.T.Theory.atoms g.T.Theory.seen c.args.theories.now.items) c.loop-place.owners.items c.in-Some.place c.in-Some-2.forced (fact_of g.T.Theory.graph g.T.Theory.atoms g.T.Theory.seen c.index_mut-theory.result.now)
+    c.loop-place.invariant.known (within g at) (read g at) its
 
-pub loop-i-preserved : goal.loop-i-preserved
-loop-i-preserved g c =
-    let after : After-force_one g = (goal.at.loop-i-preserved g c).After-force_one in
-    let quiet = rw c.in_default.is at c.in_ok-forced.ensures.answer in
+pub returns-in-Some-2-clause-answer : goal.returns-in-Some-2-clause-answer
+returns-in-Some-2-clause-answer g c =
+    let at : After-index_mut-theory g = (goal.at.returns-in-Some-2-clause-answer g c).After-index_mut-theory in
+    let its = rw c.in-Some-2.is at c.in_ok-forced.ensures.answer in
+    (c.in-Some.place, fact_of g.T.Theory.graph g.T.Theory.atoms g.T.Theory.seen c.index_mut-theory.result.now, within g at, sym (read g at), its)
+
+pub loop-place-preserved : goal.loop-place-preserved
+loop-place-preserved g c =
+    let after : After-index_mut-theory g = (goal.at.loop-place-preserved g c).After-index_mut-theory in
+    let facts = facts_of g.T.Theory.graph g.T.Theory.atoms g.T.Theory.seen c.args.theories.now.items in
+    let last = rw c.in-Some.is at c.last.ensures.last in
+    let quiet = rw c.in_default-2.is at c.in_ok-forced.ensures.answer in
     record {
-      marks = marked _ c.loop-i.quiet.items c.loop-i.i _ (within g after) (read g after) quiet c.loop-i.invariant.marks;
-      len = c.loop-i.invariant.len;
-      same = same g after;
-      quiet = one_more IsQuietTheory _ c.loop-i.i _ (within g after) (read g after) quiet c.loop-i.invariant.quiet;
+      others = subst (OthersAreQuiet facts) (sym (c.remove_last.ensures.listed ∙ ap (λ (p : ℕ). set c.loop-place.worklist.listed p false) (sym last.is)))
+          (settled facts c.loop-place.worklist.listed c.in-Some.place _ (within g after) (read g after) quiet c.loop-place.invariant.others);
+      known = c.loop-place.invariant.known;
+      same = same g (goal.at.loop-place-preserved g c).After-force_one;
     }
-
-pub returns-clause-answer : goal.returns-clause-answer
-returns-clause-answer g c = λ k d lt. c.loop-i.invariant.quiet k d (omega (arith, lt, length-map c.args.theories.now.items (fact_of g.T.Theory.graph g.T.Theory.atoms g.T.Theory.seen), c.len-i-end.ensures, c.loop-i-test.false))
-
-pub force_one-requires-clause-quiet : goal.force_one-requires-clause-quiet
-force_one-requires-clause-quiet g c =
-    let fact = fact_of g.T.Theory.graph g.T.Theory.atoms g.T.Theory.seen in
-    let here = same_read fact _ _ c.loop-i.i c.index_mut-theory.result.now c.loop-i.invariant.same c.index_mut-theory.ensures.value in
-    let lt : c.loop-i.i < length (map fact c.args.theories.now.items) = rw length-map (omega (arith, c.loop-i-test.true, c.len-i-end.ensures)) in
-    is_quiet (map fact c.args.theories.now.items) c.loop-i.quiet.items c.loop-i.i (fact c.index_mut-theory.result.now) c.index.result.now c.loop-i.invariant.marks lt here c.index.ensures
-
-pub force_one-requires-clause-short : goal.force_one-requires-clause-short
-force_one-requires-clause-short g c =
-    let fact = fact_of g.T.Theory.graph g.T.Theory.atoms g.T.Theory.seen in
-    let here = same_read fact _ _ c.loop-i.i c.index_mut-theory.result.now c.loop-i.invariant.same c.index_mut-theory.ensures.value in
-    let lt : c.loop-i.i < length (map fact c.args.theories.now.items) = rw length-map (omega (arith, c.loop-i-test.true, c.len-i-end.ensures)) in
-    subst IsShort (sym here) (c.requires.short c.loop-i.i (fact c.index_mut-theory.result.now) lt)

@@ -1,16 +1,17 @@
-use Rattle.std.proofs.Common.{◌≡◌, ℕ, ◌<◌, get_or, vec_len}
-use Rattle.mono_theory.specs.Theories.{Facts}
+use Rattle.std.proofs.Common.{◌≡◌, length}
 use Rattle.mono_theory.specs.Owners.{facts_of}
-use Rattle.mono_search.specs.TheoryLists.{IsQuietTheory, AreQuietMarks}
+use Rattle.mono_search.specs.TheoryLists.{OthersAreQuiet, AreOwners}
 use Rattle.mono_search.proofs.asking.force_any.Given as goal
 
-abbrev pub invariant-loop-i : goal.invariant-loop-i
-invariant-loop-i g l =
+abbrev pub invariant-loop-place : goal.invariant-loop-place
+invariant-loop-place g l =
     let t = g.T.Theory in
-    let before = facts_of t.graph t.atoms t.seen l.fn.theories.items in
+    let facts = facts_of t.graph t.atoms t.seen l.fn.theories.items in
     record {
-      marks : AreQuietMarks before l.quiet.items;
-      len : vec_len l.theories ≡ l.i-end;
-      same : facts_of t.graph t.atoms t.seen l.theories.items ≡ before;
-      quiet : (k : ℕ) (d : Facts) → k < l.i → IsQuietTheory (get_or before k d);
+      others : OthersAreQuiet facts l.worklist.listed;
+      known : AreOwners facts l.owners.items;
+      same : facts_of t.graph t.atoms t.seen l.theories.items ≡ facts;
     }
+
+abbrev pub decreases-loop-place : goal.decreases-loop-place
+decreases-loop-place g l = length l.worklist.places

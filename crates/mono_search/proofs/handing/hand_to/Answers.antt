@@ -1,11 +1,11 @@
-use Rattle.std.proofs.Common.{◌≡◌, ◌∙◌, ◌+◌, ◌<◌, false, ℕ, List, drop, get_or, set, length, sym, ap, subst, arith, refl}
+use Rattle.std.proofs.Common.{◌≡◌, ◌∙◌, ◌+◌, ◌<◌, true, ℕ, List, drop, get_or, set, length, sym, ap, subst, arith, refl}
 use Rattle.std.proofs.lemmas.List.{length-map}
 use Rattle.mono_theory.specs.Owners.{fact_of, facts_of}
 use Rattle.mono_theory.specs.Theories.{Facts}
-use Rattle.mono_search.specs.TheoryLists.{seeing, MaySee, AreQuietMarks}
+use Rattle.mono_search.specs.TheoryLists.{seeing, MaySee, OthersAreQuiet}
 use Rattle.mono_search.specs.Updates.{update_at, update_all, CanUpdate}
 use Rattle.mono_search.proofs.ConcernTables.{may_hand, handed_by_table}
-use Rattle.mono_search.proofs.QuietMarks.{changed}
+use Rattle.mono_search.proofs.QuietOthers.{changed}
 use Rattle.mono_search.proofs.Sweeps.{map_at, map_set}
 use Rattle.mono_search.proofs.Updates.{can_step, left_step, write_at}
 use Rattle.mono_search.proofs.handing.hand_to.Goals as goal
@@ -14,10 +14,17 @@ pub loop-place-init : goal.loop-place-init
 loop-place-init g c =
     let facts = facts_of g.T.Theory.graph g.T.Theory.atoms g.T.Theory.seen c.args.theories.now.items in
     record {
-      quiet = c.requires.quiet;
+      others = c.requires.others;
       can = subst (λ (ps : List ℕ). CanUpdate (MaySee c.args.lit) (seeing c.args.lit) ps facts) (sym c.requires.places) (may_hand c.args.lit facts c.requires.fresh);
       left = ap (λ (ps : List ℕ). update_all (seeing c.args.lit) ps facts) c.requires.places ∙ handed_by_table c.args.lit facts;
     }
+
+pub insert-requires : goal.insert-requires
+insert-requires g c =
+    let s = can_step (MaySee c.args.lit) (seeing c.args.lit) c.args.places.now c.loop-place.place-index 0 (facts_of g.T.Theory.graph g.T.Theory.atoms g.T.Theory.seen c.loop-place.theories.items) c.loop-place-test.true c.loop-place.invariant.can in
+    let all = c.loop-place.invariant.others.count in
+    let lt = s.0.within in
+    omega (arith, all, lt)
 
 pub assign-requires-clause-concerned : goal.assign-requires-clause-concerned
 assign-requires-clause-concerned g c =
@@ -46,7 +53,8 @@ loop-place-preserved g c =
     let now : fact c.assign.new.self ≡ seeing c.args.lit (fact c.index_mut-theory.result.now) = rw (c.assign.ensures.graph, c.assign.ensures.atoms, c.assign.ensures.seen) refl in
     let written : facts_of g.T.Theory.graph g.T.Theory.atoms g.T.Theory.seen (set items p c.assign.new.self) ≡ update_at p (seeing c.args.lit) facts = write_at fact (seeing c.args.lit) items p c.index_mut-theory.result.now c.assign.new.self c.index_mut-theory.ensures.value within now in
     record {
-      quiet = subst (λ (fs : List Facts). AreQuietMarks fs (set c.loop-place.quiet.items p false)) (sym (map_set fact items p c.assign.new.self)) (changed facts c.loop-place.quiet.items p (fact c.assign.new.self) s.0.within c.loop-place.invariant.quiet);
+      others = subst (OthersAreQuiet (facts_of g.T.Theory.graph g.T.Theory.atoms g.T.Theory.seen (set items p c.assign.new.self))) (sym c.insert.ensures)
+          (subst (λ (fs : List Facts). OthersAreQuiet fs (set c.loop-place.worklist.listed p true)) (sym (map_set fact items p c.assign.new.self)) (changed facts c.loop-place.worklist.listed p (fact c.assign.new.self) s.0.within c.loop-place.invariant.others));
       can = subst (CanUpdate (MaySee c.args.lit) (seeing c.args.lit) (drop (i + 1) ps)) (sym written) s.1;
       left = ap (update_all (seeing c.args.lit) (drop (i + 1) ps)) written ∙ sym (left_step (seeing c.args.lit) ps i 0 facts c.loop-place-test.true) ∙ c.loop-place.invariant.left;
     }

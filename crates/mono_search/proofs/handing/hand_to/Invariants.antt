@@ -1,6 +1,6 @@
 use Rattle.std.proofs.Common.{◌≡◌, drop, map}
 use Rattle.mono_theory.specs.Owners.{facts_of}
-use Rattle.mono_search.specs.TheoryLists.{handed_on, seeing, MaySee, AreQuietMarks}
+use Rattle.mono_search.specs.TheoryLists.{handed_on, seeing, MaySee, OthersAreQuiet}
 use Rattle.mono_search.specs.Updates.{update_all, CanUpdate}
 use Rattle.mono_search.proofs.handing.hand_to.Given as goal
 
@@ -8,7 +8,7 @@ abbrev pub invariant-loop-place : goal.invariant-loop-place
 invariant-loop-place g l =
     let t = g.T.Theory in
     record {
-      quiet : AreQuietMarks (facts_of t.graph t.atoms t.seen l.theories.items) l.quiet.items;
+      others : OthersAreQuiet (facts_of t.graph t.atoms t.seen l.theories.items) l.worklist.listed;
       can : CanUpdate (MaySee l.lit) (seeing l.lit) (drop l.place-index l.places) (facts_of t.graph t.atoms t.seen l.theories.items);
       left : update_all (seeing l.lit) (drop l.place-index l.places) (facts_of t.graph t.atoms t.seen l.theories.items) ≡ map (handed_on l.lit) (facts_of t.graph t.atoms t.seen l.fn.theories.items);
     }

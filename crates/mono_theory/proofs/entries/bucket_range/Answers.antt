@@ -1,5 +1,5 @@
 use Rattle.std.proofs.Common.{arith}
-use Rattle.mono_theory.proofs.EntryLaws.{around_bucket, around_rest}
+use Rattle.mono_theory.proofs.EntryBuckets.{around_bucket, around_rest}
 use Rattle.mono_theory.proofs.entries.bucket_range.Goals as goal
 
 pub returns-then-number-last : goal.returns-then-number-last

@@ -1,5 +1,5 @@
 use Rattle.std.proofs.Common.{ℕ, ◌+◌, ◌-◌, ◌/◌, ◌<◌, length, arith}
-use Rattle.mono_theory.proofs.EntryLaws.{greater_from, smaller_up_to}
+use Rattle.mono_theory.proofs.EntryBuckets.{greater_from, smaller_up_to}
 use Rattle.mono_theory.proofs.entries.first_from.Goals as goal
 
 pub loop-first-preserved-then-from-key : goal.loop-first-preserved-then-from-key

@@ -1,5 +1,5 @@
 use Rattle.std.proofs.Common.{arith}
-use Rattle.mono_theory.proofs.EntryLaws.{start_here}
+use Rattle.mono_theory.proofs.EntryBuckets.{start_here}
 use Rattle.mono_theory.proofs.entries.start_of.Goals as goal
 
 pub returns-then-bucket_of-number : goal.returns-then-bucket_of-number

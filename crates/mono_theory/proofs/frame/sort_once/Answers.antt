@@ -1,6 +1,6 @@
 use Rattle.std.proofs.lemmas.List.Filters.{dedup_is}
 use Rattle.std.proofs.lemmas.Map.Keys.{IsStrictlyIncreasing-dedup}
-use Rattle.mono_theory.proofs.VarLaws.{kept_once}
+use Rattle.mono_theory.proofs.SortedOnce.{kept_once}
 use Rattle.mono_theory.proofs.frame.sort_once.Goals as goal
 
 pub returns : goal.returns

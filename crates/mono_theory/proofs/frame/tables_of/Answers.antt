@@ -1,5 +1,5 @@
 use Rattle.std.proofs.Common.{arith}
-use Rattle.mono_theory.proofs.FrameLaws.{IsFrame-new}
+use Rattle.mono_theory.proofs.FramesStay.{IsFrame-new}
 use Rattle.mono_theory.proofs.frame.tables_of.Goals as goal
 
 pub returns-clause-frame : goal.returns-clause-frame

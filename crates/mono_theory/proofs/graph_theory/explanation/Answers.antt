@@ -5,8 +5,8 @@ use Rattle.mono_problem.specs.declared.atom.Atom.{Atom}
 use Rattle.mono_problem.specs.Quiet.{Forces}
 use Rattle.mono_theory.specs.Evidences.{lemma_by}
 use Rattle.mono_theory.specs.Theories.{IsLemmaOf, atom_of}
-use Rattle.mono_theory.proofs.EvidenceLaws.{explains}
-use Rattle.mono_theory.proofs.TheoryLaws.{found_at, own_var}
+use Rattle.mono_theory.proofs.EvidenceDecides.{explains}
+use Rattle.mono_theory.proofs.ForcedAndExplained.{found_at, own_var}
 use Rattle.mono_theory.proofs.graph_theory.explanation.Goals as goal
 
 pub returns-clause-lemma : goal.returns-clause-lemma

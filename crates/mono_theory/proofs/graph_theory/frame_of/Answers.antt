@@ -1,5 +1,5 @@
 use Rattle.std.proofs.Common.{◌≤◌, length}
-use Rattle.mono_theory.proofs.NumberLaws.{atoms_known, atoms_few}
+use Rattle.mono_theory.proofs.AtomsByNumber.{atoms_known, atoms_few}
 use Rattle.mono_theory.proofs.graph_theory.frame_of.Goals as goal
 
 pub new-requires-clause-known : goal.new-requires-clause-known

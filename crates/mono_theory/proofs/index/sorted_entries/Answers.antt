@@ -1,4 +1,4 @@
-use Rattle.mono_theory.proofs.IndexLaws.{index_from}
+use Rattle.mono_theory.proofs.IndexMade.{index_from}
 use Rattle.mono_theory.proofs.index.sorted_entries.Goals as goal
 
 pub returns : goal.returns

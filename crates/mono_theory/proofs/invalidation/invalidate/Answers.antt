@@ -1,7 +1,7 @@
 use Rattle.std.proofs.Common.{◌∙◌, ℕ, List, subst, get_or}
 use Rattle.mono_graph.proofs.Membership.{has_get_or}
 use Rattle.mono_theory.specs.Watching.{NoneStandsOn}
-use Rattle.mono_theory.proofs.InvalidationLaws.{edges_more, invalidated_more}
+use Rattle.mono_theory.proofs.FewerStand.{edges_more, invalidated_more}
 use Rattle.mono_theory.proofs.invalidation.invalidate.Goals as goal
 
 pub loop-edge-preserved : goal.loop-edge-preserved

@@ -1,6 +1,6 @@
 use Rattle.std.proofs.Common.{◌∙◌, ◌∷◌, []}
 use Rattle.mono_graph.proofs.Membership.{has_here}
-use Rattle.mono_theory.proofs.InvalidationLaws.{invalidated_more, none_more}
+use Rattle.mono_theory.proofs.FewerStand.{invalidated_more, none_more}
 use Rattle.mono_theory.proofs.invalidation.invalidate_at.Goals as goal
 
 pub loop-atom-preserved : goal.loop-atom-preserved

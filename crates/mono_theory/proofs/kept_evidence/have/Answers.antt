@@ -3,7 +3,7 @@ use Rattle.std.proofs.lemmas.List.{take_all}
 use Rattle.std.proofs.lemmas.List.Elements.{All-more}
 use Rattle.mono_graph.specs.Digraph.{present}
 use Rattle.mono_theory.specs.Sound.{AllHave}
-use Rattle.mono_theory.proofs.SoundLaws.{not_unlike}
+use Rattle.mono_theory.proofs.KeptEvidenceDecides.{not_unlike}
 use Rattle.mono_theory.proofs.kept_evidence.have.Goals as goal
 
 pub loop-edge-preserved : goal.loop-edge-preserved

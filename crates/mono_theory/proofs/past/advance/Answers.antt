@@ -1,5 +1,5 @@
 use Rattle.std.proofs.Common.{sym}
-use Rattle.mono_theory.proofs.FrameLaws.{one_on}
+use Rattle.mono_theory.proofs.FramesStay.{one_on}
 use Rattle.mono_theory.proofs.past.advance.Goals as goal
 
 pub loop-at-preserved : goal.loop-at-preserved

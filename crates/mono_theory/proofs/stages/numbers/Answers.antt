@@ -1,5 +1,5 @@
 use Rattle.std.proofs.Common.{◌∙◌, ap, ◌++◌, ◌∷◌, [], List, ℕ}
-use Rattle.mono_theory.proofs.StageLaws.{range_more}
+use Rattle.mono_theory.proofs.StageChanges.{range_more}
 use Rattle.mono_theory.proofs.stages.numbers.Goals as goal
 
 pub loop-number-preserved : goal.loop-number-preserved

@@ -1,6 +1,6 @@
 use Rattle.std.proofs.Common.{◌<◌, get_or, length, arith}
 use Rattle.mono_theory.specs.Watching.{IsGrown}
-use Rattle.mono_theory.proofs.WatchingLaws.{grown_by_one, grown_more, has_pushed, below_pushed, watched_more}
+use Rattle.mono_theory.proofs.MoreWatch.{grown_by_one, grown_more, has_pushed, below_pushed, watched_more}
 use Rattle.mono_theory.proofs.watchers.watch_all.Goals as goal
 
 pub loop-edge-preserved : goal.loop-edge-preserved

@@ -4,10 +4,10 @@ use Rattle.mono_problem.specs.Read.{no_atom}
 use Rattle.mono_theory.specs.declared.evidence.Evidence.{Evidence}
 use Rattle.mono_theory.specs.Evidences.{IsEvidence}
 use Rattle.mono_theory.specs.Supports.{atom_at}
-use Rattle.mono_rows.specs.SureParts.{sure_parts}
+use Rattle.mono_theory.specs.SureParts.{sure_parts}
 use Rattle.mono_acyclic.specs.Cyclic.{cycle_evidence}
 use Rattle.mono_acyclic.specs.Orders.{OrderedView}
-use Rattle.mono_acyclic.proofs.OrderLaws.{edges_in, edges_show}
+use Rattle.mono_acyclic.proofs.OrderStays.{edges_in, edges_show}
 use Rattle.mono_acyclic.proofs.ordered_edges.OrderedEdgesRowsAcyclic.evidence.Goals as goal
 
 pub returns : goal.returns

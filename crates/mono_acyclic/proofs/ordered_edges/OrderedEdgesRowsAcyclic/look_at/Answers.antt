@@ -1,9 +1,9 @@
 use Rattle.std.proofs.Common.{◌+◌, ap, sym, ◌∙◌, arith}
 use Rattle.std.specs.Option.{is_some}
-use Rattle.mono_theory.proofs.FrameLaws.{lit_by}
-use Rattle.mono_rows.proofs.SureLaws.{sure_still}
+use Rattle.mono_theory.proofs.FramesStay.{lit_by}
+use Rattle.mono_theory.proofs.SureEdges.{sure_still}
 use Rattle.mono_acyclic.specs.Orders.{OrderedView}
-use Rattle.mono_acyclic.proofs.OrderLaws.{edges_cut, edges_in, edges_still}
+use Rattle.mono_acyclic.proofs.OrderStays.{edges_cut, edges_in, edges_still}
 use Rattle.mono_acyclic.proofs.ordered_edges.OrderedEdgesRowsAcyclic.look_at.Goals as goal
 
 pub returns-then-not-is_positive-clause-looked : goal.returns-then-not-is_positive-clause-looked

@@ -1,7 +1,7 @@
 use Rattle.std.proofs.Common.{ap, sym, length, ◌∙◌}
 use Rattle.mono_graph.specs.Digraph.{Digraph}
 use Rattle.mono_theory.specs.Bound.{edge_vars}
-use Rattle.mono_acyclic.proofs.OrderLaws.{edges_none}
+use Rattle.mono_acyclic.proofs.OrderStays.{edges_none}
 use Rattle.mono_acyclic.proofs.ordered_edges.OrderedEdgesRowsAcyclic.of_frame.Goals as goal
 
 pub returns : goal.returns

@@ -1,7 +1,7 @@
 use Rattle.std.proofs.Common.{◌≡◌, ◌∙◌, ◌++◌, ◌∷◌, [], ap, sym, subst, List, ℕ, refl}
-use Rattle.mono_clauses.proofs.StoreLemmas.{store_added, store_watched, added_follows, following_of, follows_of, idle_more}
+use Rattle.mono_clauses.proofs.WholeStore.{store_added, store_watched, added_follows, following_of, follows_of, idle_more}
 use Rattle.mono_clauses.specs.Store.{Follows}
-use Rattle.mono_clauses.specs.Walk.{IsStore, IsFollowing, Watched}
+use Rattle.mono_clauses.specs.Visits.{IsStore, IsFollowing, Watched}
 use Rattle.mono_clauses.specs.Watching.{WatchesView, more_watches}
 use Rattle.mono_clauses.proofs.store.ClauseStore.add.Goals as goal
 use Rattle.mono_clauses.proofs.store.ClauseStore.add.Goals.{In_default, Then-try_watch}

@@ -2,10 +2,10 @@ use Rattle.std.proofs.Common.{◌∙◌, ap, sym, refl, List, [], ℕ, set, get_
 use Rattle.std.specs.Prelude.{ℤ, Option}
 use Rattle.std.proofs.lemmas.List.{length-set}
 use Rattle.mono_base.proofs.Sparse.{slot_bound}
-use Rattle.mono_clauses.proofs.AheadLemmas.{chunk_eq}
-use Rattle.mono_clauses.proofs.ChunkLemmas.{loose_idle, loose_joins, loose_spare, climbed_length}
-use Rattle.mono_clauses.proofs.PoolLemmas.{top_within}
-use Rattle.mono_clauses.proofs.StackLemmas.{rest_is}
+use Rattle.mono_clauses.proofs.PlacesAhead.{chunk_eq}
+use Rattle.mono_clauses.proofs.WatchLists.{loose_idle, loose_joins, loose_free, climbed_length}
+use Rattle.mono_clauses.proofs.ChunkPool.{top_within}
+use Rattle.mono_clauses.proofs.ChunkStacks.{rest_is}
 use Rattle.mono_clauses.proofs.Watched.{length_watched, set_both}
 use Rattle.mono_clauses.specs.Lists.{list_at}
 use Rattle.mono_clauses.specs.Stacks.{watchers_at}
@@ -21,7 +21,7 @@ pub put-requires-clause-some : goal.put-requires-clause-some
 put-requires-clause-some c = λ n.
     let idle = rw (← c.self.view_is) at c.requires.idle in
     let is_watcher = rw (← c.self.view_is) at c.requires.is_watcher in
-    loose_spare c.args.lit (loose_idle c.args.watcher c.self.invariant.0 idle is_watcher)
+    loose_free c.args.lit (loose_idle c.args.watcher c.self.invariant.0 idle is_watcher)
 
 pub invariant_of-self : goal.invariant_of-self
 invariant_of-self c =
@@ -29,7 +29,7 @@ invariant_of-self c =
     let idle = rw (← c.self.view_is) at c.requires.idle in
     let is_watcher = rw (← c.self.view_is) at c.requires.is_watcher in
     let loose = loose_idle c.args.watcher c.self.invariant.0 idle is_watcher in
-    let joined = loose_joins c.slot-slot.result c.args.lit c.put.new.links.items c.put.new.cells.items c.put.new.spare.items c.put.new.heads.items c.self.inside.list [] loose c.slot-slot.ensures.value (omega (arith, slot_bound c.args.lit c.self.inside.vars in_range.1, c.slot-slot.ensures.value)) c.put.ensures.is (λ z. absurd (omega (arith, z))) in
+    let joined = loose_joins c.slot-slot.result c.args.lit c.put.new.links.items c.put.new.cells.items c.put.new.free_chunks.items c.put.new.heads.items c.self.inside.list [] loose c.slot-slot.ensures.value (omega (arith, slot_bound c.args.lit c.self.inside.vars in_range.1, c.slot-slot.ensures.value)) c.put.ensures.is (λ z. absurd (omega (arith, z))) in
     let len = climbed_length _ _ _ _ _ _ c.put.ensures.is.climbed in
     (chunk_eq _ _ _ _ _ joined refl refl refl (set_both c.self.inside.busy.items c.self.inside.lits.items c.args.watcher c.args.lit) (rest_is _ _ c.self-3-1.given.0 [] refl), omega (arith, len, c.put.ensures.capacity, c.self.invariant.1), length-set c.self.inside.busy.items c.args.watcher true ∙ c.self.invariant.2 ∙ sym (length-set c.self.inside.lits.items c.args.watcher c.args.lit), omega (arith, len, c.self.invariant.3, length-set c.self.inside.lits.items c.args.watcher c.args.lit))
 

@@ -1,6 +1,6 @@
 use Rattle.std.proofs.Common.{◌∙◌, ap, refl, List, [], ℕ}
-use Rattle.mono_clauses.proofs.ChunkLemmas.{chunk_as, chunk_close}
-use Rattle.mono_clauses.proofs.StackLemmas.{rest_is}
+use Rattle.mono_clauses.proofs.WatchLists.{chunk_as, chunk_close}
+use Rattle.mono_clauses.proofs.ChunkStacks.{rest_is}
 use Rattle.mono_clauses.specs.Stacks.{watchers_at}
 use Rattle.mono_clauses.specs.Watching.{emptied, watched_of, WatchesView}
 use Rattle.mono_clauses.proofs.watches.Watches.close.Goals as goal

@@ -1,6 +1,6 @@
 use Rattle.std.proofs.Common.{◌≡◌, ◌∙◌, ap, sym, List, [], ℕ, arith, Some}
 use Rattle.std.proofs.lemmas.List.{get_or_read}
-use Rattle.mono_clauses.proofs.AheadLemmas.{some_place, no_place}
+use Rattle.mono_clauses.proofs.PlacesAhead.{some_place, no_place}
 use Rattle.mono_clauses.specs.Lists.{first_of}
 use Rattle.mono_clauses.specs.Stacks.{watcher_at, watchers_at}
 use Rattle.mono_clauses.specs.Watching.{WatchesView}

@@ -1,9 +1,9 @@
 use Rattle.std.proofs.Common.{◌≡◌, ◌+◌, ◌*◌, ◌∙◌, ap, sym, refl, subst, List, [], ◌∷◌, ◌++◌, ℕ, length, arith, None, length-append, Bool, false}
 use Rattle.std.specs.Prelude.{ℤ, pos, Option}
 use Rattle.std.proofs.lemmas.Result.{err_from_is_err_and}
-use Rattle.mono_clauses.proofs.AheadLemmas.{chunk_eq, chunk_widen, widened_length, widened_most}
-use Rattle.mono_clauses.proofs.ChunkLemmas.{chunk_close, chunk_grow}
-use Rattle.mono_clauses.proofs.StackLemmas.{rest_is}
+use Rattle.mono_clauses.proofs.PlacesAhead.{chunk_eq, chunk_widen, widened_length, widened_most}
+use Rattle.mono_clauses.proofs.WatchLists.{chunk_close, chunk_grow}
+use Rattle.mono_clauses.proofs.ChunkStacks.{rest_is}
 use Rattle.mono_clauses.proofs.Watched.{length_watched, watched_more}
 use Rattle.mono_clauses.specs.Stacks.{IsStack, watchers_at}
 use Rattle.mono_clauses.specs.Watching.{watched_of, WatchesView, more_watches}
@@ -14,7 +14,7 @@ invariant_of-self c =
     let e = c.reserve_watchers.ensures in
     let r = rest_is _ _ c.in_err-reserve_watchers.self-1-own.given.0 c.self.inside.rest.places (subst (λ (ls : List ℕ). IsStack ls c.self.inside.here c.self.inside.rest.places) (sym e.links) c.self.inside.rest.is) in
     let w : watched_of c.reserve_watchers.new.busy.items c.reserve_watchers.new.lits.items ≡ watched_of c.self.inside.busy.items c.self.inside.lits.items = cc in
-    (chunk_eq _ _ _ _ _ c.self.invariant.0 e.links e.cells e.spare w r, omega (arith, ap (λ (xs : List ℕ). length xs) e.links, e.capacity, c.self.invariant.1), ap (λ (xs : List Bool). length xs) e.busy ∙ c.self.invariant.2 ∙ sym (ap (λ (xs : List ℤ). length xs) e.lits), omega (arith, c.self.invariant.3, ap (λ (xs : List ℕ). length xs) e.links, ap (λ (xs : List ℤ). length xs) e.lits))
+    (chunk_eq _ _ _ _ _ c.self.invariant.0 e.links e.cells e.free_chunks w r, omega (arith, ap (λ (xs : List ℕ). length xs) e.links, e.capacity, c.self.invariant.1), ap (λ (xs : List Bool). length xs) e.busy ∙ c.self.invariant.2 ∙ sym (ap (λ (xs : List ℤ). length xs) e.lits), omega (arith, c.self.invariant.3, ap (λ (xs : List ℕ). length xs) e.links, ap (λ (xs : List ℤ). length xs) e.lits))
 
 pub returns-in_err-reserve_watchers-clause-err : goal.returns-in_err-reserve_watchers-clause-err
 returns-in_err-reserve_watchers-clause-err c =
@@ -45,9 +45,9 @@ invariant_of-self-2 c =
     let e = c.reserve_watchers.ensures in
     let w : watched_of c.reserve_watchers.new.busy.items c.reserve_watchers.new.lits.items ≡ watched_of c.self.inside.busy.items c.self.inside.lits.items = cc in
     let l : length c.reserve_watchers.new.busy.items ≡ length c.reserve_watchers.new.lits.items = ap (λ (xs : List Bool). length xs) e.busy ∙ c.self.invariant.2 ∙ sym (ap (λ (xs : List ℤ). length xs) e.lits) in
-    let base = chunk_eq c.reserve_watchers.new.links.items c.reserve_watchers.new.cells.items c.reserve_watchers.new.spare.items (watched_of c.reserve_watchers.new.busy.items c.reserve_watchers.new.lits.items) [] (chunk_close c.self.inside.list c.self.invariant.0) e.links e.cells e.spare w refl in
+    let base = chunk_eq c.reserve_watchers.new.links.items c.reserve_watchers.new.cells.items c.reserve_watchers.new.free_chunks.items (watched_of c.reserve_watchers.new.busy.items c.reserve_watchers.new.lits.items) [] (chunk_close c.self.inside.list c.self.invariant.0) e.links e.cells e.free_chunks w refl in
     let least : c.len-2.result + 2 + 7 * (2 * c.self.inside.vars + 2) ≡ length (watched_of c.reserve_watchers.new.busy.items c.reserve_watchers.new.lits.items) + 2 + 7 * (2 * c.self.inside.vars + 2) = omega (arith, length_watched c.reserve_watchers.new.busy.items c.reserve_watchers.new.lits.items l) in
-    let wide = chunk_widen _ c.widen.new.links.items c.widen.new.cells.items c.widen.new.spare.items base c.widen.ensures.is least (omega (arith, ap (λ (xs : List ℕ). length xs) e.links, c.if-len-gt536870896.false)) in
+    let wide = chunk_widen _ c.widen.new.links.items c.widen.new.cells.items c.widen.new.free_chunks.items base c.widen.ensures.is least (omega (arith, ap (λ (xs : List ℕ). length xs) e.links, c.if-len-gt536870896.false)) in
     let grown = chunk_grow wide.is wide.room in
     let watched = more _ _ _ _ _ _ l c.add_idle.ensures.busy c.add_idle.ensures.lits c.add_idle-2.ensures.busy c.add_idle-2.ensures.lits in
     let room = c.in_ok-reserve_watchers.ensures.room in

@@ -1,7 +1,7 @@
 use Rattle.std.proofs.Common.{◌≡◌, ◌∙◌, ap, sym, subst, List, ◌∷◌, ℕ}
-use Rattle.mono_clauses.proofs.AheadLemmas.{Head, first_place}
-use Rattle.mono_clauses.proofs.ChunkLemmas.{chunk_as, chunk_keep}
-use Rattle.mono_clauses.proofs.StackLemmas.{rest_is}
+use Rattle.mono_clauses.proofs.PlacesAhead.{Head, first_place}
+use Rattle.mono_clauses.proofs.WatchLists.{chunk_as, chunk_keep}
+use Rattle.mono_clauses.proofs.ChunkStacks.{rest_is}
 use Rattle.mono_clauses.specs.Stacks.{IsStack, watcher_at, watchers_at}
 use Rattle.mono_clauses.specs.Watching.{watched_of, WatchesView}
 use Rattle.mono_clauses.proofs.watches.Watches.keep.Goals as goal

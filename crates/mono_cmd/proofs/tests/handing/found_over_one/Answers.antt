@@ -8,8 +8,8 @@ use Rattle.mono_problem.specs.Read.{atom_numbered}
 use Rattle.mono_problem.specs.WellFormed.{IsInstance}
 use Rattle.mono_theory.specs.Theories.{Facts, owns_of}
 use Rattle.mono_theory.specs.Owners.{OwnsEach}
-use Rattle.mono_theory.proofs.NumberLaws.{own_number}
-use Rattle.mono_theory.proofs.JustifiedLaws.{numbered_is}
+use Rattle.mono_theory.proofs.AtomsByNumber.{own_number}
+use Rattle.mono_theory.proofs.LemmasAreJustified.{numbered_is}
 use Rattle.mono_cmd.proofs.tests.handing.found_over_one.Goals as goal
 
 all_of_one : {X : Type 0} (P : X → Type 0) (x : X) → P x → All P (x ∷ [])

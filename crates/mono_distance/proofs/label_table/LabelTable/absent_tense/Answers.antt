@@ -3,7 +3,7 @@ use Rattle.std.proofs.lemmas.Result.{IfOk-weaker}
 use Rattle.mono_graph.specs.Walks.{bound_of, label_at, is_tense}
 use Rattle.mono_theory.specs.Resting.{AreAbsent}
 use Rattle.mono_distance.specs.Labels.{absent_tense}
-use Rattle.mono_distance.proofs.LabelLaws.{IsTableOf, labels_small, tense_are_absent}
+use Rattle.mono_distance.proofs.TableLabels.{IsTableOf, labels_small, tense_are_absent}
 use Rattle.mono_distance.proofs.label_table.LabelTable.absent_tense.Goals as goal
 
 pub invariant_of-labelled : goal.invariant_of-labelled

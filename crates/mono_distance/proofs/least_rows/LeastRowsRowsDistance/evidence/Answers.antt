@@ -8,10 +8,10 @@ use Rattle.mono_theory.specs.declared.evidence.Evidence.{Evidence}
 use Rattle.mono_theory.specs.Evidences.{IsEvidence}
 use Rattle.mono_theory.specs.Supports.{atom_at}
 use Rattle.mono_theory.specs.Walked.{walk_evidence}
-use Rattle.mono_rows.specs.SureParts.{sure_parts}
-use Rattle.mono_rows.proofs.SureLaws.{walk_places}
+use Rattle.mono_theory.specs.SureParts.{sure_parts}
+use Rattle.mono_theory.proofs.SureEdges.{walk_places}
 use Rattle.mono_distance.proofs.DistanceEvidence.{walk_shows}
-use Rattle.mono_distance.proofs.SureLaws.{labels_uncut, last_known}
+use Rattle.mono_distance.proofs.SureLabels.{labels_uncut, last_known}
 use Rattle.mono_distance.proofs.least_rows.LeastRowsRowsDistance.evidence.Goals as goal
 
 pub walk_within-requires-clause-right : goal.walk_within-requires-clause-right

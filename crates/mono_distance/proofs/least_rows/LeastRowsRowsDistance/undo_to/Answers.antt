@@ -1,13 +1,18 @@
-use Rattle.std.proofs.Common.{ℕ, List, arith}
-use Rattle.mono_rows.specs.SureParts.{sure_parts}
-use Rattle.mono_distance.proofs.SureLaws.{labels_back, labels_cut, labels_uncut}
+use Rattle.std.proofs.Common.{refl, arith}
+use Rattle.mono_distance.specs.SureLabels.{SureLabels}
+use Rattle.mono_distance.proofs.SureLabels.{back_shows, labels_back, labels_cut, labels_uncut}
 use Rattle.mono_distance.proofs.least_rows.LeastRowsRowsDistance.undo_to.Goals as goal
 
-pub returns : goal.returns
-returns c =
-    let h = rw (← c.self.view_is) at c.requires.right in
+pub returns-clause-right : goal.returns-clause-right
+returns-clause-right c =
     let f = c.args.frame.now in
-    labels_cut {f = f} c.args.kept (omega (arith, c.requires.kept, c.requires.looked))
-    (labels_back {f = f} c.args.looked c.args.kept c.undo_to.new.self c.requires.kept c.undo_to.ensures.rows
-    (λ (sources : List ℕ). c.undo_to.ensures.along f.graph (sure_parts f) c.args.looked sources c.requires.kept)
-    (labels_uncut {f = f} c.args.looked c.requires.looked h))
+    let h = labels_uncut {f = f} c.args.looked c.requires.looked (rw (← c.self.view_is) at c.requires.right) in
+    let r : SureLabels = record { rows = c.undo_to.new.self; row_of = c.self.inside.row_of.items; lasts = c.self.inside.lasts; limits = c.self.inside.limits.items } in
+    labels_cut {f = f} c.args.kept (omega (arith, c.requires.kept, c.requires.looked)) (labels_back {f = f} {r = r} c.args.looked c.args.kept c.requires.kept c.undo_to.ensures refl h)
+
+pub returns-clause-shown : goal.returns-clause-shown
+returns-clause-shown c = λ a lt on.
+    let f = c.args.frame.now in
+    let h = labels_uncut {f = f} c.args.looked c.requires.looked (rw (← c.self.view_is) at c.requires.right) in
+    let r : SureLabels = record { rows = c.undo_to.new.self; row_of = c.self.inside.row_of.items; lasts = c.self.inside.lasts; limits = c.self.inside.limits.items } in
+    rw (← c.self.view_is) (back_shows {f = f} {r = r} c.args.looked c.args.kept a lt c.requires.kept h c.undo_to.ensures refl on)

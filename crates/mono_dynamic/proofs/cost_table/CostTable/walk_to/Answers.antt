@@ -2,9 +2,9 @@ use Rattle.std.proofs.Common.{◌≡◌, ℕ, ◌<◌, ◌≤◌, Bool, List, le
 use Rattle.std.specs.Prelude.{IsTrue}
 use Rattle.mono_graph.specs.declared.limit.Limit.{Limit}
 use Rattle.mono_graph.specs.Digraph.{Digraph}
-use Rattle.mono_graph.specs.Walks.{is_walk}
+use Rattle.mono_graph.specs.Walks.{is_walk, cost_along}
 use Rattle.mono_dynamic.specs.declared.change.Change.{Change}
-use Rattle.mono_dynamic.specs.Costs.{Costs, change_at, cost_along, label_by, node_by, IsLed}
+use Rattle.mono_dynamic.specs.Costs.{Costs, change_at, label_by, node_by, IsLed}
 use Rattle.mono_dynamic.proofs.CostWalks.{walk_of_given}
 use Rattle.mono_dynamic.proofs.cost_table.CostTable.walk_to.Goals as goal
 

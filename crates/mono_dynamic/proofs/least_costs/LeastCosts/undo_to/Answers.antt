@@ -10,11 +10,11 @@ returns-clause-along c = λ g parts n u le r.
     let count : ℕ = c.count_by-count.result in
     let first : take count t.changes ≡ made_by c.args.kept t.changes = subst (λ (s : Costs). take count s.changes ≡ made_by c.args.kept s.changes) c.self.view_is c.count_by-count.ensures.first in
     let rest : drop count t.changes ≡ made_after c.args.kept t.changes = subst (λ (s : Costs). drop count s.changes ≡ made_after c.args.kept s.changes) c.self.view_is c.count_by-count.ensures.rest in
-    let undone : c.unwind.new.self ≡ record t { labels = unwound t.labels (drop count t.changes); changes = take count t.changes } =
-    subst (λ (s : Costs). c.unwind.new.self ≡ record s { labels = unwound s.labels (drop count s.changes); changes = take count s.changes }) c.self.view_is c.unwind.ensures in
-    let is : c.unwind.new.self ≡ record t { labels = labels_after c.args.kept t; changes = made_by c.args.kept t.changes } =
+    let undone : c.undo_to.new.self ≡ record t { labels = unwound t.labels (drop count t.changes); changes = take count t.changes } =
+    subst (λ (s : Costs). c.undo_to.new.self ≡ record s { labels = unwound s.labels (drop count s.changes); changes = take count s.changes }) c.self.view_is c.undo_to.ensures in
+    let is : c.undo_to.new.self ≡ record t { labels = labels_after c.args.kept t; changes = made_by c.args.kept t.changes } =
     undone
     ∙ (ap (λ (cs : List Change). let s : Costs = record t { labels = unwound t.labels cs; changes = take count t.changes } in s) rest
     ∙ ap (λ (cs : List Change). let s : Costs = record t { labels = labels_after c.args.kept t; changes = cs } in s) first)
     in
-    least_along_undone g parts c.args.kept n u count t c.unwind.new.self le first rest is r
+    least_along_undone g parts c.args.kept n u count t c.undo_to.new.self le first rest is r

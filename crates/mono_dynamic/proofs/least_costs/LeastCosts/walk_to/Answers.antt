@@ -1,8 +1,8 @@
 use Rattle.std.proofs.Common.{◌≡◌, ℕ, ◌≤◌, Bool, List, subst}
 use Rattle.std.specs.Prelude.{IfOk, IsTrue}
 use Rattle.mono_graph.specs.Digraph.{Digraph}
-use Rattle.mono_graph.specs.Walks.{is_walk}
-use Rattle.mono_dynamic.specs.Costs.{Costs, cost_along, label_of, labels_after, AreLeastAlong}
+use Rattle.mono_graph.specs.Walks.{is_walk, cost_along}
+use Rattle.mono_dynamic.specs.Costs.{Costs, label_of, labels_after, AreLeastAlong}
 use Rattle.mono_dynamic.proofs.least_costs.LeastCosts.walk_to.Goals as goal
 
 pub returns : goal.returns

@@ -14,8 +14,8 @@ loop-place-preserved c =
     elim c.match-arrival_of.branch [
       | in-Some w ↦
           followed_read c.args.graph.now c.args.part.now c.args.stamp c.args.places.now k w.in-Some.before (drop (c.loop-place.place-index + 1) c.args.places.now) c.edge-edge.result c.args.self.now c.loop-place.self
-          c.match-arrival_of.self f (c.requires.places c.loop-place.place-index 0 c.loop-place-test.true) c.edge-edge.ensures.edge (sym c.has.ensures ∙ c.if-not-has.false) w.in-Some.ensures (w.self-is ∙ w.arrive.ensures)
+          c.match-arrival_of.self f (c.requires.places c.loop-place.place-index 0 c.loop-place-test.true) c.edge-edge.ensures.edge (sym c.has.ensures ∙ c.if-not-has.false) w.in-Some.ensures.arrival (w.self-is ∙ w.arrive.ensures)
       | in_default w ↦
           followed_unread c.args.graph.now c.args.part.now c.args.stamp c.args.places.now k (drop (c.loop-place.place-index + 1) c.args.places.now) c.edge-edge.result c.args.self.now c.loop-place.self
-          c.match-arrival_of.self f c.edge-edge.ensures.edge w.in_default.ensures w.self-is
+          c.match-arrival_of.self f c.edge-edge.ensures.edge w.in_default.ensures.arrival w.self-is
     ]

@@ -26,10 +26,10 @@ returns-in-Cut-clause-evidence c =
     let P = c.args.part.now in
     let kept : to_z w64 (of_z w64 c.args.least) ≡ c.args.least = to_z-of_z w64 c.args.least c.ranges.least in
     let set = c.in-Cut.nodes in
-    IfOk-weaker c.cut_evidence.result (IsCutEvidence g P c.spare_of-spare.result set.items) _
-    (λ e is. cut_shows g P c.args.source c.args.sink c.args.least set.items c.in_ok-found.found.value c.spare_of-spare.result e (rw c.in-Cut.is at c.in_ok-found.ensures.known)
+    IfOk-weaker c.cut_evidence.result (IsCutEvidence g P c.slack_of-slack.result set.items) _
+    (λ e is. cut_shows g P c.args.source c.args.sink c.args.least set.items c.in_ok-found.found.value c.slack_of-slack.result e (rw c.in-Cut.is at c.in_ok-found.ensures.known)
     (subst (λ (z : ℤ). Passes g P c.args.source c.args.sink z (found.Cut set)) kept (rw c.in-Cut.is at c.in_ok-found.ensures.passes))
-    (rw c.in-Cut.is at c.in_ok-found.ensures.value) (sym kept ∙ c.spare_of-spare.ensures) is) c.cut_evidence.ensures.evidence
+    (rw c.in-Cut.is at c.in_ok-found.ensures.value) (sym kept ∙ c.slack_of-slack.ensures) is) c.cut_evidence.ensures.evidence
 
 pub cut_evidence-requires-clause-distinct : goal.cut_evidence-requires-clause-distinct
 cut_evidence-requires-clause-distinct c = rw c.in-Cut.is at c.in_ok-found.ensures.distinct

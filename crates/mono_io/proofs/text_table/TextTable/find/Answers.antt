@@ -2,7 +2,7 @@ use Rattle.std.proofs.Common.{◌≡◌, ◌∙◌, ap, subst, MatchOption, None
 use Rattle.mono_io.specs.Entries.{texts_of}
 use Rattle.mono_io.specs.Shelf.{Texts, text_named}
 use Rattle.mono_io.specs.Texts.{StandsAt}
-use Rattle.mono_io.proofs.TextLemmas.{found_place}
+use Rattle.mono_io.proofs.NamedTexts.{found_place}
 use Rattle.mono_io.proofs.text_table.TextTable.find.Goals as goal
 
 pub returns : goal.returns

@@ -3,7 +3,7 @@ use Rattle.mono_io.specs.Entries.{texts_of}
 use Rattle.mono_io.specs.Shelf.{Texts}
 use Rattle.mono_io.specs.Texts.{Puts}
 use Rattle.mono_io.specs.declared.text_table.Entry.{Entry}
-use Rattle.mono_io.proofs.TextLemmas.{Puts-replaced, Puts-added}
+use Rattle.mono_io.proofs.NamedTexts.{Puts-replaced, Puts-added}
 use Rattle.mono_io.proofs.text_table.TextTable.put.Goals as goal
 
 pub returns-in-Some-clause-ok : goal.returns-in-Some-clause-ok

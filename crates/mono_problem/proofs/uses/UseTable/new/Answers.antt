@@ -3,7 +3,7 @@ use Rattle.std.specs.List.Sorted.{IsNonDecreasingBy}
 use Rattle.std.proofs.lemmas.List.{length-map}
 use Rattle.mono_problem.specs.declared.uses.Use.{Use}
 use Rattle.mono_problem.specs.declared.uses.VarUse.{VarUse}
-use Rattle.mono_problem.proofs.UseLemmas.{chosen-map, rising-map}
+use Rattle.mono_problem.proofs.SortedUses.{chosen-map, rising-map}
 use Rattle.mono_problem.proofs.uses.UseTable.new.Goals as goal
 
 vars_are : (c : goal.In_ok-uses) → c.in_ok-vars.vars.items ≡ map (λ (u : VarUse). u.var) c.in_ok-all.all.items

@@ -2,7 +2,7 @@ use Rattle.std.proofs.Common.{◌≡◌, sym, subst}
 use Rattle.std.proofs.lemmas.Result.{IfOk-weaker}
 use Rattle.mono_theory.specs.Evidences.{IsEvidence}
 use Rattle.mono_theory.specs.Walked.{walk_evidence}
-use Rattle.mono_reach.proofs.ReachLaws.{walk_shows}
+use Rattle.mono_reach.proofs.WalksAndCuts.{walk_shows}
 use Rattle.mono_reach.proofs.reach.ReachKind.evidence.Goals as goal
 
 pub returns-in-Path-clause-evidence : goal.returns-in-Path-clause-evidence

@@ -6,10 +6,10 @@ use Rattle.mono_problem.specs.Read.{no_atom}
 use Rattle.mono_theory.specs.declared.evidence.Evidence.{Evidence}
 use Rattle.mono_theory.specs.Evidences.{IsEvidence}
 use Rattle.mono_theory.specs.Supports.{atom_at}
-use Rattle.mono_rows.specs.SureParts.{sure_parts}
-use Rattle.mono_rows.proofs.SureLaws.{walk_places}
+use Rattle.mono_theory.specs.SureParts.{sure_parts}
+use Rattle.mono_theory.proofs.SureEdges.{walk_places}
 use Rattle.mono_reach.specs.Marks.{first_node, last_node}
-use Rattle.mono_reach.proofs.MarkLaws.{marks_in, walk_shows_it}
+use Rattle.mono_reach.proofs.MarksStay.{marks_in, walk_shows_it}
 use Rattle.mono_reach.proofs.reached_rows.ReachedRowsRowsReach.evidence.Goals as goal
 
 pub walk_within-requires-clause-right : goal.walk_within-requires-clause-right

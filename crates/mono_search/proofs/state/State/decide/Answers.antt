@@ -4,8 +4,8 @@ use Rattle.mono_search.proofs.state.State.decide.Goals as goal
 pub returns-clause-decided : goal.returns-clause-decided
 returns-clause-decided g c = λ _.
     let quiet = rw (← c.self.view_is) at c.requires in
-    rw (← c.self.view_is) (decided_moved c.self.inside.theories c.self.inside.trail c.decide.new.self c.self.inside.store c.self.inside.journal c.self.inside.order c.pick.new.self c.literal-lit.result c.in-Some.var quiet c.in-Some.ensures.some c.literal-lit.ensures.var c.decide.ensures c.level-2.ensures.sound)
+    rw (← c.self.view_is) (decided_moved c.self.inside.theories c.self.inside.trail c.decide.new.self c.self.inside.store c.self.inside.journal c.self.inside.order c.pick.new.self c.of-lit.result c.in-Some.var quiet c.in-Some.ensures.some c.of-lit.ensures.var c.decide.ensures c.level-2.ensures.sound)
 
 pub returns-clause-signed : goal.returns-clause-signed
 returns-clause-signed g c = λ _.
-    rw (← c.self.view_is) (decided_by_sign c.self.inside.theories c.self.inside.trail c.decide.new.self c.self.inside.store c.self.inside.journal c.self.inside.order c.pick.new.self c.literal-lit.result c.in-Some.var c.sign_of.result c.in-Some.ensures.some c.sign_of.ensures c.literal-lit.ensures.value c.decide.ensures)
+    rw (← c.self.view_is) (decided_by_sign c.self.inside.theories c.self.inside.trail c.decide.new.self c.self.inside.store c.self.inside.journal c.self.inside.order c.pick.new.self c.of-lit.result c.in-Some.var c.sign_of.result c.in-Some.ensures.some c.sign_of.ensures c.of-lit.ensures.value c.decide.ensures)

@@ -30,8 +30,8 @@ hand_to-requires-clause-places g c =
     listed c.loop-self.self-inside.problem.now.vars facts c.loop-self.self-inside.concerned c.args.lits.now c.loop-self.self-inside.handed c.var.result c.index-lits-self.result c.list.result.now
     (subst (λ (n : ℕ). All (IsLitWithin n) c.args.lits.now) vars c.requires.within) c.loop-self.invariant.kept.concerned c.loop-self-test.true c.index-lits-self.is c.var.ensures.value c.list.ensures
 
-pub hand_to-requires-clause-quiet : goal.hand_to-requires-clause-quiet
-hand_to-requires-clause-quiet g c = c.loop-self.invariant.kept.quiet
+pub hand_to-requires-clause-others : goal.hand_to-requires-clause-others
+hand_to-requires-clause-others g c = c.loop-self.invariant.kept.others
 
 pub loop-self-preserved : goal.loop-self-preserved
 loop-self-preserved g c =
@@ -41,7 +41,8 @@ loop-self-preserved g c =
     let now : TheoriesView = record { problem = c.loop-self.self-inside.problem.now; facts = facts; handed = c.loop-self.self-inside.handed } in
     let s = handed_step c.args.self.now now c.args.lits.now c.index-lits-self.result new c.loop-self.invariant.from c.loop-self-test.true c.index-lits-self.is c.hand_to.ensures.facts in
     record {
-      kept = all_kept (handed_on c.index-lits-self.result) now.problem facts new c.loop-self.self-inside.concerned (length c.loop-self.self-inside.counts.items) (length c.loop-self.self-inside.counts.items) c.loop-self.self-inside.quiet.items c.hand_to.new.quiet.items (λ f. refl) (λ f. refl) c.hand_to.ensures.facts refl c.hand_to.ensures.quiet c.loop-self.invariant.kept;
+      kept = all_kept (handed_on c.index-lits-self.result) now.problem facts new c.loop-self.self-inside.concerned c.loop-self.self-inside.owners.items c.loop-self.self-inside.counts.items c.loop-self.self-inside.counts.items c.loop-self.self-inside.worklist.listed c.hand_to.new.worklist.listed
+          (λ f. refl) (λ f. refl) c.hand_to.ensures.facts c.loop-self.invariant.kept.zero c.hand_to.ensures.others c.loop-self.invariant.kept;
       shown = s.shown;
       from = s.from;
     }

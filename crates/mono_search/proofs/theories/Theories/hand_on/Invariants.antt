@@ -8,7 +8,7 @@ invariant-loop-self g l =
     let t = g.T.Theory in
     let now : TheoriesView = record { problem = l.self-inside.problem.now; facts = facts_of t.graph t.atoms t.seen l.self-inside.theories.items; handed = l.self-inside.handed } in
     record {
-      kept : IsKept now.problem now.facts l.self-inside.concerned (length l.self-inside.counts.items) l.self-inside.quiet.items;
+      kept : IsKept now.problem now.facts l.self-inside.concerned l.self-inside.owners.items l.self-inside.counts.items l.self-inside.worklist.listed;
       shown : HaveSeen now l.lits;
       from : now ≡ having_seen l.fn.self l.lits l.self-inside.handed;
     }

@@ -1,10 +1,17 @@
 use Rattle.mono_theory.specs.Owners.{facts_of}
 use Rattle.mono_search.proofs.Owners.{can_explain}
 use Rattle.mono_search.proofs.HandedOn.{explained_ok}
+use Rattle.mono_search.proofs.KnownOwners.{forcing_is_there}
 use Rattle.mono_search.proofs.theories.TheoriesExplainer.explain.Goals as goal
 
-pub explain_by_owner-requires : goal.explain_by_owner-requires
-explain_by_owner-requires g c =
+pub explain_by_owner-requires-clause-once : goal.explain_by_owner-requires-clause-once
+explain_by_owner-requires-clause-once g c =
+    let forces = rw (← c.self.view_is) at c.requires.forces in
+    let there = forcing_is_there c.self.inside.problem.now c.args.atom c.args.lit _ forces in
+    c.self.invariant.owns.once c.args.atom there.0 there.1
+
+pub explain_by_owner-requires-clause-can : goal.explain_by_owner-requires-clause-can
+explain_by_owner-requires-clause-can g c =
     let within = rw (← c.self.view_is) at c.requires.within in
     let forces = rw (← c.self.view_is) at c.requires.forces in
     can_explain c.self.inside.problem.now _ c.args.atom c.args.kept c.args.lit c.self.invariant.owns within forces

@@ -1,5 +1,5 @@
 use Rattle.std.proofs.Common.{arith}
-use Rattle.mono_theory.proofs.BoundLaws.{none_on, all_on}
+use Rattle.mono_theory.proofs.BoundsStay.{none_on, all_on}
 use Rattle.mono_theory.proofs.bounds.Bounds.of_vars.Goals as goal
 
 pub returns : goal.returns

@@ -1,6 +1,6 @@
 use Rattle.std.proofs.Common.{◌∙◌, ap}
 use Rattle.mono_graph.specs.Digraph.{has}
-use Rattle.mono_theory.proofs.FrameLaws.{has-numbers}
+use Rattle.mono_theory.proofs.FramesStay.{has-numbers}
 use Rattle.mono_theory.proofs.frame.Frame.owns.Goals as goal
 
 pub returns : goal.returns

@@ -1,5 +1,5 @@
 use Rattle.std.proofs.Common.{refl, sym, ◌∙◌}
-use Rattle.mono_theory.proofs.FrameLaws.{number_is_held, atom_place, place_number, found_by_place}
+use Rattle.mono_theory.proofs.FramesStay.{number_is_held, atom_place, place_number, found_by_place}
 use Rattle.mono_theory.proofs.frame.Frame.place_of.Goals as goal
 
 pub unreachable-requires : goal.unreachable-requires

@@ -1,4 +1,4 @@
-use Rattle.mono_theory.proofs.FrameLaws.{seen_few}
+use Rattle.mono_theory.proofs.FramesStay.{seen_few}
 use Rattle.mono_theory.proofs.frame.Frame.seen.Goals as goal
 
 pub returns-clause-few : goal.returns-clause-few

@@ -1,7 +1,7 @@
 use Rattle.std.proofs.Common.{sym, ap, subst}
 use Rattle.mono_theory.specs.Supports.{AreCovered}
 use Rattle.mono_theory.specs.Theories.{Facts}
-use Rattle.mono_theory.proofs.NumberLaws.{atoms_covered}
+use Rattle.mono_theory.proofs.AtomsByNumber.{atoms_covered}
 use Rattle.mono_theory.proofs.graph_theory.GraphTheory.new.Goals as goal
 
 pub parts_of-requires-clause-covered : goal.parts_of-requires-clause-covered

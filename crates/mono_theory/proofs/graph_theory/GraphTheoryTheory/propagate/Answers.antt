@@ -1,5 +1,5 @@
 use Rattle.mono_theory.specs.Theories.{IsForced}
-use Rattle.mono_theory.proofs.TheoryLaws.{finding_by}
+use Rattle.mono_theory.proofs.ForcedAndExplained.{finding_by}
 use Rattle.mono_theory.proofs.graph_theory.GraphTheoryTheory.propagate.Goals as goal
 
 pub returns-in_ok-explain-in-Literal-clause-finding : goal.returns-in_ok-explain-in-Literal-clause-finding

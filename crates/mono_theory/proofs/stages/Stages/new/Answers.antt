@@ -1,4 +1,4 @@
-use Rattle.mono_theory.proofs.StageLaws.{table_new}
+use Rattle.mono_theory.proofs.StageChanges.{table_new}
 use Rattle.mono_theory.proofs.stages.Stages.new.Goals as goal
 
 pub invariant_of-result : goal.invariant_of-result

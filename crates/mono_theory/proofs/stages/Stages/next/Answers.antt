@@ -1,4 +1,4 @@
-use Rattle.mono_theory.proofs.StageLaws.{none_waits}
+use Rattle.mono_theory.proofs.StageChanges.{none_waits}
 use Rattle.mono_theory.proofs.stages.Stages.next.Goals as goal
 
 pub returns-then-self : goal.returns-then-self

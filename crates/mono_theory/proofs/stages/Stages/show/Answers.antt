@@ -1,5 +1,5 @@
 use Rattle.mono_theory.specs.declared.stage.Stage.TheVariants as stage
-use Rattle.mono_theory.proofs.StageLaws.{placed, table_show}
+use Rattle.mono_theory.proofs.StageChanges.{placed, table_show}
 use Rattle.mono_theory.proofs.stages.Stages.show.Goals as goal
 
 pub invariant_of-self : goal.invariant_of-self

@@ -1,6 +1,6 @@
 use Rattle.std.proofs.Common.{refl}
 use Rattle.mono_theory.specs.declared.stage.Stage.TheVariants as stage
-use Rattle.mono_theory.proofs.StageLaws.{placed, table_stand}
+use Rattle.mono_theory.proofs.StageChanges.{placed, table_stand}
 use Rattle.mono_theory.proofs.stages.Stages.stand.Goals as goal
 
 pub invariant_of-self : goal.invariant_of-self

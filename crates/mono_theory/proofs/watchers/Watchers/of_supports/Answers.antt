@@ -1,5 +1,5 @@
 use Rattle.std.proofs.Common.{◌<◌, arith, ◌∙◌, length}
-use Rattle.mono_theory.proofs.WatchingLaws.{all_watch_more}
+use Rattle.mono_theory.proofs.MoreWatch.{all_watch_more}
 use Rattle.mono_theory.proofs.watchers.Watchers.of_supports.Goals as goal
 
 pub watch_support-requires : goal.watch_support-requires

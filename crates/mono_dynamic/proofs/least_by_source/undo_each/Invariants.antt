@@ -1,9 +1,0 @@
-use Rattle.std.proofs.Common.{◌≡◌, length}
-use Rattle.mono_dynamic.proofs.LeastRowLists.{AreChanged, IsBackCosts}
-use Rattle.mono_dynamic.proofs.least_by_source.undo_each.Given as goal
-
-abbrev pub invariant-loop-i : goal.invariant-loop-i
-invariant-loop-i l = record {
-  end : l.i-end ≡ length l.rows.items;
-  changed : AreChanged (IsBackCosts l.kept) l.fn.rows.items l.rows.items l.i;
-}

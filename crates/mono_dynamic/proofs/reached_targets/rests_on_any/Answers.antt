@@ -1,0 +1,19 @@
+use Rattle.std.proofs.Common.{ℕ, ◌<◌, ◌≡◌, get_or, sym, subst, arith, inl, inr}
+use Rattle.std.proofs.lemmas.Bool.{cases_lt, both_ways}
+use Rattle.mono_dynamic.specs.SearchTrees.{RestsOn}
+use Rattle.mono_dynamic.proofs.Lists.{index_of}
+use Rattle.mono_dynamic.proofs.reached_targets.rests_on_any.Goals as goal
+
+pub loop-place-preserved : goal.loop-place-preserved
+loop-place-preserved c = λ P j t lt r. elim (cases_lt j c.loop-place.place-index) [
+  | inl old ↦ c.loop-place.invariant P j t old r
+  | inr new ↦
+      let e : j ≡ c.loop-place.place-index = omega arith in
+      both_ways c.rests_on.result c.if-rests_on.false ((c.rests_on.ensures P t).1 (subst (λ (i : ℕ). RestsOn c.args.tree.now.arrivals (get_or c.args.places.now i 0)) e r))
+]
+
+pub returns : goal.returns
+returns c = λ _ P k t h r.
+    let at = index_of c.args.places.now k h in
+    let low : at.0 < c.loop-place.place-index = (let lt = at.1 in let all = c.loop-place-test.false in omega arith) in
+    c.loop-place.invariant P at.0 t low (subst (λ (j : ℕ). RestsOn c.args.tree.now.arrivals j) (sym at.2) r)

@@ -1,0 +1,57 @@
+//! What is kept for one source.
+
+ghost use Rattle.std.specs.Prelude.{◌≡◌, ◌+◌, ◌<◌, ◌^◌, All, IfOk, OnErr, OnOk, length};
+
+use mono_graph::{Graph, Part};
+use std::alloc::{AllocError, Global};
+
+/// What was found from one source, after each number of steps by which a part of a graph grew.
+pub trait Row: Drop {
+    ghost use Rattle.std.specs.Prelude.{ℕ, Bool, List};
+    ghost use Rattle.mono_graph.specs.Digraph.{Digraph, IsPartOf};
+    ghost use Rattle.mono_dynamic.specs.BySource.{IsBack};
+
+    /// From where a row is, and what it measures.
+    type Source: Copy;
+
+    /// A row of a graph with so many nodes can be from this source.
+    ghost can_begin: { ℕ → Self.Source → Type 0 };
+
+    /// The row from this source in a part with no edge.
+    ghost at_first: { ℕ → Self.Source → Self };
+
+    /// The row is of a graph with so many nodes, and nothing in it is of a later step than so many.
+    ghost fits: { ℕ → ℕ → Self → Type 0 };
+
+    /// How a row has grown by edges, given by their places, that came into a part with the step after so many.
+    ghost grown: { Digraph → List Bool → List ℕ → ℕ → Self → Self → Type 0 };
+
+    /// How a row has gone back to so many steps.
+    ghost undone: { ℕ → Self → Self → Type 0 };
+
+    /// The row from a source, in a part with no edge.
+    fn new(alloc: Global, nodes: u32, source: Self::Source) -> Result<Self, AllocError>
+        requires { can_begin nodes source }
+        ensures { IfOk result (λ row. row ≡ at_first nodes source) };
+
+    /// Edges have come into the part, with the step after the first `looked`, and no others since the last call. Where memory
+    /// is missing, all is as before.
+    fn grow(
+        &mut self,
+        graph: &Graph,
+        part: &Part,
+        places: &[u32],
+        looked: u32,
+    ) -> Result<(), AllocError>
+        requires fits { fits graph.now.nodes looked self.old }
+        requires part { IsPartOf part.now graph.now }
+        requires places { All (λ k. k < length graph.now.edges) places.now }
+        requires few { looked + 1 < 2 ^ 32 }
+        ensures grown { OnOk result (grown graph.now part.now places.now looked self.old self.new) }
+        ensures unchanged { OnErr result (self.new ≡ self.old) };
+
+    /// Goes back to what was found after so many steps: a row that grew by the step after them is what it was. It takes no
+    /// memory.
+    fn undo_to(&mut self, kept: u32)
+        ensures { IsBack fits grown undone kept self.old self.new };
+}

@@ -1,0 +1,185 @@
+//! Which of some nodes are reached from each of several sources, in one part that loses edges and gets the last of them back.
+
+ghost use Rattle.std.specs.Prelude.{◌≡◌, ◌+◌, ◌<◌, ◌≤◌, ◌++◌, ◌∷◌, [], ℕ, Bool, List, None, All, IfOk, IsTrue, OnErr, OnOk, length, map, slice_set};
+ghost use Rattle.std.specs.List.{AllZip};
+ghost use Rattle.mono_graph.specs.Digraph.{IsPartOf};
+ghost use Rattle.mono_dynamic.specs.Targets.{Targets, is_lacking, is_settled, targets_at, unsearched, IsOneChanged, IsSearchedRow, IsShrunkRow, IsUndoneRow};
+
+use crate::reached_targets::ReachedTargets;
+use crate::tree_search::TreeSearch;
+use mono_base::limits::MAX_NODES;
+use mono_graph::{Graph, Part};
+use std::alloc::{AllocError, Global};
+use std::marker::Model;
+
+/// Which targets of each of several sources are reached.
+///
+/// Contracts see the number of nodes and the rows, one for each source, in the order in which the sources were given. Only
+/// `new` and `add_target` take memory.
+#[derive(Drop)]
+pub struct TargetsBySource {
+    rows: Vec<ReachedTargets>,
+    room: TreeSearch,
+}
+
+impl Model for TargetsBySource {
+    ghost use Rattle.std.specs.Prelude.{◌≡◌, ℕ, ◌<◌, length};
+    ghost use Rattle.mono_dynamic.specs.Targets.{TargetRows, targets_at};
+
+    ghost Value = { TargetRows };
+
+    ghost view = { λ s. record { nodes = s.room; rows = s.rows.items } };
+
+    ghost invariant = { λ s. (i : ℕ) → i < length s.rows.items → (targets_at s.rows.items i).tree.nodes ≡ s.room };
+}
+
+/// A row for each source.
+fn rows_of(alloc: Global, nodes: u32, sources: &[u32]) -> Result<Vec<ReachedTargets>, AllocError>
+    requires few { nodes ≤ MAX_NODES }
+    requires sources { All (λ u. u < nodes) sources.now }
+    ensures { IfOk result (λ rows. rows.items ≡ map (unsearched nodes) sources.now) }
+{
+    let mut rows = Vec::new(alloc);
+    for source in sources {
+        let row = ReachedTargets::new(alloc, nodes, *source)?;
+        rows.push(row)?;
+    }
+    Ok(rows)
+}
+
+/// The row has one more target.
+fn add_to(rows: &mut Vec<ReachedTargets>, row: usize, node: u32) -> Result<(), AllocError>
+    requires row { row < length rows.old.items }
+    requires node { node < (targets_at rows.old.items row).tree.nodes }
+    ensures added { OnOk result (rows.new.items ≡ slice_set rows.old.items row (record (targets_at rows.old.items row) { targets = (targets_at rows.old.items row).targets ++ node ∷ []; since = None })) }
+    ensures unchanged { OnErr result (rows.new.items ≡ rows.old.items) }
+{
+    let row = &mut rows[row];
+    row.add_target(node)?;
+    Ok(())
+}
+
+/// The edges at these places go, with the step of this number.
+fn shrink_each(rows: &mut Vec<ReachedTargets>, graph: &Graph, places: &[u32], number: u32)
+    requires size { (i : ℕ) → i < length rows.old.items → (targets_at rows.old.items i).tree.nodes ≡ graph.now.nodes }
+    requires places { All (λ k. k < length graph.now.edges) places.now }
+    ensures { AllZip (IsShrunkRow graph.now places.now number) rows.old.items rows.new.items }
+{
+    for i in 0..rows.len() {
+        let row = &mut rows[i];
+        row.shrink(graph, places, number);
+    }
+}
+
+/// Each row goes back.
+fn undo_each(rows: &mut Vec<ReachedTargets>, kept: u32)
+    ensures { AllZip (IsUndoneRow kept) rows.old.items rows.new.items }
+{
+    for i in 0..rows.len() {
+        let row = &mut rows[i];
+        row.undo_to(kept);
+    }
+}
+
+/// Searches for a row.
+fn search_row(
+    rows: &mut Vec<ReachedTargets>,
+    room: &mut TreeSearch,
+    row: usize,
+    graph: &Graph,
+    part: &Part,
+    number: u32,
+) -> bool
+    requires row { row < length rows.old.items }
+    requires size { (targets_at rows.old.items row).tree.nodes ≡ graph.now.nodes }
+    requires room { room.old ≡ graph.now.nodes }
+    requires part { IsPartOf part.now graph.now }
+    ensures room { room.new ≡ room.old }
+    ensures searched { IsOneChanged (IsSearchedRow graph.now part.now number result) rows.old.items rows.new.items row }
+{
+    let row = &mut rows[row];
+    row.search(room, graph, part, number)
+}
+
+impl TargetsBySource {
+    /// No row has a target yet. The graph has this many nodes, from 1 to [`MAX_NODES`].
+    pub fn new(alloc: Global, nodes: u32, sources: &[u32]) -> Result<Self, AllocError>
+        requires some { 1 ≤ nodes }
+        requires few { nodes ≤ MAX_NODES }
+        requires sources { All (λ u. u < nodes) sources.now }
+        ensures { IfOk result (λ s. s ≡ record { nodes = nodes; rows = map (unsearched nodes) sources.now }) }
+    {
+        let rows = rows_of(alloc, nodes, sources)?;
+        Ok(TargetsBySource {
+            rows,
+            room: TreeSearch::new(alloc, nodes)?,
+        })
+    }
+
+    /// How many rows there are.
+    pub fn count(&self) -> usize
+        ensures count { result ≡ length self.now.rows }
+        ensures sized { (i : ℕ) → i < length self.now.rows → (targets_at self.now.rows i).tree.nodes ≡ self.now.nodes }
+    {
+        self.rows.len()
+    }
+
+    /// The node is a target of a row too. What was known there is forgotten.
+    pub fn add_target(&mut self, row: usize, node: u32) -> Result<(), AllocError>
+        requires row { row < length self.old.rows }
+        requires node { node < self.old.nodes }
+        ensures added { OnOk result (self.new ≡ record self.old { rows = slice_set self.old.rows row (record (targets_at self.old.rows row) { targets = (targets_at self.old.rows row).targets ++ node ∷ []; since = None }) }) }
+        ensures unchanged { OnErr result (self.new ≡ self.old) }
+    {
+        add_to(&mut self.rows, row, node)?;
+        Ok(())
+    }
+
+    /// Whether the node is known to be out of reach from a row's source.
+    pub fn is_lacking(&self, row: usize, node: u32) -> bool
+        requires row { row < length self.now.rows }
+        requires node { node < self.now.nodes }
+        ensures { result ≡ is_lacking (targets_at self.now.rows row) node }
+    {
+        let row = &self.rows[row];
+        row.is_lacking(node)
+    }
+
+    /// Whether it is known of each target of a row whether it is reached.
+    pub fn is_settled(&self, row: usize) -> bool
+        requires { row < length self.now.rows }
+        ensures { result ≡ is_settled (targets_at self.now.rows row) }
+    {
+        let row = &self.rows[row];
+        row.is_settled()
+    }
+
+    /// The edges at these places go, with the step of this number. It costs the places for each row.
+    pub fn shrink(&mut self, graph: &Graph, places: &[u32], number: u32)
+        requires nodes { self.old.nodes ≡ graph.now.nodes }
+        requires places { All (λ k. k < length graph.now.edges) places.now }
+        ensures nodes { self.new.nodes ≡ self.old.nodes }
+        ensures rows { AllZip (IsShrunkRow graph.now places.now number) self.old.rows self.new.rows }
+    {
+        shrink_each(&mut self.rows, graph, places, number);
+    }
+
+    /// The edges of the steps after the first `kept` come back. It costs a look at each row.
+    pub fn undo_to(&mut self, kept: u32)
+        ensures nodes { self.new.nodes ≡ self.old.nodes }
+        ensures rows { AllZip (IsUndoneRow kept) self.old.rows self.new.rows }
+    {
+        undo_each(&mut self.rows, kept);
+    }
+
+    /// Searches the part, which is that after so many steps, for a row. Whether it has reached all targets of the row.
+    pub fn search(&mut self, row: usize, graph: &Graph, part: &Part, number: u32) -> bool
+        requires row { row < length self.old.rows }
+        requires nodes { self.old.nodes ≡ graph.now.nodes }
+        requires part { IsPartOf part.now graph.now }
+        ensures nodes { self.new.nodes ≡ self.old.nodes }
+        ensures searched { IsOneChanged (IsSearchedRow graph.now part.now number result) self.old.rows self.new.rows row }
+    {
+        search_row(&mut self.rows, &mut self.room, row, graph, part, number)
+    }
+}

@@ -1,2 +1,0 @@
-pub mod SureLaws
-mod RowLaws

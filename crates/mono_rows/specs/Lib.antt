@@ -1,3 +1,0 @@
-pub mod RowSides
-pub mod EitherSides
-pub mod SureParts

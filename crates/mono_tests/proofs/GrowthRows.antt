@@ -1,0 +1,94 @@
+-- Rows of stores that follow a trail, and of trails that grow by clauses.
+use Rattle.std.proofs.Common.{◌≡◌, ℕ, zero, suc, ◌+◌, ◌<◌, ◌≤◌, List, [], ◌∷◌, ◌++◌, length, length-append, refl, sym, ap, subst, ◌∙◌, inr, ℤ, pos, arith}
+use Rattle.std.specs.Prelude.{Some, None}
+use Rattle.mono_base.specs.Literal.{lit_at}
+use Rattle.mono_trail.specs.Places.{level_at}
+use Rattle.mono_trail.specs.TrailView.{TrailView}
+use Rattle.mono_clauses.specs.Propagation.{Grows, same, implies, gives, FalseFound}
+use Rattle.mono_clauses.specs.Store.{Held, IsTrueBy, Follows, FollowsBelow, watch_at, other}
+use Rattle.mono_steps.specs.WorkedLemmas.{minus}
+use Rattle.mono_tests.specs.TwoClauses.{two_clauses, watching, decided, implied, decided_again}
+
+-- ---- stores
+
+-- no literal is watched by both of two watchers, or by one that isn't there
+never_alone : (w : ℕ) (a : ℤ) → watch_at (Some (pos 1) ∷ Some (pos 2) ∷ []) w ≡ Some a → watch_at (Some (pos 1) ∷ Some (pos 2) ∷ []) (other w) ≡ Some a → ⊥
+never_alone zero a e f = let g : Some (pos 1) ≡ Some (pos 2) = e ∙ sym f in cc
+never_alone (suc zero) a e f = let g : Some (pos 2) ≡ Some (pos 1) = e ∙ sym f in cc
+never_alone (suc (suc w)) a e f = let g : None ≡ Some a = e in cc
+
+never_watched : (w : ℕ) (a : ℤ) → watch_at [] w ≡ Some a → ⊥
+never_watched zero a e = let g : None ≡ Some a = e in cc
+never_watched (suc w) a e = let g : None ≡ Some a = e in cc
+
+at_level_1 : (given p : ℕ) → p < 1 → level_at (decided given).marks p ≡ 1
+at_level_1 given zero lt = refl
+at_level_1 given (suc p) lt = absurd (omega (arith, lt))
+
+pub waits_to_be_given : Follows (watching (Some (pos 1) ∷ Some (pos 2) ∷ [])) (decided 0)
+waits_to_be_given = record {
+  vars = refl;
+  at = λ w a b e f. record { at = λ p lt there. inr (omega arith, at_level_1 0 p lt) };
+  alone = λ w a e f. absurd (never_alone w a e f);
+}
+
+pub lags_at_the_present_level : FollowsBelow (watching (Some (pos 1) ∷ Some (pos 2) ∷ [])) (decided 1)
+lags_at_the_present_level = record {
+  vars = refl;
+  at = λ w a b e f p lt there low. absurd (omega (arith, low, at_level_1 1 p lt));
+  alone = λ w a e f. absurd (never_alone w a e f);
+}
+
+pub false_by_both : FalseFound (watching []) (decided_again (minus 2 ∷ []) 2) 4
+false_by_both = record {
+  is_false = record { place = 0; within = omega arith; number = refl; is_false = refl };
+  follows = record {
+    vars = refl;
+    at = λ w a b e f p lt there low. absurd (never_watched w a e);
+    alone = λ w a e f. absurd (never_watched w a e);
+  };
+}
+
+pub never_true_by : (level : ℕ) → IsTrueBy (decided_again (minus 2 ∷ []) 2) (pos 2) level → ⊥
+never_true_by level b = at b.place b.within b.there
+  where
+    at : (k : ℕ) → k < 2 → lit_at (minus 1 ∷ minus 2 ∷ []) k ≡ pos 2 → ⊥
+    at zero lt e = cc
+    at (suc zero) lt e = cc
+    at (suc (suc k)) lt e = omega (arith, lt)
+
+-- ---- trails
+
+pub grows_by_unit : Grows two_clauses (decided 1) (implied 1)
+grows_by_unit = implies (decided 1) (implied 1) 4 (pos 2) (same (decided 1) refl) (record { place = 0; within = omega arith; number = refl; has = refl; is_open = refl; others = refl }) refl
+
+pub grows_by_giving : Grows two_clauses (decided 0) (decided 1)
+grows_by_giving = gives (decided 0) (decided 1) (same (decided 0) refl) (omega arith) refl
+
+-- without clauses no literal joins
+none_joins : (t u : TrailView) → Grows [] t u → length u.lits ≡ length t.lits
+none_joins t u (same v e) = ap (λ (w : TrailView). length w.lits) e
+none_joins t u (implies a v n x g unit e) = absurd (omega (arith, unit.within))
+none_joins t u (gives a v g some e) = ap (λ (w : TrailView). length w.lits) e ∙ none_joins t a g
+
+pub not_without_clauses : Grows [] (decided 1) (implied 1) → ⊥
+not_without_clauses g = let e : 2 ≡ 1 = none_joins (decided 1) (implied 1) g in omega (arith, e)
+
+-- no more is given than stands there
+few_given : (cs : List Held) (t u : TrailView) → Grows cs t u → t.given ≤ length t.lits → u.given ≤ length u.lits
+few_given cs t u (same v e) few = subst (λ (w : TrailView). w.given ≤ length w.lits) (sym e) few
+few_given cs t u (implies a v n x g unit e) few =
+    let more : length (a.lits ++ x ∷ []) ≡ length a.lits + 1 = grind (arith, length-append) in
+    subst (λ (w : TrailView). w.given ≤ length w.lits) (sym e) (let before = few_given cs t a g few in omega (arith, before, more))
+few_given cs t u (gives a v g some e) few = subst (λ (w : TrailView). w.given ≤ length w.lits) (sym e) (omega (arith, some))
+
+pub not_beyond_the_end : Grows two_clauses (decided 1) (decided 2) → ⊥
+not_beyond_the_end g = let few : 2 ≤ 1 = few_given two_clauses (decided 1) (decided 2) g (omega arith) in omega (arith, few)
+
+level_stays : (cs : List Held) (t u : TrailView) → Grows cs t u → u.level ≡ t.level
+level_stays cs t u (same v e) = ap (λ (w : TrailView). w.level) e
+level_stays cs t u (implies a v n x g unit e) = ap (λ (w : TrailView). w.level) e ∙ level_stays cs t a g
+level_stays cs t u (gives a v g some e) = ap (λ (w : TrailView). w.level) e ∙ level_stays cs t a g
+
+pub not_by_deciding : Grows two_clauses (decided 1) (decided_again (pos 3 ∷ []) 1) → ⊥
+not_by_deciding g = let e : 2 ≡ 1 = level_stays two_clauses (decided 1) (decided_again (pos 3 ∷ []) 1) g in omega (arith, e)

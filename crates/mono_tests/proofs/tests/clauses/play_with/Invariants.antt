@@ -1,0 +1,10 @@
+use Rattle.std.proofs.Common.{◌<◌, length}
+use Rattle.std.specs.Prelude.{All}
+use Rattle.mono_clauses.specs.Store.{Held, Follows}
+use Rattle.mono_tests.proofs.tests.clauses.play_with.Given as goal
+
+abbrev pub invariant-steps : goal.invariant-steps
+invariant-steps g l = record {
+  numbered : All (λ (c : Held). c.number < length l.store.clauses) l.store.clauses;
+  follows : Follows l.store l.trail;
+}

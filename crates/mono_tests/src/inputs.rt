@@ -1,0 +1,59 @@
+//! Worked rows: which nodes each form of an input may name, words that no other row reads, and clauses that stay open.
+
+ghost use Rattle.std.specs.Prelude.{◌≡◌, ◌∷◌, [], codes, Some, None, pos};
+ghost use Rattle.mono_problem.specs.declared.atom.Predicate.TheVariants as kind;
+ghost use Rattle.mono_gnf.specs.declared.fault.GnfFault.TheVariants as fault;
+ghost use Rattle.mono_gnf.specs.Faults.{first_fault};
+ghost use Rattle.mono_gnf.specs.Prints.{Prints};
+ghost use Rattle.mono_gnf.specs.Stands.{Stands};
+
+/// Both nodes of each form are below the number of nodes.
+pub fn nodes_of_each_form()
+    ensures edge_to { first_fault (codes "digraph 2 1 0\nedge 0 0 2 1") ≡ Some (2, fault.NodeOutOfRange) }
+    ensures edge_from_and_to { first_fault (codes "digraph 2 1 0\nedge 0 1 1 1") ≡ None }
+    ensures reach_from { first_fault (codes "digraph 2 0 0\nreach 0 2 0 1") ≡ Some (2, fault.NodeOutOfRange) }
+    ensures reach_to { first_fault (codes "digraph 2 0 0\nreach 0 0 2 1") ≡ Some (2, fault.NodeOutOfRange) }
+    ensures steps_from { first_fault (codes "digraph 2 0 0\ndistance_leq 0 2 0 1 5") ≡ Some (2, fault.NodeOutOfRange) }
+    ensures steps_to { first_fault (codes "digraph 2 0 0\ndistance_lt 0 0 2 1 5") ≡ Some (2, fault.NodeOutOfRange) }
+    ensures distance_from { first_fault (codes "digraph 2 0 0\nweighted_distance_leq 0 2 0 1 5") ≡ Some (2, fault.NodeOutOfRange) }
+    ensures distance_to { first_fault (codes "digraph 2 0 0\nweighted_distance_lt 0 0 2 1 5") ≡ Some (2, fault.NodeOutOfRange) }
+    ensures flow_from { first_fault (codes "digraph 2 0 0\nmaximum_flow_geq 0 2 0 1 5") ≡ Some (2, fault.NodeOutOfRange) }
+    ensures flow_to { first_fault (codes "digraph 2 0 0\nmaximum_flow_gt 0 0 2 1 5") ≡ Some (2, fault.NodeOutOfRange) }
+    ensures reach_same { first_fault (codes "digraph 2 0 0\nreach 0 2 2 1") ≡ Some (2, fault.NodeOutOfRange) }
+    ensures steps_same { first_fault (codes "digraph 2 0 0\ndistance_leq 0 2 2 1 5") ≡ Some (2, fault.NodeOutOfRange) }
+    ensures distance_same { first_fault (codes "digraph 2 0 0\nweighted_distance_leq 0 2 2 1 5") ≡ Some (2, fault.NodeOutOfRange) }
+    ensures flow_same { first_fault (codes "digraph 2 0 0\nmaximum_flow_geq 0 2 2 1 5") ≡ Some (2, fault.NodeOutOfRange) }
+    ensures last_nodes { first_fault (codes "digraph 2 0 0\nreach 0 1 1 1\ndistance_leq 0 1 1 2 5\nweighted_distance_leq 0 1 1 3 5\nmaximum_flow_geq 0 1 0 4 5\nmaximum_flow_geq 0 0 1 4 5")
+        ≡ None }
+{}
+
+/// A clause that is open at the end stands behind others, or begins in the line where another ends.
+pub fn clauses_left_open()
+    ensures behind_another { first_fault (codes "1 0 2") ≡ Some (1, fault.UnfinishedClause) }
+    ensures behind_an_empty_one { first_fault (codes "0 2") ≡ Some (1, fault.UnfinishedClause) }
+    ensures behind_three { first_fault (codes "0\n1 0 0\n-3\n") ≡ Some (3, fault.UnfinishedClause) }
+    ensures word_within { first_fault (codes "1 0 2\nreach") ≡ Some (2, fault.OpenClause) }
+    ensures none { first_fault (codes "1 0 2 0") ≡ None }
+{}
+
+/// Bounds of weighted walks, as they are and one less.
+pub fn weighted_distances()
+    ensures within { Stands (codes "digraph 2 0 0\nweighted_distance_leq 0 0 1 1 7\nweighted_distance_lt 0 0 1 2 7") (record {
+      vars = 2;
+      graphs = (0, record { nodes = 2; edges = [] }) ∷ [];
+      atoms = record { number = 1; graph = 0; var = 1; predicate = kind.Distance 0 1 (pos 7) }
+          ∷ record { number = 2; graph = 0; var = 2; predicate = kind.Distance 0 1 (pos 6) } ∷ [];
+      clauses = [];
+    }) }
+{}
+
+/// Predicates without a cycle: two fields, and one form alone.
+pub fn predicates_without_cycles()
+    ensures word { first_fault (codes "digraph 1 0 0\nacyclic_leq 0 1") ≡ Some (2, fault.UnknownWord) }
+    ensures no_number { first_fault (codes "digraph 1 0 0\nacyclic x 1") ≡ Some (2, fault.NotNumber) }
+    ensures identity_large { first_fault (codes "acyclic 4294967296 1") ≡ Some (1, fault.TooLarge) }
+    ensures within_a_clause { first_fault (codes "digraph 1 0 0\n1\nacyclic 0 1") ≡ Some (3, fault.OpenClause) }
+    ensures greatest { first_fault (codes "digraph 1 0 4294967295\nacyclic 4294967295 1000000") ≡ None }
+    ensures twice { Prints (codes "digraph 2 1 0\nacyclic 0 1\nedge 0 0 1 1\nacyclic 0 1")
+        (codes "p gnf 1 0\ndigraph int 2 1 0\nedge 0 0 1 1 1\nacyclic 0 1\nacyclic 0 1\n") }
+{}

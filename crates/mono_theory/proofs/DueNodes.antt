@@ -1,0 +1,57 @@
+-- Which atoms are due since something new is known of their nodes.
+use Rattle.std.proofs.Common.{◌≡◌, ℕ, ◌+◌, ◌<◌, ◌||◌, Bool, true, false, List, [], ◌∷◌, ◌++◌, length, refl, sym, subst, ◌∙◌, inl, inr, arith}
+use Rattle.std.specs.Prelude.{IsTrue, slice_index}
+use Rattle.std.proofs.lemmas.Bool.{cases_Bool, cases_lt, both_ways, false_from_ne_true, or_parts}
+use Rattle.mono_graph.specs.Digraph.{has}
+use Rattle.mono_graph.proofs.Membership.{has_append_cases, has_cons}
+use Rattle.mono_theory.specs.DueAtoms.{is_due}
+use Rattle.mono_theory.specs.DueNodes.{PutsNodes, PutsRows}
+use Rattle.mono_theory.specs.Index.{ArePlacesOf}
+
+-- what is due stays due
+due_stays : (before after : List Bool) (a : ℕ) → ((b : ℕ) → is_due after b ≡ false → is_due before b ≡ false) → is_due before a ≡ true → is_due after a ≡ true
+due_stays before after a stay on = elim (cases_Bool (is_due after a)) [ inl t ↦ t | inr f ↦ absurd (both_ways (is_due before a) (stay a f) on) ]
+
+-- the atoms at these places are those of the node
+pub puts_places : (node_of : List ℕ) (node : ℕ) (ks : List ℕ) (before after : List Bool) → ArePlacesOf node_of node ks → length after ≡ length before → ((a : ℕ) → is_due after a ≡ (is_due before a || has ks a)) → PutsNodes node_of (node ∷ []) before after
+puts_places node_of node ks before after places size is = record {
+  size = size;
+  stay = λ a off. (or_parts (is_due before a) (has ks a) (sym (is a) ∙ off)).0;
+  each = λ a lt here. (let held = places.all a lt (is_node a here) in elim (cases_Bool (is_due after a)) [
+    | inl on ↦ on
+    | inr off ↦ absurd (both_ways (has ks a) (or_parts (is_due before a) (has ks a) (sym (is a) ∙ off)).1 held)
+  ]);
+}
+  where
+    is_node : (a : ℕ) → IsTrue (has (node ∷ []) (slice_index node_of a)) → slice_index node_of a ≡ node
+    is_node a here = elim (has_cons node (slice_index node_of a) [] here) [ inl e ↦ sym e | inr none ↦ absurd cc ]
+
+pub puts_none : (node_of : List ℕ) (due : List Bool) → PutsNodes node_of [] due due
+puts_none node_of due = record { size = refl; stay = λ a off. off; each = λ a lt here. absurd cc }
+
+pub puts_more : {node_of nodes : List ℕ} {before between after : List Bool} (more : List ℕ) → PutsNodes node_of nodes before between → PutsNodes node_of more between after → PutsNodes node_of (nodes ++ more) before after
+puts_more {node_of = node_of} {nodes = nodes} {between = between} {after = after} more h k = record {
+  size = k.size ∙ h.size;
+  stay = λ a off. h.stay a (k.stay a off);
+  each = λ a lt here. elim (has_append_cases nodes more (slice_index node_of a) here) [
+    | inl old ↦ due_stays between after a k.stay (h.each a lt old)
+    | inr new ↦ k.each a lt new
+  ];
+}
+
+pub rows_none : (node_of : List ℕ) (nodes : ℕ → List ℕ) (due : List Bool) → PutsRows node_of nodes 0 due due
+rows_none node_of nodes due = record { size = refl; stay = λ a off. off; each = λ i a low lt here. absurd (omega (arith, low)) }
+
+pub rows_more : {node_of : List ℕ} {nodes : ℕ → List ℕ} {n : ℕ} {before between after : List Bool} → PutsRows node_of nodes n before between → PutsNodes node_of (nodes n) between after → PutsRows node_of nodes (n + 1) before after
+rows_more {node_of = node_of} {nodes = nodes} {n = n} {between = between} {after = after} h k = record {
+  size = k.size ∙ h.size;
+  stay = λ a off. h.stay a (k.stay a off);
+  each = λ i a low lt here. elim (cases_lt i n) [
+    | inl before ↦ due_stays between after a k.stay (h.each i a before lt here)
+    | inr past ↦ k.each a lt (subst (λ (j : ℕ). IsTrue (has (nodes j) (slice_index node_of a))) (omega (arith, low, past)) here)
+  ];
+}
+
+-- of an atom that isn't due nothing new is known
+pub none_new : {node_of : List ℕ} {nodes : ℕ → List ℕ} {n : ℕ} {before after : List Bool} (i a : ℕ) → PutsRows node_of nodes n before after → i < n → a < length node_of → is_due after a ≡ false → has (nodes i) (slice_index node_of a) ≡ false
+none_new {node_of = node_of} {nodes = nodes} {after = after} i a h low lt off = false_from_ne_true (has (nodes i) (slice_index node_of a)) (λ here. both_ways (is_due after a) off (h.each i a low lt here))

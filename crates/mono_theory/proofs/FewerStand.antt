@@ -1,0 +1,95 @@
+-- Fewer atoms stand, edge after edge.
+use Rattle.std.proofs.Common.{◌≡◌, ◌≢◌, ℕ, ◌+◌, ◌<◌, ◌⊎◌, List, [], ◌∷◌, ◌++◌, length, take, get_or, set, refl, sym, ap, subst, ◌∙◌, inl, inr}
+use Rattle.std.specs.Prelude.{IsTrue, Option}
+use Rattle.std.proofs.lemmas.Bool.{cases_eq}
+use Rattle.std.proofs.lemmas.List.{get_or-set_same, get_or-set_other, length-set, take_more}
+use Rattle.mono_graph.specs.Digraph.{has}
+use Rattle.mono_graph.proofs.Membership.{has_append_cases, has_cons}
+use Rattle.mono_theory.specs.declared.evidence.Evidence.{Evidence}
+use Rattle.mono_theory.specs.declared.stage.Stage.{Stage}
+use Rattle.mono_theory.specs.declared.stage.Stage.TheVariants as stage
+use Rattle.mono_theory.specs.Sound.{RestsOn, evidence_at}
+use Rattle.mono_theory.specs.Stages.{stage_at, waiting}
+use Rattle.mono_theory.specs.Watching.{AreInvalidated, IsInvalidated, NoneStandsOn, watching}
+
+pub none_invalidated : (xs : List (Option Evidence)) (ks : List ℕ) (stages : List Stage) → AreInvalidated xs ks stages stages
+none_invalidated xs ks stages = record { len = refl; each = λ a. inl refl }
+
+waits_not_stands : (s : Stage) → s ≡ stage.Waits → s ≢ stage.Supported
+waits_not_stands s w e = let bad : stage.Waits ≡ stage.Supported = sym w ∙ e in cc
+
+pub invalidated_more : {xs : List (Option Evidence)} {ks : List ℕ} {before mid after : List Stage} → AreInvalidated xs ks before mid → AreInvalidated xs ks mid after → AreInvalidated xs ks before after
+invalidated_more {xs} {ks} {before} {mid} {after} h k = record {
+  len = k.len ∙ h.len;
+  each = λ a. by a (h.each a) (k.each a);
+}
+  where
+    by : (a : ℕ) → (stage_at mid a ≡ stage_at before a) ⊎ IsInvalidated xs ks before mid a → (stage_at after a ≡ stage_at mid a) ⊎ IsInvalidated xs ks mid after a → (stage_at after a ≡ stage_at before a) ⊎ IsInvalidated xs ks before after a
+    by a (inl e) (inl s) = inl (s ∙ e)
+    by a (inl e) (inr lost) = inr (record { stood = sym e ∙ lost.stood; waits = lost.waits; edge = lost.edge; among = lost.among; rests = lost.rests })
+    by a (inr lost) (inl s) = inr (record { stood = lost.stood; waits = s ∙ lost.waits; edge = lost.edge; among = lost.among; rests = lost.rests })
+    by a (inr lost) (inr again) = absurd (waits_not_stands (stage_at mid a) lost.waits again.stood)
+
+-- one atom waits, if it stands
+pub invalidated_one : (xs : List (Option Evidence)) (ks : List ℕ) (stages : List Stage) (a k : ℕ) → a < length stages → IsTrue (has ks k) → RestsOn (evidence_at xs a) k → AreInvalidated xs ks stages (set stages a (waiting (stage_at stages a)))
+invalidated_one xs ks stages a k lt among rests = record {
+  len = length-set stages a (waiting (stage_at stages a));
+  each = λ x. elim (cases_eq x a) [
+    | inl e ↦ subst (λ (y : ℕ). (stage_at (set stages a (waiting (stage_at stages a))) y ≡ stage_at stages y) ⊎ IsInvalidated xs ks stages (set stages a (waiting (stage_at stages a))) y) (sym e) (by (stage_at stages a) refl)
+    | inr ne ↦ inl (get_or-set_other stages a x (waiting (stage_at stages a)) stage.Waits ne)
+  ];
+}
+  where
+    here : stage_at (set stages a (waiting (stage_at stages a))) a ≡ waiting (stage_at stages a)
+    here = get_or-set_same stages a (waiting (stage_at stages a)) stage.Waits lt
+
+    by : (s : Stage) → stage_at stages a ≡ s → (stage_at (set stages a (waiting (stage_at stages a))) a ≡ stage_at stages a) ⊎ IsInvalidated xs ks stages (set stages a (waiting (stage_at stages a))) a
+    by stage.Waits e = inl (here ∙ ap waiting e ∙ sym e)
+    by stage.Supported e = inr (record { stood = e; waits = here ∙ ap waiting e; edge = k; among = among; rests = rests })
+    by (stage.Forcing m) e = inl (here ∙ ap waiting e ∙ sym e)
+
+never_stands : (s : Stage) → waiting s ≢ stage.Supported
+never_stands stage.Waits e = cc
+never_stands stage.Supported e = cc
+never_stands (stage.Forcing m) e = cc
+
+pub gone_one : (stages : List Stage) (a : ℕ) → a < length stages → stage_at (set stages a (waiting (stage_at stages a))) a ≢ stage.Supported
+gone_one stages a lt e = never_stands (stage_at stages a) (sym (get_or-set_same stages a (waiting (stage_at stages a)) stage.Waits lt) ∙ e)
+
+-- where it doesn't stand it still doesn't
+pub still_gone : {xs : List (Option Evidence)} {ks : List ℕ} {before after : List Stage} → AreInvalidated xs ks before after → (a : ℕ) → stage_at before a ≢ stage.Supported → stage_at after a ≢ stage.Supported
+still_gone {xs} {ks} {before} {after} h a gone e = elim (h.each a) [
+  | inl same ↦ gone (sym same ∙ e)
+  | inr lost ↦ waits_not_stands (stage_at after a) lost.waits e
+]
+
+pub still_none : {xs : List (Option Evidence)} {ks atoms : List ℕ} {before after : List Stage} {k : ℕ} → AreInvalidated xs ks before after → NoneStandsOn xs before atoms k → NoneStandsOn xs after atoms k
+still_none h n = record { each = λ a t r. still_gone h a (n.each a t r) }
+
+-- one more atom doesn't stand on the edge
+pub none_more : {xs : List (Option Evidence)} {ks : List ℕ} {before after : List Stage} {k : ℕ} (atoms : List ℕ) (i : ℕ) → i < length atoms → AreInvalidated xs ks before after → (RestsOn (evidence_at xs (get_or atoms i 0)) k → stage_at after (get_or atoms i 0) ≢ stage.Supported)
+    → NoneStandsOn xs before (take i atoms) k → NoneStandsOn xs after (take (i + 1) atoms) k
+none_more {xs} {ks} {before} {after} {k} atoms i lt step this n =
+    let more : take (i + 1) atoms ≡ take i atoms ++ get_or atoms i 0 ∷ [] = take_more atoms i 0 lt in
+    record {
+      each = λ a t r. elim (has_append_cases (take i atoms) (get_or atoms i 0 ∷ []) a (subst (λ (js : List ℕ). IsTrue (has js a)) more t)) [
+        | inl early ↦ still_gone step a (n.each a early r)
+        | inr last ↦ elim (has_cons (get_or atoms i 0) a [] last) [
+          | inl e ↦ subst (λ (b : ℕ). RestsOn (evidence_at xs b) k → stage_at after b ≢ stage.Supported) e this r
+          | inr none ↦ absurd cc
+        ]
+      ];
+    }
+
+-- one more edge on which no atom that watches it stands
+pub edges_more : {xs : List (Option Evidence)} {ks : List ℕ} {before after : List Stage} (ws : List (List ℕ)) (edges : List ℕ) (i : ℕ) → i < length edges → AreInvalidated xs ks before after → NoneStandsOn xs after (watching ws (get_or edges i 0)) (get_or edges i 0)
+    → ((k : ℕ) → IsTrue (has (take i edges) k) → NoneStandsOn xs before (watching ws k) k) → (k : ℕ) → IsTrue (has (take (i + 1) edges) k) → NoneStandsOn xs after (watching ws k) k
+edges_more {xs} {ks} {before} {after} ws edges i lt step this n k t =
+    let more : take (i + 1) edges ≡ take i edges ++ get_or edges i 0 ∷ [] = take_more edges i 0 lt in
+    elim (has_append_cases (take i edges) (get_or edges i 0 ∷ []) k (subst (λ (js : List ℕ). IsTrue (has js k)) more t)) [
+      | inl early ↦ still_none step (n k early)
+      | inr last ↦ elim (has_cons (get_or edges i 0) k [] last) [
+        | inl e ↦ subst (λ (j : ℕ). NoneStandsOn xs after (watching ws j) j) e this
+        | inr none ↦ absurd cc
+      ]
+    ]

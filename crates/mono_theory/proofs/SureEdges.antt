@@ -1,0 +1,131 @@
+-- The surely present edges of the first literals seen: how they grow, and what stays.
+use Rattle.std.proofs.Common.{◌≡◌, ℕ, zero, suc, ◌+◌, ◌<◌, ◌≤◌, ◌⊎◌, ◌||◌, Bool, true, false, not, cond, List, [], ◌∷◌, ◌++◌, length, map, take, get_or, eqb, refl, sym, ap, subst, ◌∙◌, inl, inr, arith, ℤ, pos, nat_abs, int_lt, take-take, All}
+use Rattle.std.specs.Prelude.{IsTrue}
+use Rattle.std.specs.List.{list_all}
+use Rattle.std.proofs.lemmas.Bool.{cases_lt, cases_Bool, both_ways, and_parts, eq-eqb, eqb-true, ltb-true, false_from_ne_true}
+use Rattle.std.proofs.Math.ListN.{get_or-eq_default}
+use Rattle.std.proofs.lemmas.List.{length-map, length-take-le, take_all, take_more, take-append-le}
+use Rattle.mono_base.specs.Literal.{has_lit, is_lit}
+use Rattle.mono_base.specs.Partial.{is_true_in, is_false_in, is_partial}
+use Rattle.mono_graph.specs.Digraph.{Digraph, IsSubpart, is_place, present, has}
+use Rattle.mono_graph.specs.Walks.{is_walk}
+use Rattle.mono_graph.proofs.Parts.{part_by-larger, in_part_by}
+use Rattle.mono_dynamic.specs.Arrivals.{IsGrown, GrowsAfter}
+use Rattle.mono_dynamic.proofs.Exact.{walks}
+use Rattle.mono_problem.specs.Quiet.{under}
+use Rattle.mono_theory.specs.Bound.{Bound, edge_vars, assigned, IsBoundOf}
+use Rattle.mono_theory.specs.Index.{ArePlacesOf, switched}
+use Rattle.mono_theory.specs.Theories.{Facts, seeing, cut_to}
+use Rattle.mono_theory.proofs.FramesStay.{one_on, under_is}
+use Rattle.mono_theory.proofs.PartsOfSides.{has_lit-take, other_sign}
+use Rattle.mono_theory.proofs.Switches.{switched-at, length-switched}
+use Rattle.mono_theory.specs.SureParts.{sure_parts}
+
+-- ---- more literals, more edges
+
+pub sure_larger : (g : Digraph) (t : List ℤ) (m n : ℕ) → m ≤ n → IsSubpart (under g (take m t)) (under g (take n t))
+sure_larger g t m n le =
+    part_by-larger (λ e. is_true_in (take m t) (pos e.var)) (λ e. is_true_in (take n t) (pos e.var)) g
+    (λ e h. has_lit-take m (take n t) (pos e.var) (subst (λ (u : List ℤ). IsTrue (has_lit u (pos e.var))) (sym (take-take m n t le)) h))
+
+-- the same where all literals were looked at
+pub sure_all : (f : Facts) (n : ℕ) → n ≡ length f.seen → sure_parts f n ≡ under f.graph f.seen
+sure_all f n e = ap (under f.graph) (take_all n f.seen (omega (arith, e)))
+
+-- so many first literals have no more edges than all
+pub sure_within : (f : Facts) (n : ℕ) → n ≤ length f.seen → IsSubpart (sure_parts f n) (under f.graph f.seen)
+sure_within f n le = subst (λ (t : List ℤ). IsSubpart (sure_parts f n) (under f.graph t)) (take_all (length f.seen) f.seen (omega arith)) (sure_larger f.graph f.seen n (length f.seen) le)
+
+-- before any literal no edge is surely present
+pub none_sure : (f : Facts) (k : ℕ) → present (sure_parts f 0) k ≡ false
+none_sure f k = false_from_ne_true (present (sure_parts f 0) k) (λ on. absurd (let lit = in_part_by (λ e. is_true_in [] (pos e.var)) f.graph k on in cc))
+
+or_cond : (c p : Bool) → cond c true p ≡ (p || c)
+or_cond true true = refl
+or_cond true false = refl
+or_cond false true = refl
+or_cond false false = refl
+
+pub switched_grows : (vs : List ℕ) (v : ℕ) (P : List Bool) (ks : List ℕ) → length P ≡ length vs → ArePlacesOf vs v ks → IsGrown P (switched vs v true P) ks
+switched_grows vs v P ks len h = record { each = λ k. at k (cases_lt k (length vs)) }
+  where
+    same : (k : ℕ) → k < length vs → eqb (get_or vs k 0) v ≡ has ks k
+    same k lt = elim (cases_Bool (has ks k)) [
+      | inl there ↦ eq-eqb (get_or vs k 0) v (h.each k there).is ∙ sym there
+      | inr none ↦ false_from_ne_true (eqb (get_or vs k 0) v) (λ e. both_ways (has ks k) none (h.all k lt (eqb-true (get_or vs k 0) v e))) ∙ sym none
+    ]
+
+    at : (k : ℕ) → (k < length vs) ⊎ (length vs ≤ k) → present (switched vs v true P) k ≡ (present P k || has ks k)
+    at k (inl lt) = switched-at vs v true P k len lt ∙ ap (λ b. cond b true (present P k)) (same k lt) ∙ or_cond (has ks k) (present P k)
+    at k (inr ge) =
+        let none : has ks k ≡ false = false_from_ne_true (has ks k) (λ there. (let held = (h.each k there).held in absurd (omega (arith, held, ge)))) in
+        get_or-eq_default (switched vs v true P) false (omega (arith, ge, length-switched vs v true P len))
+        ∙ sym (ap (λ p. p || has ks k) (get_or-eq_default P false (omega (arith, ge, len))) ∙ none)
+
+bound_len : {b : Bound} {vs : List ℕ} {t : List ℤ} → IsBoundOf b vs t → length b.under ≡ length b.vars
+bound_len {b = b} {vs = vs} {t = t} h = ap length h.surely ∙ length-map vs (λ v. is_true_in t (pos v)) ∙ sym (ap length h.vars)
+
+-- a positive literal brings the edges of its variable: `b` are the bounds before it
+pub sure_grown : (f : Facts) (n : ℕ) (l : ℤ) (b : Bound) (ks : List ℕ) → n < length f.seen → get_or f.seen n l ≡ l → IsTrue (is_partial f.seen) → IsBoundOf b (edge_vars f.graph) (take n f.seen)
+    → int_lt (pos 0) l ≡ true → ArePlacesOf b.vars (nat_abs l) ks → GrowsAfter (sure_parts f) n (n + 1) (assigned b l).under ks
+sure_grown f n l b ks lt at partial h up places = record {
+  later = omega arith;
+  still = λ m low high. ap (sure_parts f) (omega (arith, low, high));
+  is = sym (under_is (assigned b l) f.graph (take (n + 1) f.seen) (one_on b (edge_vars f.graph) f.seen n l lt at partial h));
+  grown =
+      subst (λ (P : List Bool). IsGrown P (assigned b l).under ks) (under_is b f.graph (take n f.seen) h)
+      (subst (λ (Q : List Bool). IsGrown b.under Q ks) (sym (ap (λ c. cond c (switched b.vars (nat_abs l) true b.under) b.under) up)) (switched_grows b.vars (nat_abs l) b.under ks (bound_len h) places));
+}
+
+-- the same of the bounds that it leaves
+pub bounds_grown : (f : Facts) (n : ℕ) (l : ℤ) (b : Bound) (ks : List ℕ) → n < length f.seen → get_or f.seen n l ≡ l → IsTrue (is_partial f.seen) → IsBoundOf b (edge_vars f.graph) (take (n + 1) f.seen)
+    → int_lt (pos 0) l ≡ true → ArePlacesOf b.vars (nat_abs l) ks → GrowsAfter (sure_parts f) n (n + 1) b.under ks
+bounds_grown f n l b ks lt at partial h up places =
+    let t = take n f.seen in
+    let vs = edge_vars f.graph in
+    let before : Bound = record { vars = vs; under = map (λ v. is_true_in t (pos v)) vs; over = map (λ v. not (is_false_in t (pos v))) vs } in
+    let held : IsBoundOf before vs t = record { vars = refl; surely = refl; possibly = refl } in
+    let after : IsBoundOf (assigned before l) vs (take (n + 1) f.seen) = one_on before vs f.seen n l lt at partial held in
+    subst (λ (Q : List Bool). GrowsAfter (sure_parts f) n (n + 1) Q ks) (after.surely ∙ sym h.surely)
+    (sure_grown f n l before ks lt at partial held up (subst (λ (ws : List ℕ). ArePlacesOf ws (nat_abs l) ks) h.vars places))
+
+-- a negative literal brings no edge
+pub sure_still : (f : Facts) (n : ℕ) (l : ℤ) → n < length f.seen → get_or f.seen n l ≡ l → IsTrue (is_lit l) → int_lt (pos 0) l ≡ false → sure_parts f (n + 1) ≡ sure_parts f n
+sure_still f n l lt at lit down =
+    ap (under f.graph) (take_more f.seen n l lt ∙ ap (λ (m : ℤ). take n f.seen ++ m ∷ []) at) ∙ other_sign f.graph (take n f.seen) l false lit down
+
+-- ---- the first literals
+
+-- the first n literals alone have the first m of them, and so have all
+pub cut_cut : (f : Facts) (m n : ℕ) → m ≤ n → cut_to m (cut_to n f) ≡ cut_to m f
+cut_cut f m n le = ap (λ (t : List ℤ). let x : Facts = record { graph = f.graph; atoms = f.atoms; seen = t } in x) (take-take m n f.seen le)
+
+-- one more literal leaves the first n
+pub cut_seeing : (f : Facts) (n : ℕ) (l : ℤ) → n ≤ length f.seen → cut_to n (seeing f l) ≡ cut_to n f
+cut_seeing f n l le = ap (λ (t : List ℤ). let x : Facts = record { graph = f.graph; atoms = f.atoms; seen = t } in x) (take-append-le n f.seen (l ∷ []) le)
+
+-- the first of n literals are those of all
+pub take_cut : (f : Facts) (m n : ℕ) → m ≤ n → take m (cut_to n f).seen ≡ take m f.seen
+take_cut f m n le = take-take m n f.seen le
+
+-- what only the first n literals say is said of the facts cut to them
+pub parts_cut : (f : Facts) (m n : ℕ) → m ≤ n → sure_parts (cut_to n f) m ≡ sure_parts f m
+parts_cut f m n le = ap (under f.graph) (take-take m n f.seen le)
+
+-- all literals are the facts themselves
+pub cut_all : (f : Facts) (n : ℕ) → n ≡ length f.seen → cut_to n f ≡ f
+cut_all f n e = ap (λ (t : List ℤ). let x : Facts = record { graph = f.graph; atoms = f.atoms; seen = t } in x) (take_all n f.seen (omega (arith, e)))
+
+pub cut_length : (f : Facts) (n : ℕ) → n ≤ length f.seen → length (cut_to n f).seen ≡ n
+cut_length f n le = length-take-le n f.seen le
+
+-- ---- walks
+
+all_places : (g : Digraph) (ks : List ℕ) → IsTrue (list_all (is_place g) ks) → All (λ k. k < length g.edges) ks
+all_places g [] h i d lt = absurd (omega (arith, lt))
+all_places g (k ∷ ks) h zero d lt = ltb-true k (length g.edges) (and_parts (is_place g k) (list_all (is_place g) ks) h).0
+all_places g (k ∷ ks) h (suc i) d lt = all_places g ks (and_parts (is_place g k) (list_all (is_place g) ks) h).1 i d (omega (arith, lt))
+
+-- a walk goes over the graph's edges
+pub walk_places : (g : Digraph) (P : List Bool) (u v : ℕ) (ks : List ℕ) → IsTrue (is_walk g P u v ks) → All (λ k. k < length g.edges) ks
+walk_places g P u v ks h = all_places g ks (walks g P u v ks h).known

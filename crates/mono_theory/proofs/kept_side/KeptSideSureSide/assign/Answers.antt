@@ -1,5 +1,0 @@
-use Rattle.mono_theory.proofs.KeptLaws.{side_pushed}
-use Rattle.mono_theory.proofs.kept_side.KeptSideSureSide.assign.Goals as goal
-
-pub returns-clause-right : goal.returns-clause-right
-returns-clause-right g c = side_pushed c.args.lit c.assign.new.self c.assign.ensures.side c.assign.ensures.kept c.requires.right

@@ -1,6 +1,0 @@
-use Rattle.std.proofs.Common.{false}
-use Rattle.mono_theory.proofs.KeptLaws.{side_gone_back}
-use Rattle.mono_theory.proofs.kept_side.KeptSideSureSide.go_back.Goals as goal
-
-pub returns-clause-right : goal.returns-clause-right
-returns-clause-right g c = side_gone_back c.args.kept c.undo_to.new.self (c.undo_to.ensures.side c.args.frame.now false c.requires.within c.requires.right.side) c.undo_to.ensures.exact c.requires.right

@@ -1,5 +1,0 @@
-use Rattle.mono_worked.proofs.LearnRows.{taught}
-use Rattle.mono_worked.proofs.learn.conflict_teaches_the_first_point.Goals as goal
-
-pub returns : goal.returns
-returns c = taught
