@@ -40,4 +40,5 @@ class Comparison:
         """How many runs there were of each kind."""
         for kind, count in sorted(self.kinds.items()):
             print(f"{count:7} {kind}")
-        print(f"{sum(self.kinds.values())} runs, {self.different} different")
+        print(self.program.count())
+        print(f"{sum(self.kinds.values())} runs compared, {self.different} different")

@@ -1,14 +1,16 @@
 #!/usr/bin/env python3
 """Refuses requests for memory, and calls on files, one a run: faults.py
 
-A small library (faults/refuse.c) stands in front of the C library's. Each run either ends as the undisturbed one does,
-or as the call that was refused asks: without memory with 6 and nothing written, where a file couldn't be opened or
+A small library (faults/refuse.c) stands in front of the C library's. Each form of the program is run over inputs with
+each kind of predicate and answers with each word of a lemma. Each run either ends as the undisturbed one does, or as
+the call that was refused asks: without memory with 6 and nothing written, where a file couldn't be opened or
 read with 4 and `read fault`, and where a write failed with 5 and a prefix of the text. Where the machine has no C
 compiler, it says so and tries nothing.
 """
 
 from __future__ import annotations
 
+import collections
 import os
 import shutil
 import subprocess
@@ -27,11 +29,51 @@ OUT_OF_MEMORY = 6
 # By kind of call: once so many refusals in a row changed nothing, the run makes no further call of that kind.
 MOST_SPARED = {"memory": 60, "open": 3, "read": 3, "write": 3}
 
+# A predicate of each kind over one graph, and two of spanning trees.
+GRAPH = """digraph int 3 4 0
+edge 0 0 1 1 5
+edge 0 1 2 2 5
+edge 0 0 2 3 3
+edge 0 2 0 4 1
+reach 0 0 2 5
+distance_leq 0 0 2 6 1
+weighted_distance_leq 0 0 2 7 3
+maximum_flow_geq 0 0 2 8 8
+mst_weight_leq 0 9 6
+acyclic 0 10
+mst_weight_leq 0 11 2
+"""
+# Inputs over it, by name. The refutations of the last two take a lemma of each kind, by all ten words together.
+INPUTS = {
+    "free": GRAPH + "1 2 0\n3 -4 0\n",
+    "present": GRAPH + "1 0\n2 0\n3 0\n4 0\n-5 -6 -7 -8 -9 10 11 0\n",
+    "absent": GRAPH + "-1 0\n-2 0\n-3 0\n-4 0\n5 6 7 8 9 -10 0\n",
+}
+
 Ending = tuple[int, bytes]
 
 
+def drawn_up(program: str, folder: str) -> list[list[str]]:
+    """The words of the runs over an input with each kind of predicate; the files that they name are written."""
+    path = {name: os.path.join(folder, name) for name in INPUTS}
+    found = []
+    for name, text in INPUTS.items():
+        Path(path[name]).write_text(text, encoding="ascii")
+        answer, two = f"{path[name]}.answer", f"{path[name]}.two"
+        Path(answer).write_bytes(ending([program, "solve", path[name]])[1])
+        Path(two).write_bytes(ending([program, "migrate", path[name], answer, "2"])[1])
+        found += [["solve", path[name]], ["check", path[name], answer], ["check", path[name], two]]
+        found += [["migrate", path[name], answer, "2"], ["team", path[name], "3", "1"]]
+    free, given = path["free"], ["-2", "-3", "5", "-10", "9"]
+    core = f"{free}.core"
+    Path(core).write_bytes(ending([program, "core", free, *given])[1])
+    found += [["core", free, *given], ["core", free, "1", "-10"], ["check-with", free, core, *given]]
+    found += [["check-with", free, f"{free}.answer", "1", "-10"]]
+    return found + [["best", free, "3"], ["best", free, "5"], ["ask", free, "5", "3"]]
+
+
 def commands() -> list[list[str]]:
-    """The words of the runs."""
+    """The words of the runs over the files of examples, and over generated inputs."""
     circle = str(SCHEDULE / "circle.gnf")
     routes, refutation = str(FIRST / "routes.gnf"), str(FIRST / "routes.refutation")
     wishes, core = str(FIRST / "wishes.gnf"), str(FIRST / "wishes.core")
@@ -99,9 +141,13 @@ def main() -> None:
         library = os.path.join(folder, "refuse.so")
         source = str(HERE / "faults" / "refuse.c")
         subprocess.run([compiler, "-O2", "-shared", "-fPIC", "-o", library, source, "-ldl"], check=True)
+        runs = commands() + drawn_up(program, folder)
         for kind in MOST_SPARED:
-            refused = sum(places([program, *words], library, kind) for words in commands())
-            print(f"{kind}: {refused} calls refused, one a run: each run ended as it should")
+            refused: collections.Counter[str] = collections.Counter()
+            for words in runs:
+                refused[words[0]] += places([program, *words], library, kind)
+            by_form = ", ".join(f"{count} of {form}" for form, count in sorted(refused.items()))
+            print(f"{kind}: {sum(refused.values())} calls refused ({by_form}), one a run: each run ended as it should")
 
 
 if __name__ == "__main__":

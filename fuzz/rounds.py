@@ -25,6 +25,7 @@ class Rounds:
         self.wrong = 0
         self.words: tuple[str, ...] = ()  # of the last run
         self.text = b""  # the input, which lies in the file `f`
+        self.seed = 0
 
     def compare(self, seed: int) -> str:
         """The kind of what the seed's runs came to. `Wrong`: one of them isn't right."""
@@ -46,8 +47,15 @@ class Rounds:
     def judge(self, text: bytes, answer: bytes, *words: str | int, due: str = "") -> None:
         """The run of these words says of the answer (the file `a`) what the reference says of it over this input.
 
-        Where a verdict is due, that is what both say.
+        Where a verdict is due, that is what both say, at each second seed of the answer's text in version 2 too.
         """
+        self.judge_text(text, answer, *words, due=due)
+        if due and self.seed % 2 == 0:
+            _, two = reference.outcome("migrate", text, answer, 2)
+            self.judge_text(text, two.encode(), *words, due=due)
+
+    def judge_text(self, text: bytes, answer: bytes, *words: str | int, due: str) -> None:
+        """One text of an answer is judged."""
         self.program.put("a", answer)
         status, verdict = reference.outcome("check", text, answer)
         if due and (status, verdict) != (0, due):
@@ -58,6 +66,7 @@ class Rounds:
 
     def round(self, seed: int) -> None:
         """The runs of one seed."""
+        self.seed = seed
         try:
             self.found[self.compare(seed)] += 1
         except Wrong as wrong:
@@ -78,5 +87,6 @@ def play(doc: str | None, made: type[Rounds], drawn: str, rounds: int) -> None:
     if args.list:
         for kind, count in sorted(played.found.items()):
             print(f"{count:7} {kind}")
+    print(played.program.count())
     print(f"{args.rounds} {drawn}, {played.wrong} wrong")
     sys.exit(1 if played.wrong else 0)

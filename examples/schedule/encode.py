@@ -163,7 +163,8 @@ def main() -> None:
         deadline = length_of(starts)
         print(f"{deadline} hours:", ", ".join(f"{t.job} {t.machine} at {start}" for t, start in starts.items()))
         deadline -= 1
-    print(f"nothing is shorter: the refutation has {len(answer.steps)} steps")
+    count = len(answer.steps)
+    print(f"nothing is shorter: the refutation has {count} step{'s' * (count > 1)}")
     shop = encode(deadline, all_done=False)
     if not (core := shop.problem.core(shop.done)):
         print(f"too much for {deadline} hours:", ", ".join(core.names))

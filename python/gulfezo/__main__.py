@@ -22,15 +22,21 @@ def known() -> dict[str, str]:
     return found
 
 
+def itself(path: str) -> Path:
+    """The program that runs: of a checkout's script the one that was built there, once it is."""
+    built = Path(path).resolve().parent / "crates" / "mono_cmd" / "out" / "mono_cmd"
+    return built if built.is_file() else Path(path)
+
+
 def main() -> int:
     """Ends with 0 where there is a program, and its checksum is what the wheel says of it, if it says anything."""
     try:
-        path = program.find()
+        path = itself(program.find())
     except ProgramMissing as fault:
         print(fault, file=sys.stderr)
         return 1
     print(f"program   {path}")
-    checksum = hashlib.sha256(Path(path).read_bytes()).hexdigest()
+    checksum = hashlib.sha256(path.read_bytes()).hexdigest()
     print(f"sha256    {checksum}")
     said = known()
     if not said:

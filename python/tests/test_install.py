@@ -119,6 +119,21 @@ class Install(unittest.TestCase):
         self.assertEqual(other.returncode, 1)
         self.assertIn("isn't the program that came with the package", other.stderr)
 
+    def test_a_checkout_tells_of_the_program_that_was_built(self):
+        script = Path(self.folder, "gulfezo")
+        script.write_text("#!/bin/sh\n")
+        script.chmod(0o755)
+        built = Path(self.folder, "crates", "mono_cmd", "out", "mono_cmd")
+        built.parent.mkdir(parents=True)
+        words = [sys.executable, "-m", "gulfezo"]
+        here = alone(GULFEZO=str(script), PYTHONPATH=str(PYTHON))
+        for path, content in ((script, b"#!/bin/sh\n"), (built, b"the program")):
+            if path == built:
+                built.write_bytes(content)
+            told = subprocess.run(words, capture_output=True, text=True, check=True, env=here, cwd=self.folder).stdout
+            facts = [row.split(None, 1)[1] for row in told.splitlines()[:2]]
+            self.assertEqual(facts, [str(path.resolve()), hashlib.sha256(content).hexdigest()])
+
     def test_the_tool_names_the_commit_that_was_built(self):
         root = Path(self.folder, "checkout")
         skipped = shutil.ignore_patterns("__pycache__", "build", "dist", "*.egg-info")

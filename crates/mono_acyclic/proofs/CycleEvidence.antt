@@ -15,7 +15,7 @@ use Rattle.mono_theory.specs.declared.evidence.Evidence.{Evidence}
 use Rattle.mono_theory.specs.Evidences.{only, IsEvidence}
 use Rattle.mono_theory.specs.Resting.{AreAbsent, AreAlike}
 use Rattle.mono_theory.proofs.EvidenceDecides.{in_only}
-use Rattle.mono_theory.proofs.Pigeons.{all_has}
+use Rattle.mono_graph.proofs.Pigeons.{all_has}
 use Rattle.mono_theory.proofs.RestingOnAbsent.{resting_evidence}
 use Rattle.mono_theory.proofs.WalksAsEvidence.{numbers-known, placed-numbers, nodes-known, all_by}
 use Rattle.mono_acyclic.specs.Cyclic.{cycle_evidence, absent_falling, IsOrderEvidence}

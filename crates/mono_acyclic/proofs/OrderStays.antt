@@ -1,11 +1,12 @@
 -- What is kept of the surely present edges stays right while literals come and go, and decides whether there is a cycle.
 use Rattle.std.proofs.Common.{◌≡◌, ℕ, ◌+◌, ◌<◌, ◌≤◌, Bool, true, false, not, ◌&&◌, ◌||◌, List, [], ◌∷◌, ◌++◌, length, map, take, get_or, refl, sym, ap, subst, ◌∙◌, inl, inr, arith, ℤ, pos, nat_abs, int_lt, take-take}
-use Rattle.std.specs.Prelude.{IsTrue, Result, Ok, Err, OnErr, Option, Some, None, All, ◌==◌}
+use Rattle.std.specs.Prelude.{IsTrue, Result, Ok, Err, OnErr, Option, Some, None, All, replicate, ◌==◌}
 use Rattle.std.specs.Option.{is_some}
 use Rattle.std.proofs.lemmas.Bool.{both_ways, cases_lt, or_left, eq-eqb, false_from_ne_true}
-use Rattle.std.proofs.lemmas.List.{get_or-map, get_or_past, length-map, length-take-le, take_more}
+use Rattle.std.proofs.lemmas.List.{get_or-map, get_or_past, get_or-replicate, length-map, length-replicate, length-take-le, take_more}
 use Rattle.mono_base.specs.Literal.{var_of}
 use Rattle.mono_base.specs.Partial.{is_true_in, is_false_in, is_partial}
+use Rattle.mono_base.specs.Worklist.{is_listed}
 use Rattle.mono_base.proofs.Partials.{has_var_of, later_is_new, is_partial-take}
 use Rattle.mono_graph.specs.declared.edge.Edge.{Edge}
 use Rattle.mono_graph.specs.Digraph.{Digraph, IsGraph, edge_at, no_edge, present, has}
@@ -20,7 +21,7 @@ use Rattle.mono_problem.specs.declared.atom.Predicate.TheVariants as kind
 use Rattle.mono_problem.specs.Quiet.{under}
 use Rattle.mono_problem.specs.Read.{no_atom}
 use Rattle.mono_theory.specs.Bound.{Bound, edge_vars, IsBoundOf}
-use Rattle.mono_theory.specs.DueAtoms.{PutsDue, is_due}
+use Rattle.mono_theory.specs.DueAtoms.{PutsDue}
 use Rattle.mono_theory.specs.Evidences.{Decides, IsEvidence, shown_by}
 use Rattle.mono_theory.specs.Index.{ArePlacesOf}
 use Rattle.mono_theory.specs.RowSides.{DecidesRest}
@@ -254,12 +255,15 @@ edges_none f vs o same size part_size none order = record { vars = same; kept = 
 -- ---- which atoms are due
 
 -- all of them
-pub due_all : {n : ℕ} {before after : List Bool} (first second : ℕ → Bool) → length before ≡ n → length after ≡ length before → ((a : ℕ) → a < length before → is_due after a ≡ true) → PutsDue n first second before after
-due_all {before = before} {after = after} first second size same all = record {
-  size = same;
+pub due_all : {n : ℕ} {before after : List Bool} (first second : ℕ → Bool) → length before ≡ n → after ≡ replicate (length before) true → PutsDue n first second before after
+due_all {before = before} {after = after} first second size all = record {
+  size = ap length all ∙ length-replicate (length before) true;
   stay = λ a off. elim (cases_lt a (length before)) [
-    | inl lt ↦ absurd (both_ways (is_due after a) off (all a lt))
+    | inl lt ↦ absurd (both_ways (is_listed after a) off (listed a lt))
     | inr past ↦ get_or_past before a false past
   ];
-  newly = λ a lt off on. absurd (both_ways (is_due after a) off (all a (omega (arith, lt, size))));
+  newly = λ a lt off on. absurd (both_ways (is_listed after a) off (listed a (omega (arith, lt, size))));
 }
+  where
+    listed : (a : ℕ) → a < length before → is_listed after a ≡ true
+    listed a lt = ap (λ (marks : List Bool). get_or marks a false) all ∙ get_or-replicate (length before) a true false lt

@@ -13,9 +13,9 @@ ghost use Rattle.mono_acyclic.specs.Orders.{IsKeptTo, IsOrderedTo, ordered_count
 
 use crate::acyclic::{Acyclic, cycle_evidence};
 use crate::ordering::{insert_all, remove_all};
-use mono_base::Lit;
+use mono_base::{Lit, Worklist};
 use mono_cycles::OrderedPart;
-use mono_theory::{Bounds, Due, Evidence, Frame, Rows};
+use mono_theory::{Bounds, Evidence, Frame, Rows};
 use std::alloc::{AllocError, Global};
 use std::marker::Model;
 
@@ -161,7 +161,7 @@ impl Rows<Acyclic> for OrderedEdges {
         bounds: &Bounds,
         looked: usize,
         lit: Lit,
-        due: &mut Due,
+        due: &mut Worklist,
     ) -> Result<(), AllocError> {
         let _ = bounds.under();
         let _ = (frame.seen(), lit.var());
@@ -186,7 +186,7 @@ impl Rows<Acyclic> for OrderedEdges {
         frame: &Frame,
         bounds: &Bounds,
         looked: usize,
-        due: &mut Due,
+        due: &mut Worklist,
     ) -> Result<(), AllocError> {
         let _ = (alloc, frame.seen(), looked);
         Ok(())

@@ -20,7 +20,8 @@ fn insert(ordered: &mut OrderedPart, graph: &Graph, place: u32) -> bool
     ensures part { IsTrue result → IsGrownBy ordered.old.part ordered.new.part place }
     ensures part_stays { result ≡ false → (k : ℕ) → present ordered.new.part k ≡ present ordered.old.part k }
     ensures order { IsTrue (is_order graph.now ordered.old.part ordered.old.order) → IsTrue (is_order graph.now ordered.new.part ordered.new.order) }
-    ensures cycle { result ≡ false → (Q : List Bool) → IsSubpart ordered.old.part Q → IsTrue (present Q place) → IsTrue (is_cycle graph.now Q ordered.new.cycle) }
+    ensures cycle { result ≡ false → (Q : List Bool) → IsSubpart ordered.old.part Q → IsTrue (present Q place)
+        → IsTrue (is_cycle graph.now Q ordered.new.cycle) }
 {
     if ordered.part().has(place) {
         return true;

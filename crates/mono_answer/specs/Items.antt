@@ -146,7 +146,8 @@ spoken lines = filter (λ l. not (is_skipped (tokens_of l.1))) lines
 abbrev pub said_in : List (ℕ × List ℕ) → List (ℕ × Option Item)
 said_in lines = map (λ l. (l.0, item_of (tokens_of l.1))) lines
 
--- what the lines say that are no blank lines and no comments, each beside its line's number. Chains' numbers are those that are written
+-- what the lines say that are no blank lines and no comments, each beside its line's number. Chains' numbers are those that are
+-- written
 abbrev pub items_in : List (ℕ × List ℕ) → List (ℕ × Option Item)
 items_in lines = said_in (spoken lines)
 

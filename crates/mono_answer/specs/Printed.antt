@@ -114,7 +114,8 @@ answer_text a = flat_map spaced (answer_lines a)
 abbrev pub version_tokens : List (List ℕ)
 version_tokens = codes "version" ∷ codes "2" ∷ []
 
--- the text in a version, for a problem of c clauses. In version 2 the version line comes first, and chains' numbers are counted backwards
+-- the text in a version, for a problem of c clauses. In version 2 the version line comes first, and chains' numbers are counted
+-- backwards
 abbrev pub answer_text_as : Answer → Version → ℕ → List ℕ
 answer_text_as a version.One c = answer_text a
 answer_text_as a version.Two c = flat_map spaced (version_tokens ∷ answer_lines (turned_answer c a))

@@ -6,7 +6,8 @@
 ghost use Rattle.std.specs.Prelude.{◌≡◌, ◌+◌, ◌<◌, ◌++◌, ◌∷◌, ◌^◌, [], IfOk, OnOk, decimal, map, flat_map};
 ghost use Rattle.std.specs.Fmt.{signed_decimal};
 ghost use Rattle.mono_text.specs.Text.{spaced};
-ghost use Rattle.mono_answer.specs.Printed.{numbers_text, with_zero, literal_of, literals_from, labels_text, amounts_text, witness_text, status_line, values_line, step_line, answer_text};
+ghost use Rattle.mono_answer.specs.Printed.{numbers_text, with_zero, literal_of, literals_from, labels_text, amounts_text};
+ghost use Rattle.mono_answer.specs.Printed.{witness_text, status_line, values_line, step_line, answer_text};
 ghost use Rattle.mono_steps.specs.declared.step.Step.TheVariants as step;
 ghost use Rattle.mono_answer.specs.declared.answer.Answer.TheVariants as whole;
 ghost use Rattle.mono_answer.specs.Behind.{behind};

@@ -12,5 +12,6 @@ pub fn wider_clause_is_true()
 /// Where no literal of the clauses is open and unit propagation has nothing to do, each assignment that extends the
 /// partial one makes every clause true.
 pub fn quiet_clauses_are_true()
-    ensures { (a : ℕ → Bool) (t : List ℤ) (clauses : List (List ℤ)) → Extends a t → HasNoOpen t clauses → IsTrue (unit_quiet clauses t) → IsTrue (all_true a clauses) }
+    ensures { (a : ℕ → Bool) (t : List ℤ) (clauses : List (List ℤ)) → Extends a t → HasNoOpen t clauses → IsTrue (unit_quiet clauses t)
+        → IsTrue (all_true a clauses) }
 {}

@@ -1,10 +1,13 @@
-//! Worked rows: what the definitions make of small literals, clauses and partial assignments.
+//! Worked rows: what the definitions make of small literals, clauses, partial assignments, orders and lists of places.
 
 ghost use Rattle.std.specs.Prelude.{◌≡◌, ◌∷◌, [], true, false, pos, negsuc, Some, None};
 ghost use Rattle.mono_base.specs.declared.value.Value.TheVariants.{Yes, No, Unset};
 ghost use Rattle.mono_base.specs.Literal.{var_of, is_lit, IsLitWithin, slot, lit_at, lit_true, clause_true, all_true, has_lit, within, is_same_set, has_opposites, without, value_in, first_false};
 ghost use Rattle.mono_base.specs.Partial.{has_var, is_partial, is_true_in, is_false_in, is_open_in, value_by, is_false_clause, others_false, extends, has_two, is_quiet, unit_quiet, has_no_open};
-ghost use Rattle.mono_base.specs.Worked.{tft, all_on};
+ghost use Rattle.mono_base.specs.Numbers.{has};
+ghost use Rattle.mono_base.specs.Ranking.{exchanged, in_order, with_exchange};
+ghost use Rattle.mono_base.specs.Worklist.{all_listed, is_listed, last_of, none_listed, IsEmpty, IsLast, IsTaken};
+ghost use Rattle.mono_base.specs.Worked.{tft, all_on, turned, two_of_three};
 
 /// A literal is a number other than 0, and its variable is its magnitude.
 pub fn literals_are_numbers()
@@ -172,4 +175,43 @@ pub fn clauses_without_open_literals()
     ensures first_open { has_no_open (pos 2 ∷ []) ((pos 3 ∷ pos 2 ∷ []) ∷ []) ≡ false }
     ensures last_open { has_no_open (pos 2 ∷ []) ((pos 2 ∷ []) ∷ (pos 2 ∷ pos 3 ∷ []) ∷ []) ≡ false }
     ensures no_clauses { has_no_open [] [] ≡ true }
+{}
+
+/// A number stands in a list at any place.
+pub fn numbers_stand_in_lists()
+    ensures first { has (3 ∷ 5 ∷ []) 3 ≡ true }
+    ensures last { has (3 ∷ 5 ∷ []) 5 ≡ true }
+    ensures between { has (3 ∷ 5 ∷ []) 4 ≡ false }
+    ensures none { has [] 0 ≡ false }
+{}
+
+/// Items change places, and the places by item follow.
+pub fn items_change_places()
+    ensures own_order { in_order 3 ≡ record { items = 0 ∷ 1 ∷ 2 ∷ []; places = 0 ∷ 1 ∷ 2 ∷ [] } }
+    ensures exchanged { exchanged (1 ∷ 2 ∷ 0 ∷ []) 0 2 ≡ 0 ∷ 2 ∷ 1 ∷ [] }
+    ensures same_place { exchanged (1 ∷ 2 ∷ 0 ∷ []) 1 1 ≡ 1 ∷ 2 ∷ 0 ∷ [] }
+    ensures places_follow { with_exchange turned 0 2 ≡ record { items = 0 ∷ 2 ∷ 1 ∷ []; places = 0 ∷ 2 ∷ 1 ∷ [] } }
+    ensures one_place { with_exchange turned 1 1 ≡ turned }
+{}
+
+/// Places are marked, and listed in the order in which they joined.
+pub fn places_are_listed()
+    ensures none { none_listed 2 ≡ record { listed = false ∷ false ∷ []; places = [] } }
+    ensures all { all_listed 2 ≡ record { listed = true ∷ true ∷ []; places = 0 ∷ 1 ∷ [] } }
+    ensures marked { is_listed (true ∷ false ∷ []) 0 ≡ true }
+    ensures unmarked { is_listed (true ∷ false ∷ []) 1 ≡ false }
+    ensures beyond { is_listed (true ∷ true ∷ []) 2 ≡ false }
+    ensures last { last_of (4 ∷ 7 ∷ 2 ∷ []) ≡ 2 }
+    ensures last_of_one { last_of (4 ∷ []) ≡ 4 }
+{}
+
+/// The place that joined last is taken, and no other place leaves.
+pub fn the_last_place_is_taken()
+    ensures last { IsLast two_of_three 0 }
+    ensures first_is_not { ¬ IsLast two_of_three 2 }
+    ensures taken { IsTaken two_of_three (record { listed = false ∷ false ∷ true ∷ []; places = 2 ∷ [] }) 0 }
+    ensures stays_marked { ¬ IsTaken two_of_three (record { listed = true ∷ false ∷ true ∷ []; places = 2 ∷ [] }) 0 }
+    ensures another_leaves { ¬ IsTaken two_of_three (record { listed = false ∷ false ∷ true ∷ []; places = [] }) 0 }
+    ensures empty { IsEmpty (none_listed 2) }
+    ensures two_are_not_none { ¬ IsEmpty two_of_three }
 {}

@@ -18,7 +18,7 @@ use Rattle.mono_problem.specs.Holds.{Holds, HoldsAtom, Agrees, Satisfies}
 use Rattle.mono_problem.proofs.Wider.{IsInstance-wider, IsInstance-atom, IsInstance-clause}
 use Rattle.mono_steps.specs.declared.step.Step.{Step}
 use Rattle.mono_search.specs.Outcomes.{HasModel}
-use Rattle.mono_search.specs.Solving.{IsTrimRefutation}
+use Rattle.mono_steps.specs.Trimmed.{IsTrimRefutation}
 use Rattle.mono_best.specs.Asking.{asking, asked_atom, predicate_of, HasBoundedAtom, HasRoomToAsk}
 use Rattle.mono_best.specs.Bounds.{has_bound, with_bound, bound_at, beyond, IsBoundOf}
 use Rattle.mono_best.specs.Best.{IsBeyond, IsBest, IsMetBefore}

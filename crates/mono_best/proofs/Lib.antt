@@ -3,5 +3,4 @@ pub mod Numbers
 pub mod Optimal
 pub mod Outcomes
 pub mod Signs
-pub mod Told
 pub mod WorkedBest

@@ -24,7 +24,7 @@ use Rattle.mono_problem.specs.Holds.{Holds, HoldsAtom, Satisfies}
 use Rattle.mono_problem.proofs.SameValues.{satisfies_same}
 use Rattle.mono_steps.specs.declared.step.Step.{Step}
 use Rattle.mono_steps.proofs.StepTruth.{refutation_excludes}
-use Rattle.mono_search.specs.Solving.{IsTrimRefutation}
+use Rattle.mono_steps.specs.Trimmed.{IsTrimRefutation}
 use Rattle.mono_best.specs.Asking.{asking, asked_atom, predicate_of, HasBoundedAtom, HasRoomToAsk}
 use Rattle.mono_best.specs.Bounds.{has_bound, with_bound, weakest, beyond, IsBoundOf}
 use Rattle.mono_best.specs.Best.{IsBest}

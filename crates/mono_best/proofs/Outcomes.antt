@@ -10,7 +10,7 @@ use Rattle.mono_problem.specs.declared.atom.Predicate.TheVariants as kind
 use Rattle.mono_problem.specs.Instance.{Instance}
 use Rattle.mono_problem.specs.WellFormed.{IsInstance}
 use Rattle.mono_steps.specs.declared.step.Step.{Step}
-use Rattle.mono_search.specs.Solving.{IsTrimRefutation}
+use Rattle.mono_steps.specs.Trimmed.{IsTrimRefutation}
 use Rattle.mono_best.specs.Asking.{asking, predicate_of, HasBoundedAtom, HasRoomToAsk}
 use Rattle.mono_best.specs.Bounds.{has_bound, is_flow, weakest, IsBoundOf}
 use Rattle.mono_best.specs.Best.{IsBest, IsBeyond}

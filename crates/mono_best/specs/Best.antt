@@ -5,7 +5,8 @@ use Rattle.mono_problem.specs.Instance.{Instance}
 use Rattle.mono_steps.specs.declared.step.Step.{Step}
 use Rattle.mono_steps.specs.Switching.{literal_of}
 use Rattle.mono_search.specs.Outcomes.{HasModel}
-use Rattle.mono_search.specs.Solving.{IsTrimRefutation, IsProgress}
+use Rattle.mono_steps.specs.Trimmed.{IsTrimRefutation}
+use Rattle.mono_steps.specs.New.{IsProgress}
 use Rattle.mono_best.specs.Asking.{asking, predicate_of}
 use Rattle.mono_best.specs.Bounds.{is_flow, weakest, beyond, bound_at, IsBoundOf}
 use Rattle.mono_best.specs.declared.outcome.BestOutcome.{BestOutcome}

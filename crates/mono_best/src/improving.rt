@@ -2,7 +2,9 @@
 
 ghost use Rattle.std.specs.Prelude.{◌≡◌, ◌≤◌, ◌+◌, ℕ, IfOk};
 ghost use Rattle.mono_theory.specs.Owners.{facts_of};
-ghost use Rattle.mono_search.specs.Solving.{MakesTheories, IsTrimRefutation, IsProgress};
+ghost use Rattle.mono_search.specs.Solving.{MakesTheories};
+ghost use Rattle.mono_steps.specs.Trimmed.{IsTrimRefutation};
+ghost use Rattle.mono_steps.specs.New.{IsProgress};
 ghost use Rattle.mono_best.specs.Asking.{asking, predicate_of, HasBoundedAtom, HasRoomToAsk};
 ghost use Rattle.mono_best.specs.Bounds.{bound_at as bound_of};
 ghost use Rattle.mono_best.specs.Best.{IsOutcome, IsMetBefore};
@@ -61,7 +63,8 @@ pub fn best<T: Theory, F: Fn(&Problem) -> Result<Vec<T>, AllocError>>(
 fn spent(problem: &Problem, atom: u32, number: u64, steps: Row<Step>) -> BestOutcome
     requires atom { HasBoundedAtom problem.now atom }
     requires number { number ≤ MAX_BOUND + 1 }
-    ensures { (budget : ℕ) → IsProgress (asking problem.now atom (bound_of (predicate_of problem.now atom) number)) budget steps → IsOutcome problem.now atom budget result }
+    ensures { (budget : ℕ) → IsProgress (asking problem.now atom (bound_of (predicate_of problem.now atom) number)) budget steps
+        → IsOutcome problem.now atom budget result }
 {
     BestOutcome::Unknown {
         bound: bound_at(problem.atom(atom).predicate, number),

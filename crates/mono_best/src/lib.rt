@@ -11,8 +11,6 @@
 mod asking;
 /// Bounds by their numbers.
 mod bounds;
-/// The edges that a model has.
-mod enabled;
 /// The best bound.
 mod improving;
 /// What holds of best bounds by their definition.

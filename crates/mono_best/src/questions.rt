@@ -12,10 +12,10 @@ ghost use Rattle.mono_best.specs.Met.{IsMetFrom};
 
 use crate::asking::ask;
 use crate::bounds::bound_at;
-use crate::enabled::enabled_edges;
 use crate::measuring::number_in;
 use mono_base::limits::{MAX_BOUND, MAX_VARS};
 use mono_base::{Lit, Row};
+use mono_graph::enabled_edges;
 use mono_problem::Problem;
 use mono_search::{Solved, solve_preferring};
 use mono_steps::Step;

@@ -81,7 +81,8 @@ pub fn problems_to_ask()
     ensures no_variable_left { HasRoomToAsk (record (weighed []) { vars = MAX_VARS }) → ⊥ }
     ensures one_predicate_left { (atoms : List Atom) → length atoms + 1 ≡ MAX_ATOMS → HasRoomToAsk (record (weighed []) { atoms = atoms }) }
     ensures no_predicate_left { (atoms : List Atom) → length atoms ≡ MAX_ATOMS → HasRoomToAsk (record (weighed []) { atoms = atoms }) → ⊥ }
-    ensures one_clause_left { (clauses : List (List ℤ)) → length clauses + 1 ≡ MAX_CLAUSES → literals_total (weighed clauses) + 1 ≡ MAX_LITERALS → HasRoomToAsk (weighed clauses) }
+    ensures one_clause_left { (clauses : List (List ℤ)) → length clauses + 1 ≡ MAX_CLAUSES → literals_total (weighed clauses) + 1 ≡ MAX_LITERALS
+        → HasRoomToAsk (weighed clauses) }
     ensures no_clause_left { (clauses : List (List ℤ)) → length clauses ≡ MAX_CLAUSES → HasRoomToAsk (weighed clauses) → ⊥ }
     ensures no_literal_left { (clauses : List (List ℤ)) → literals_total (weighed clauses) ≡ MAX_LITERALS → HasRoomToAsk (weighed clauses) → ⊥ }
 {}

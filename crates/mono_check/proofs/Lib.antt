@@ -6,7 +6,6 @@ pub mod SeenMore
 pub mod Alike
 pub mod Behind
 pub mod Cuts
-pub mod Fed
 pub mod Found
 pub mod WrongAtoms
 pub mod ModelEnds

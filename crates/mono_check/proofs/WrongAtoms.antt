@@ -1,12 +1,10 @@
--- The edges that an assignment enables, and predicates judged one after the other.
-use Rattle.std.proofs.Common.{◌≡◌, ℕ, ◌+◌, ◌-◌, ◌<◌, ◌≤◌, Bool, true, false, not, ◌&&◌, List, take, length, get_or, All, refl, sym, ap, subst, ◌∙◌, ◌↔◌, inl, inr, arith}
-use Rattle.std.specs.Prelude.{IsTrue, nat_lt}
-use Rattle.std.proofs.lemmas.Bool.{lt-ltb, cases_lt, both_ways}
-use Rattle.std.proofs.lemmas.List.{ext_get_or, get_or-map, get_or-take, length-take, take_all}
+-- Predicates judged one after the other.
+use Rattle.std.proofs.Common.{◌≡◌, ℕ, ◌+◌, ◌-◌, ◌<◌, ◌≤◌, Bool, true, false, not, List, take, length, get_or, All, refl, ap, subst, ◌∙◌, ◌↔◌, inl, inr, arith}
+use Rattle.std.specs.Prelude.{IsTrue}
+use Rattle.std.proofs.lemmas.Bool.{cases_lt, both_ways}
+use Rattle.std.proofs.lemmas.List.{get_or-take, length-take, take_all}
 use Rattle.std.proofs.lemmas.List.Elements.{All-more}
-use Rattle.mono_graph.specs.declared.edge.Edge.{Edge}
-use Rattle.mono_graph.specs.Digraph.{Digraph, edge_at, enabled, no_edge, present}
-use Rattle.mono_graph.proofs.Parts.{length-part_by}
+use Rattle.mono_graph.specs.Digraph.{Digraph, edge_at, enabled, no_edge}
 use Rattle.mono_problem.specs.declared.atom.Atom.{Atom}
 use Rattle.mono_problem.specs.Instance.{Instance, graph_at, no_graph}
 use Rattle.mono_problem.specs.Read.{atom_numbered, no_atom}
@@ -16,18 +14,7 @@ use Rattle.mono_check.specs.declared.enabled.EnabledPart.{EnabledPart}
 use Rattle.mono_check.specs.Enabled.{IsEnabled}
 use Rattle.mono_check.specs.Atoms.{IsRight, IsWrong, IsFirstWrong, IsJudged}
 
--- ---- the enabled edges
-
--- the places below this one are told
-pub record AreTold (a : ℕ → Bool) (g : Digraph) (k : ℕ) (P : List Bool) : Type 0 where
-  pub size : length P ≡ length g.edges
-  pub at : (j : ℕ) → present P j ≡ (nat_lt j k && a (edge_at g j).var)
-
-pub all_told : (a : ℕ → Bool) (g : Digraph) (k : ℕ) (P : List Bool) → AreTold a g k P → k ≡ length g.edges → P ≡ enabled a g
-all_told a g k P so e = ext_get_or false P (enabled a g) (so.size ∙ sym (length-part_by (λ d. a d.var) g)) (λ i low.
-    let inside : i < length g.edges = omega (arith, so.size, low) in
-    let below : i < k = omega (arith, e, inside) in
-    so.at i ∙ ap (λ (b : Bool). b && a (edge_at g i).var) (lt-ltb i k below) ∙ sym (get_or-map (λ (d : Edge). a d.var) g.edges i no_edge false inside))
+-- ---- edges
 
 -- an edge's variable is one of the problem's
 pub var_known : (p : Instance) (ok : IsInstance p) (place k : ℕ) → place < length p.graphs → k < length (graph_at p place).edges → (edge_at (graph_at p place) k).var ≤ p.vars

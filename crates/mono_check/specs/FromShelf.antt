@@ -1,8 +1,12 @@
 -- The verdict on an answer that is read from a shelf.
-use Rattle.std.specs.Prelude.{◌≡◌, ◌≤◌, ℕ, List, ◌++◌, length, Some, IfSome, IsTrue}
-use Rattle.mono_io.specs.Reading.{IsRead, IsFront}
-use Rattle.mono_io.specs.Shelf.{ShelfView, chosen_text}
+use Rattle.std.specs.Prelude.{◌≡◌, ℕ, ◌+◌, List, ◌++◌, length, IsTrue}
+use Rattle.mono_io.specs.declared.refusal.ReadRefusal.{ReadRefusal}
+use Rattle.mono_io.specs.declared.refusal.ReadRefusal.TheVariants as why
+use Rattle.mono_io.specs.Reading.{IsRead}
+use Rattle.mono_io.specs.Shelf.{ShelfView}
 use Rattle.mono_problem.specs.Instance.{Instance}
+use Rattle.mono_check.specs.declared.refusal.CheckRefusal.{CheckRefusal}
+use Rattle.mono_check.specs.declared.refusal.CheckRefusal.TheVariants as check
 use Rattle.mono_check.specs.declared.verdict.Verdict.{Verdict}
 use Rattle.mono_check.specs.Checking.{Checking, later}
 use Rattle.mono_check.specs.Verdicts.{IsVerdict, outcome_of}
@@ -13,19 +17,22 @@ pub record IsVerdictFrom (p : Instance) (name : List ℕ) (limit : ℕ) (old new
   pub read : IsRead name limit old new text
   pub verdict : IsVerdict p text v
 
+-- why the answer wasn't read is why there is no verdict
+abbrev pub refusal_of : ReadRefusal → CheckRefusal
+refusal_of why.Memory = check.Memory
+refusal_of why.Fault = check.Fault
+refusal_of why.TooLong = check.TooLong
+
 -- ---- on the way
 
--- A live checker was fed these bytes: those before the shelf's place, no more than the limit. Where the chosen text is told, they are its front.
-pub record IsFed (shelf : ShelfView) (limit : ℕ) (c : Checking) (bytes : List ℕ) : Type 0 where
+-- a live checker that was fed nothing
+pub record IsUnfed (c : Checking) : Type 0 where
   pub live : IsTrue c.is_live
-  pub count : c.fed ≡ length bytes
-  pub within : length bytes ≤ limit
-  pub place : shelf.place ≡ Some (length bytes)
-  pub front : IfSome (chosen_text shelf) (IsFront bytes)
-  pub later : (rest : List ℕ) → later c rest ≡ outcome_of c.problem (bytes ++ rest)
+  pub none : c.fed ≡ 0
 
--- of all bytes of the chosen text
-pub record IsFedWhole (shelf : ShelfView) (limit : ℕ) (c : Checking) : Type 0 where
-  pub bytes : List ℕ
-  pub fed : IsFed shelf limit c bytes
-  pub whole : IfSome (chosen_text shelf) (λ text. bytes ≡ text)
+-- the one checker is the other after these bytes
+pub record Feeds (before : Checking) (bytes : List ℕ) (after : Checking) : Type 0 where
+  pub problem : after.problem ≡ before.problem
+  pub fed : after.fed ≡ before.fed + length bytes
+  pub live : IsTrue before.is_live → IsTrue after.is_live
+  pub later : (rest : List ℕ) → later after rest ≡ later before (bytes ++ rest)

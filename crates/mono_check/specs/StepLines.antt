@@ -31,7 +31,7 @@ steps_in ls = filter_map (λ l. step_in l.1) ls
 abbrev pub clauses_in : List (ℕ × Option Item) → List (List ℤ)
 clauses_in ls = map clause_of (steps_in ls)
 
--- how many of the steps are chains
+-- the step is a chain
 abbrev pub is_chain : Step → Bool
 is_chain (step.Lemma l) = false
 is_chain (step.Chain c) = true

@@ -47,12 +47,22 @@ impl<'a> Checker<'a> {
         ensures live { IfOk result (λ checker. IsTrue checker.is_live) }
         ensures later { IfOk result (λ checker. (rest : List ℕ) → later checker rest ≡ outcome_of problem.now rest) }
     {
-        Ok(Checker {
+        Ok(Checker::unfed(alloc, problem))
+    }
+
+    /// A checker for answers to this problem, which was fed nothing. It takes no memory.
+    pub(crate) fn unfed(alloc: Global, problem: &'a Problem) -> Checker<'a>
+        ensures problem { result.problem ≡ problem.now }
+        ensures fed { result.fed ≡ 0 }
+        ensures live { IsTrue result.is_live }
+        ensures later { (rest : List ℕ) → later result rest ≡ outcome_of problem.now rest }
+    {
+        Checker {
             problem,
             judge: Judge::new(alloc),
             fed: 0,
             is_live: true,
-        })
+        }
     }
 
     /// Takes the next bytes of the answer, and judges each line that ends among them. Where no memory is found, the checker

@@ -1,8 +1,7 @@
 //! The part of a graph that an assignment enables, and whether predicates hold in it.
 
-ghost use Rattle.std.specs.Prelude.{◌≡◌, ◌<◌, ◌≤◌, ◌↔◌, ◌==◌, ◌&&◌, ◌||◌, ℕ, All, IsTrue, IfOk, IfSome, OnOk, length};
+ghost use Rattle.std.specs.Prelude.{◌≡◌, ◌<◌, ◌≤◌, ◌↔◌, All, IsTrue, IfOk, IfSome, OnOk, length};
 ghost use Rattle.mono_base.specs.Literal.{value_in};
-ghost use Rattle.mono_graph.specs.Digraph.{edge_at, enabled, present};
 ghost use Rattle.mono_problem.specs.Instance.{graph_at};
 ghost use Rattle.mono_problem.specs.declared.atom.Predicate.TheVariants as kind;
 ghost use Rattle.mono_problem.specs.WellFormed.{IsOver};
@@ -16,7 +15,7 @@ use crate::predicates::{carries, is_acyclic, reaches, reaches_within, spans};
 use crate::question::{WalkQuestion, keep_answers, targets_of};
 use mono_cycles::CycleFinder;
 use mono_flows::FlowFinder;
-use mono_graph::{Graph, Limit, Part};
+use mono_graph::{Graph, Limit, Part, enabled_edges};
 use mono_paths::WalkFinder;
 use mono_problem::{Atom, Predicate, Problem};
 use mono_trees::TreeFinder;
@@ -43,30 +42,6 @@ fn value(model: &[bool], var: u32) -> bool
     ensures { result ≡ value_in model.now var }
 {
     model[var as usize - 1]
-}
-
-/// Puts the place into the part, where it is to be there.
-fn put_if(part: &mut Part, place: u32, is_there: bool)
-    requires { place < length part.old }
-    ensures size { length part.new ≡ length part.old }
-    ensures places { (k : ℕ) → present part.new k ≡ ((is_there && k == place) || present part.old k) }
-{
-    if is_there {
-        part.put(place);
-    }
-}
-
-/// The edges whose variable is true.
-fn enabled_edges(alloc: Global, graph: &Graph, model: &[bool]) -> Result<Part, AllocError>
-    requires { (k : ℕ) → k < length graph.now.edges → (edge_at graph.now k).var ≤ length model.now }
-    ensures { IfOk result (λ part. part ≡ enabled (value_in model.now) graph.now) }
-{
-    let mut part = Part::none(alloc, graph.edge_count())?;
-    for place in 0..graph.edge_count() {
-        let is_there = value(model, graph.edge(place).var);
-        put_if(&mut part, place, is_there);
-    }
-    Ok(part)
 }
 
 impl EnabledPart {

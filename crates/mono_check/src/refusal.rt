@@ -1,7 +1,8 @@
 ghost use Rattle.std.specs.Prelude.{◌≡◌};
-ghost use Rattle.mono_check.specs.declared.refusal.CheckRefusal.TheVariants.{Memory, Fault};
+ghost use Rattle.mono_check.specs.FromShelf.{refusal_of};
+ghost use Rattle.mono_check.specs.declared.refusal.CheckRefusal.TheVariants.{Memory};
 
-use mono_io::Failed;
+use mono_io::ReadRefusal;
 use std::alloc::AllocError;
 
 /// Why an answer on a shelf got no verdict.
@@ -23,10 +24,14 @@ impl From<AllocError> for CheckRefusal {
     }
 }
 
-impl From<Failed> for CheckRefusal {
-    ghost from_gives = { λ _ refusal. refusal ≡ Fault };
+impl From<ReadRefusal> for CheckRefusal {
+    ghost from_gives = { λ given refusal. refusal ≡ refusal_of given };
 
-    fn from(_: Failed) -> Self {
-        CheckRefusal::Fault
+    fn from(refusal: ReadRefusal) -> Self {
+        match refusal {
+            ReadRefusal::Memory => CheckRefusal::Memory,
+            ReadRefusal::Fault => CheckRefusal::Fault,
+            ReadRefusal::TooLong => CheckRefusal::TooLong,
+        }
     }
 }

@@ -113,10 +113,7 @@ fn is_true(set: &LitSet, var: u32) -> bool
     requires limit { var ≤ MAX_VARS }
     ensures { result ≡ has_lit set.now.members (pos var) }
 {
-    match Lit::new(var as i32) {
-        Some(lit) => set.has(lit),
-        None => unreachable!(),
-    }
+    set.has(Lit::of(var, true))
 }
 
 /// The values of the variables, variable 1 first.

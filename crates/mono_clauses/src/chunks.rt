@@ -59,7 +59,8 @@ pub fn put(
     requires top { slice_index_or heads.old.items slot 4294967295 % 8 ≢ 7 → slice_index_or heads.old.items slot 4294967295 < 8 * length links.old.items }
     requires some { slice_index_or heads.old.items slot 4294967295 % 8 ≡ 7 → 0 < length free_chunks.old.items }
     requires free_chunks { (x : ℕ) → 1 ≤ times x free_chunks.old.items → (x % 8 ≡ 0) × (x < 8 * length links.old.items) }
-    ensures is { Put cells.old.items links.old.items free_chunks.old.items heads.old.items slot watcher cells.new.items links.new.items free_chunks.new.items heads.new.items }
+    ensures is { Put cells.old.items links.old.items free_chunks.old.items heads.old.items slot watcher
+        cells.new.items links.new.items free_chunks.new.items heads.new.items }
     ensures capacity { vec_capacity free_chunks.new ≡ vec_capacity free_chunks.old }
 {
     let top = heads[slot];
@@ -82,7 +83,8 @@ pub fn remove(
     requires place { place < 8 * length links.now.items }
     requires top { slice_index_or heads.old.items slot 4294967295 < 8 * length links.now.items }
     requires room { slice_index_or heads.old.items slot 4294967295 % 8 ≡ 0 → vec_len free_chunks.old < vec_capacity free_chunks.old }
-    ensures is { Removed cells.old.items links.now.items free_chunks.old.items heads.old.items slot place cells.new.items free_chunks.new.items heads.new.items }
+    ensures is { Removed cells.old.items links.now.items free_chunks.old.items heads.old.items slot place
+        cells.new.items free_chunks.new.items heads.new.items }
     ensures capacity { vec_capacity free_chunks.old ≤ vec_capacity free_chunks.new }
 {
     let top = heads[slot];
@@ -112,7 +114,8 @@ pub fn reserve_chunk(
     ensures cells { cells.new.items ≡ cells.old.items }
     ensures links { links.new.items ≡ links.old.items }
     ensures free_chunks { free_chunks.new.items ≡ free_chunks.old.items }
-    ensures room { OnOk result ((vec_len cells.new + 8 ≤ vec_capacity cells.new) × (vec_len links.new < vec_capacity links.new) × (vec_len links.new < vec_capacity free_chunks.new)) }
+    ensures room { OnOk result ((vec_len cells.new + 8 ≤ vec_capacity cells.new) × (vec_len links.new < vec_capacity links.new)
+        × (vec_len links.new < vec_capacity free_chunks.new)) }
     ensures capacity { vec_capacity free_chunks.old ≤ vec_capacity free_chunks.new }
 {
     cells.reserve(8)?;

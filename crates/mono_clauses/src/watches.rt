@@ -48,7 +48,9 @@ impl Model for Watches {
 
     ghost view = { λ s. record { vars = s.vars; watched = watched_of s.busy.items s.lits.items; ahead = watchers_at s.cells.items s.rest.places } };
 
-    ghost invariant = { λ s. IsChunked s.vars s.links.items s.cells.items s.free_chunks.items s.heads.items (watched_of s.busy.items s.lits.items) s.list s.rest.places × (length s.links.items ≤ vec_capacity s.free_chunks) × (length s.busy.items ≡ length s.lits.items) × (8 * length s.links.items ≤ length s.lits.items + 8 * (2 * s.vars + 2) + 7) };
+    ghost invariant = { λ s. IsChunked s.vars s.links.items s.cells.items s.free_chunks.items s.heads.items
+        (watched_of s.busy.items s.lits.items) s.list s.rest.places × (length s.links.items ≤ vec_capacity s.free_chunks)
+        × (length s.busy.items ≡ length s.lits.items) × (8 * length s.links.items ≤ length s.lits.items + 8 * (2 * s.vars + 2) + 7) };
 }
 
 impl Watches {
@@ -256,7 +258,9 @@ fn reserve_watchers(
     ensures cells { cells.new.items ≡ cells.old.items }
     ensures links { links.new.items ≡ links.old.items }
     ensures free_chunks { free_chunks.new.items ≡ free_chunks.old.items }
-    ensures room { OnOk result ((vec_len busy.new + 2 ≤ vec_capacity busy.new) × (vec_len lits.new + 2 ≤ vec_capacity lits.new) × (vec_len cells.new + 8 ≤ vec_capacity cells.new) × (vec_len links.new < vec_capacity links.new) × (vec_len links.new < vec_capacity free_chunks.new)) }
+    ensures room { OnOk result ((vec_len busy.new + 2 ≤ vec_capacity busy.new) × (vec_len lits.new + 2 ≤ vec_capacity lits.new)
+        × (vec_len cells.new + 8 ≤ vec_capacity cells.new) × (vec_len links.new < vec_capacity links.new)
+        × (vec_len links.new < vec_capacity free_chunks.new)) }
     ensures capacity { vec_capacity free_chunks.old ≤ vec_capacity free_chunks.new }
 {
     busy.reserve(2)?;

@@ -1,6 +1,6 @@
 -- What is found of a bound: that `check` accepts what `best` writes of it, two outcomes, and what a run of `best` or of `ask` shows.
-use Rattle.std.proofs.Common.{◌≡◌, ◌⊎◌, ◌<◌, ◌^◌, ◌+◌, ℕ, ℤ, pos, Bool, List, [], ◌∷◌, Option, Some, ◌++◌, length, refl, sym, ap, subst, ◌∙◌, inl, inr}
-use Rattle.std.specs.Prelude.{IsTrue, codes}
+use Rattle.std.proofs.Common.{◌≡◌, ◌<◌, ◌^◌, ◌+◌, ℕ, ℤ, pos, Bool, true, List, [], ◌∷◌, Option, Some, ◌++◌, length, refl, sym, subst, inl, inr}
+use Rattle.std.specs.Prelude.{codes}
 use Rattle.std.specs.Fmt.{signed_decimal}
 use Rattle.std.specs.Io.KnownBytes.{append_known}
 use Rattle.std.proofs.lemmas.Bool.{and_parts}
@@ -16,16 +16,15 @@ use Rattle.mono_steps.specs.declared.step.Step.{Step}
 use Rattle.mono_steps.specs.Steps.{are_justified, ends_empty}
 use Rattle.mono_steps.specs.Journals.{chain_count}
 use Rattle.mono_search.specs.Outcomes.{HasModel}
-use Rattle.mono_search.specs.Solving.{IsTrimRefutation, IsProgress}
+use Rattle.mono_steps.specs.Trimmed.{IsTrimRefutation}
+use Rattle.mono_steps.specs.New.{IsProgress}
 use Rattle.mono_answer.specs.declared.kind.Kind.TheVariants as kind
-use Rattle.mono_answer.specs.declared.answer.Answer.{Answer}
 use Rattle.mono_answer.specs.declared.answer.Answer.TheVariants as answer
 use Rattle.mono_answer.specs.Printed.{numbers_text, with_zero, literals_from, answer_text}
 use Rattle.mono_check.specs.declared.verdict.Verdict.TheVariants as verdict
 use Rattle.mono_check.specs.Verdicts.{IsVerdict}
 use Rattle.mono_check.proofs.Accepted.{refutation_iff, progress_iff, model_iff}
 use Rattle.mono_check.proofs.Tokens.{numbers_tokens}
-use Rattle.mono_core.specs.declared.outcome.CoreOutcome.{CoreOutcome}
 use Rattle.mono_best.specs.Asking.{asking, predicate_of, HasBoundedAtom, HasRoomToAsk}
 use Rattle.mono_best.specs.Bounds.{beyond, weakest, IsBoundOf}
 use Rattle.mono_best.specs.Best.{IsOutcome, IsBest, IsBeyond, IsOpen}
@@ -41,19 +40,17 @@ use Rattle.mono_cmd.specs.declared.command.Command.TheVariants as command
 use Rattle.mono_cmd.specs.declared.command.TheConstants.{DEFAULT_BUDGET}
 use Rattle.mono_cmd.specs.declared.status.Status.{Status}
 use Rattle.mono_cmd.specs.declared.status.Status.TheVariants as status
-use Rattle.mono_cmd.specs.declared.summary.Summary.{Summary}
 use Rattle.mono_cmd.specs.declared.ending.Ending.{Ending}
 use Rattle.mono_cmd.specs.declared.ending.Ending.TheVariants as ending
 use Rattle.mono_cmd.specs.CoreTexts.{note}
 use Rattle.mono_cmd.specs.BestTexts.{best_text, values_note}
-use Rattle.mono_cmd.specs.Endings.{status_of, text_of, best_status}
+use Rattle.mono_cmd.specs.Endings.{status_of, best_status}
 use Rattle.mono_cmd.specs.Solved.{IsBounding}
-use Rattle.mono_cmd.specs.Runs.{ComesTo, Ends, Writes, Runs, HasProblem, Bounds, Asks, IsBestBy, AreConsistentBounds}
+use Rattle.mono_cmd.specs.Runs.{IsBounded, IsAsked, ComesTo, Runs, Bounds, Asks, IsBestBy, AreConsistentBounds}
 use Rattle.mono_cmd.proofs.Format.{steps_within}
 use Rattle.mono_cmd.proofs.Notes.{KeepsSteps, keeps_both, keeps_note, keeps_model, open_word}
 use Rattle.mono_cmd.proofs.Solutions.{printed_model, printed_steps, few_steps}
-use Rattle.mono_cmd.proofs.Solves.{is_answer_status, answered}
-use Rattle.mono_cmd.proofs.Sound.{appended, its_problem}
+use Rattle.mono_cmd.proofs.Replies.{is_reply, not_both, end_behind, appended, shown}
 
 -- ---- the lines before the answer
 
@@ -148,196 +145,109 @@ pub consistent_bounds : (p : Instance) (budget n : ℕ) (a b : BestOutcome) → 
 consistent_bounds p budget n (bounded.Best b model steps) (bounded.Best c other later) ok atom room x y = one_best p n b c model other steps later ok atom room x y
 consistent_bounds p budget n (bounded.Best b model steps) (bounded.Never later) ok atom room x y = best_or_never p n b model steps later ok atom room x y
 consistent_bounds p budget n (bounded.Best b model steps) (bounded.Beyond other) ok atom room x y = best_or_beyond p n b model other steps ok atom room x y
-consistent_bounds p budget n (bounded.Best b model steps) (bounded.Unknown c later) ok atom room x y = tt
 consistent_bounds p budget n (bounded.Never steps) (bounded.Best c other later) ok atom room x y = best_or_never p n c other later steps ok atom room y x
-consistent_bounds p budget n (bounded.Never steps) (bounded.Never later) ok atom room x y = tt
 consistent_bounds p budget n (bounded.Never steps) (bounded.Beyond other) ok atom room x y = never_or_beyond p n other steps ok atom room x y
-consistent_bounds p budget n (bounded.Never steps) (bounded.Unknown c later) ok atom room x y = tt
 consistent_bounds p budget n (bounded.Beyond model) (bounded.Best c other later) ok atom room x y = best_or_beyond p n c other model later ok atom room y x
 consistent_bounds p budget n (bounded.Beyond model) (bounded.Never later) ok atom room x y = never_or_beyond p n model later ok atom room y x
-consistent_bounds p budget n (bounded.Beyond model) (bounded.Beyond other) ok atom room x y = tt
-consistent_bounds p budget n (bounded.Beyond model) (bounded.Unknown c later) ok atom room x y = tt
-consistent_bounds p budget n (bounded.Unknown b steps) o ok atom room x y = tt
+consistent_bounds p budget n a b ok atom room x y = tt
 
--- ---- what a run ended with
+-- ---- what a run of `best` ended with
 
--- an ending that is neither one at FILE nor one behind it
-neither : (file : List ℕ) (old new : ShelfView) → ⊥ ⊎ ((p : Instance) × (shelf : ShelfView) × HasProblem file old shelf p × (⊥ × (new ≡ shelf))) → ⊥
-neither file old new (inl ends) = ends
-neither file old new (inr (p, shelf, has, end)) = end.0
+abbrev IsFound : Instance → ℕ → BestOutcome → Type 0
+IsFound p n o = HasBoundedAtom p n × HasRoomToAsk p × IsBounding p DEFAULT_BUDGET n o
 
-record IsFrom (file : List ℕ) (n : ℕ) (old : ShelfView) (o : BestOutcome) (q : Instance) : Type 0 where
-  read : ShelfView
-  has : HasProblem file old read q
-  atom : HasBoundedAtom q n
-  room : HasRoomToAsk q
-  bounds : IsBounding q DEFAULT_BUDGET n o
+bounded_as : (p : Instance) (n : ℕ) (e : Ending) → IsBounded p n e → is_reply (status_of e) ≡ true → (o : BestOutcome) × (e ≡ ending.Bounded o) × IsFound p n o
+bounded_as p n (ending.Bounded o) h reply = (o, refl, h)
+bounded_as p n (ending.Unasked r) h reply = absurd (not_both status.Refused status.Refused refl reply refl)
+bounded_as p n e h reply = absurd h
 
-from_file : (file : List ℕ) (n : ℕ) (old new : ShelfView) (o : BestOutcome) → ComesTo (Some (command.Best file n)) old new (ending.Bounded o) → (q : Instance) × IsFrom file n old o q
-from_file file n old new o (inl ends) = absurd ends
-from_file file n old new o (inr (q, read, has, ((atom, room, bounds), at))) = (q, record { read = read; has = has; atom = atom; room = room; bounds = bounds })
+-- what each outcome shows, by its status
+abbrev Shows : Instance → ℕ → Status → Type 0
+Shows p n status.Unsatisfiable = IsNeverMet p n
+Shows p n status.Unknown = DEFAULT_BUDGET < 3 ^ (p.vars + 1)
+Shows p n s = Unit {0}
 
--- what a run of `best` over a told FILE ended with
-record HasOutcome (p : Instance) (n : ℕ) (s : Status) (before now : Option (List ℕ)) : Type 0 where
-  outcome : BestOutcome
-  status : s ≡ best_status outcome
-  wrote : now ≡ append_known before (best_text outcome)
-  atom : HasBoundedAtom p n
-  room : HasRoomToAsk p
-  bounds : IsBounding p DEFAULT_BUDGET n outcome
+bound_shows : (p : Instance) (n : ℕ) (o : BestOutcome) → IsInstance p → IsFound p n o → Shows p n (best_status o)
+bound_shows p n (bounded.Best b model steps) ok h = tt
+bound_shows p n (bounded.Never steps) ok h = never_met p n steps ok h.0 h.1 h.2.right
+bound_shows p n (bounded.Beyond model) ok h = tt
+bound_shows p n (bounded.Unknown b steps) ok h = h.2.right.progress.few
 
-its_outcome : (found : Option Command) (old new : ShelfView) (s : Status) (before now : Option (List ℕ)) (p : Instance) (n : ℕ) (e : Ending) → Ends found old new e → s ≡ status_of e → now ≡ append_known before (text_of e)
-    → IsTrue (is_answer_status s) → Bounds found old.texts p n → HasOutcome p n s before now
-its_outcome found old new s before now p n e ends is wrote able runs =
-    elim (answered e s is able) [ inl a ↦ absurd (by_answer a.0 a.1) | inr other ↦ elim other [ inl t ↦ absurd (by_summary t.0 t.1) | inr found ↦ elim found [ inl o ↦ absurd (by_core o.0 o.1) | inr o ↦ by_outcome o.0 o.1 ] ] ]
-  where
-    its_end : (d : Ending) → e ≡ d → Ends (Some (command.Best runs.file n)) old new d
-    its_end d same = subst (λ (c : Option Command). Ends c old new d) runs.is (subst (λ (x : Ending). Ends found old new x) same ends)
-
-    by_answer : (a : Answer) → e ≡ ending.Solved a → ⊥
-    by_answer a same = neither runs.file old new (its_end (ending.Solved a) same)
-
-    by_summary : (t : Summary) → e ≡ ending.Summed t → ⊥
-    by_summary t same = neither runs.file old new (its_end (ending.Summed t) same)
-
-    by_core : (o : CoreOutcome) → e ≡ ending.Narrowed o → ⊥
-    by_core o same = neither runs.file old new (its_end (ending.Narrowed o) same)
-
-    by_outcome : (o : BestOutcome) → e ≡ ending.Bounded o → HasOutcome p n s before now
-    by_outcome o same =
-        let from = from_file runs.file n old new o (its_end (ending.Bounded o) same) in
-        let one = its_problem runs.file runs.text old from.1.read p from.0 runs.told runs.stands from.1.has in
-        record {
-          outcome = o;
-          status = is ∙ ap status_of same;
-          wrote = wrote ∙ ap (λ (d : Ending). append_known before (text_of d)) same;
-          atom = subst (λ (q : Instance). HasBoundedAtom q n) one from.1.atom;
-          room = subst HasRoomToAsk one from.1.room;
-          bounds = subst (λ (q : Instance). IsBounding q DEFAULT_BUDGET n o) one from.1.bounds;
-        }
+-- what is said of its text
+its_text : (p : Instance) (n : ℕ) (written : List ℕ) (o : BestOutcome) → IsInstance p → IsFound p n o → best_text o ≡ written → IsBestBy (best_status o) p n written
+its_text p n written (bounded.Best b model steps) ok h is =
+    inl (b, model, steps, h.2.right, optimal p n b model steps ok h.0 h.1 h.2.right, sym is, subst (λ (text : List ℕ). IsVerdict (asking p n (beyond (predicate_of p n) b)) text verdict.Refutation) is h.2.accepted)
+its_text p n written (bounded.Never steps) ok h is =
+    (steps, never_met p n steps ok h.0 h.1 h.2.right, sym is, subst (λ (text : List ℕ). IsVerdict (asking p n (weakest (predicate_of p n))) text verdict.Refutation) is h.2.accepted)
+its_text p n written (bounded.Beyond model) ok h is =
+    inr (model, h.2.right, sym is, subst (λ (text : List ℕ). IsVerdict (asking p n (pos (MAX_BOUND + 1))) text verdict.Model) is h.2.accepted)
+its_text p n written (bounded.Unknown b steps) ok h is = (
+  b,
+  steps,
+  h.2.right,
+  sym is,
+  subst (λ (text : List ℕ). IsVerdict (asking p n b) text (verdict.Progress DEFAULT_BUDGET)) is
+      (subst (λ (k : ℕ). IsVerdict (asking p n b) (best_text (bounded.Unknown b steps)) (verdict.Progress k)) h.2.right.progress.chains h.2.accepted),
+)
 
 -- ---- as clauses of a run of `best`
 
 module _ (found : Option Command) (old new : ShelfView) (s : Status) (before now : Option (List ℕ)) (runs : Runs found old new s before now) (p : Instance) (n : ℕ) (bounds : Bounds found old.texts p n) where
-  with_status : (t : Status) → IsTrue (is_answer_status t) → (t ≡ status_of runs.ending) × (now ≡ append_known before (text_of runs.ending)) → HasOutcome p n t before now
-  with_status t able w = its_outcome found old new t before now p n runs.ending runs.ends w.0 w.1 able bounds
-
-  writes_as : (t : Status) → s ≡ t → Writes runs.ending t before now
-  writes_as t is = subst (λ (u : Status). Writes runs.ending u before now) is runs.writes
+  came : (e : Ending) → ComesTo found old new e → is_reply (status_of e) ≡ true → (o : BestOutcome) × (e ≡ ending.Bounded o) × IsFound p n o
+  came e comes reply =
+      let over : ComesTo (Some (command.Best bounds.file n)) old new e = subst (λ (c : Option Command). ComesTo c old new e) bounds.is comes in
+      bounded_as p n e (end_behind bounds.file bounds.text old new e p (λ q. IsBounded q n e) bounds.told bounds.stands reply over) reply
 
   well_formed : IsInstance p
   well_formed = stands_well_formed bounds.text p bounds.stands
 
+  by_outcome : (Claim : Status → Type 0) → ((o : BestOutcome) → IsFound p n o → now ≡ append_known before (best_text o) → Claim (best_status o)) → (t : Status) → is_reply t ≡ true → s ≡ t → Claim t
+  by_outcome = shown found old new s before now runs BestOutcome (λ o. ending.Bounded o) (IsFound p n) came
+
+  shows : (t : Status) → is_reply t ≡ true → s ≡ t → Shows p n t
+  shows = by_outcome (Shows p n) (λ o h w. bound_shows p n o well_formed h)
+
   pub best_is_never_met : s ≡ status.Unsatisfiable → IsNeverMet p n
-  best_is_never_met is = let h = with_status status.Unsatisfiable refl (writes_as status.Unsatisfiable is) in by_outcome h.outcome h.status h.atom h.room h.bounds
-    where
-      by_outcome : (o : BestOutcome) → status.Unsatisfiable ≡ best_status o → HasBoundedAtom p n → HasRoomToAsk p → IsBounding p DEFAULT_BUDGET n o → IsNeverMet p n
-      by_outcome (bounded.Best b model steps) e atom room h = absurd cc
-      by_outcome (bounded.Never steps) e atom room h = never_met p n steps well_formed atom room h.right
-      by_outcome (bounded.Beyond model) e atom room h = absurd cc
-      by_outcome (bounded.Unknown b steps) e atom room h = absurd cc
+  best_is_never_met = shows status.Unsatisfiable refl
 
   pub best_unknown : s ≡ status.Unknown → DEFAULT_BUDGET < 3 ^ (p.vars + 1)
-  best_unknown is = let h = with_status status.Unknown refl (writes_as status.Unknown is) in by_outcome h.outcome h.status h.bounds
+  best_unknown = shows status.Unknown refl
+
+  pub its_bound : (there written : List ℕ) → before ≡ Some there → now ≡ Some (there ++ written) → IsBestBy s p n written
+  its_bound there written held wrote = by_status s refl
     where
-      by_outcome : (o : BestOutcome) → status.Unknown ≡ best_status o → IsBounding p DEFAULT_BUDGET n o → DEFAULT_BUDGET < 3 ^ (p.vars + 1)
-      by_outcome (bounded.Best b model steps) e h = absurd cc
-      by_outcome (bounded.Never steps) e h = absurd cc
-      by_outcome (bounded.Beyond model) e h = absurd cc
-      by_outcome (bounded.Unknown b steps) e h = h.right.progress.few
+      whole : (t : Status) → is_reply t ≡ true → s ≡ t → IsBestBy t p n written
+      whole = by_outcome (λ t. IsBestBy t p n written) (λ o h w. its_text p n written o well_formed h (appended before now there written (best_text o) held wrote w))
 
-  module _ (there written : List ℕ) (held : before ≡ Some there) (wrote : now ≡ Some (there ++ written)) where
-    whole : (t : Status) (h : HasOutcome p n t before now) → best_text h.outcome ≡ written
-    whole t h = appended before now there written (best_text h.outcome) held wrote h.wrote
-
-    pub its_bound : IsBestBy s p n written
-    its_bound = by_status s runs.writes
-      where
-        as_met : (o : BestOutcome) → status.Satisfiable ≡ best_status o → HasBoundedAtom p n → HasRoomToAsk p → IsBounding p DEFAULT_BUDGET n o → best_text o ≡ written → IsBestBy status.Satisfiable p n written
-        as_met (bounded.Best b model steps) e atom room h is =
-            inl (b, model, steps, h.right, optimal p n b model steps well_formed atom room h.right, sym is, subst (λ (text : List ℕ). IsVerdict (asking p n (beyond (predicate_of p n) b)) text verdict.Refutation) is h.accepted)
-        as_met (bounded.Never steps) e atom room h is = absurd cc
-        as_met (bounded.Beyond model) e atom room h is =
-            inr (model, h.right, sym is, subst (λ (text : List ℕ). IsVerdict (asking p n (pos (MAX_BOUND + 1))) text verdict.Model) is h.accepted)
-        as_met (bounded.Unknown b steps) e atom room h is = absurd cc
-
-        as_never : (o : BestOutcome) → status.Unsatisfiable ≡ best_status o → HasBoundedAtom p n → HasRoomToAsk p → IsBounding p DEFAULT_BUDGET n o → best_text o ≡ written → IsBestBy status.Unsatisfiable p n written
-        as_never (bounded.Best b model steps) e atom room h is = absurd cc
-        as_never (bounded.Never steps) e atom room h is =
-            (steps, never_met p n steps well_formed atom room h.right, sym is, subst (λ (text : List ℕ). IsVerdict (asking p n (weakest (predicate_of p n))) text verdict.Refutation) is h.accepted)
-        as_never (bounded.Beyond model) e atom room h is = absurd cc
-        as_never (bounded.Unknown b steps) e atom room h is = absurd cc
-
-        as_open : (o : BestOutcome) → status.Unknown ≡ best_status o → IsBounding p DEFAULT_BUDGET n o → best_text o ≡ written → IsBestBy status.Unknown p n written
-        as_open (bounded.Best b model steps) e h is = absurd cc
-        as_open (bounded.Never steps) e h is = absurd cc
-        as_open (bounded.Beyond model) e h is = absurd cc
-        as_open (bounded.Unknown b steps) e h is = (
-          b,
-          steps,
-          h.right,
-          sym is,
-          subst (λ (text : List ℕ). IsVerdict (asking p n b) text (verdict.Progress DEFAULT_BUDGET)) is
-              (subst (λ (k : ℕ). IsVerdict (asking p n b) (best_text (bounded.Unknown b steps)) (verdict.Progress k)) h.right.progress.chains h.accepted),
-        )
-
-        by_status : (t : Status) → Writes runs.ending t before now → IsBestBy t p n written
-        by_status status.Satisfiable w = let h = with_status status.Satisfiable refl w in as_met h.outcome h.status h.atom h.room h.bounds (whole status.Satisfiable h)
-        by_status status.Unsatisfiable w = let h = with_status status.Unsatisfiable refl w in as_never h.outcome h.status h.atom h.room h.bounds (whole status.Unsatisfiable h)
-        by_status status.Unknown w = let h = with_status status.Unknown refl w in as_open h.outcome h.status h.bounds (whole status.Unknown h)
-        by_status status.Accepted w = tt
-        by_status status.Printed w = tt
-        by_status status.Rejected w = tt
-        by_status status.Words w = tt
-        by_status status.Refused w = tt
-        by_status status.ReadFault w = tt
-        by_status status.WriteFault w = tt
-        by_status status.Memory w = tt
-        by_status status.TooLong w = tt
+      by_status : (t : Status) → s ≡ t → IsBestBy t p n written
+      by_status status.Satisfiable is = whole status.Satisfiable refl is
+      by_status status.Unsatisfiable is = whole status.Unsatisfiable refl is
+      by_status status.Unknown is = whole status.Unknown refl is
+      by_status t is = tt
 
 -- ---- as a clause of a run of `ask`
 
-record IsPrinted (file : List ℕ) (n : ℕ) (b : ℤ) (old : ShelfView) (text : List ℕ) (q : Instance) : Type 0 where
-  read : ShelfView
-  has : HasProblem file old read q
-  atom : HasBoundedAtom q n
-  bound : IsBoundOf (predicate_of q n) b
-  room : HasRoomToAsk q
-  is : text ≡ printed (asking q n b)
+abbrev IsPrintedAsk : Instance → ℕ → ℤ → List ℕ → Type 0
+IsPrintedAsk p n b text = HasBoundedAtom p n × IsBoundOf (predicate_of p n) b × HasRoomToAsk p × (text ≡ printed (asking p n b))
 
-asked_text : (file : List ℕ) (n : ℕ) (b : ℤ) (old new : ShelfView) (text : List ℕ) → ComesTo (Some (command.Ask file n b)) old new (ending.Printed text) → (q : Instance) × IsPrinted file n b old text q
-asked_text file n b old new text (inl ends) = absurd ends
-asked_text file n b old new text (inr (q, read, has, ((atom, bound, room, is), at))) = (q, record { read = read; has = has; atom = atom; bound = bound; room = room; is = is })
+asked_as : (p : Instance) (n : ℕ) (b : ℤ) (e : Ending) → IsAsked p n b e → is_reply (status_of e) ≡ true → (text : List ℕ) × (e ≡ ending.Printed text) × IsPrintedAsk p n b text
+asked_as p n b (ending.Printed text) h reply = (text, refl, h)
+asked_as p n b (ending.Unasked r) h reply = absurd (not_both status.Refused status.Refused refl reply refl)
+asked_as p n b e h reply = absurd h
 
-abbrev HasPrinted : List ℕ → ℕ → ℤ → ShelfView → ShelfView → Ending → Type 0
-HasPrinted file n b old new e = (text : List ℕ) × (e ≡ ending.Printed text) × ComesTo (Some (command.Ask file n b)) old new (ending.Printed text)
-
-only_printed : (file : List ℕ) (n : ℕ) (b : ℤ) (old new : ShelfView) (e : Ending) → status.Printed ≡ status_of e → Ends (Some (command.Ask file n b)) old new e → HasPrinted file n b old new e
-only_printed file n b old new (ending.Printed text) is ends = (text, refl, ends)
-only_printed file n b old new (ending.Solved a) is ends = absurd (neither file old new ends)
-only_printed file n b old new (ending.Summed t) is ends = absurd (neither file old new ends)
-only_printed file n b old new (ending.Judged v) is ends = absurd (neither file old new ends)
-only_printed file n b old new (ending.Narrowed o) is ends = absurd (neither file old new ends)
-only_printed file n b old new (ending.Bounded o) is ends = absurd (neither file old new ends)
-only_printed file n b old new (ending.Unasked r) is ends = absurd cc
-only_printed file n b old new (ending.Refused line fault) is ends = absurd cc
-only_printed file n b old new ending.Words is ends = absurd cc
-only_printed file n b old new ending.ReadFault is ends = absurd cc
-only_printed file n b old new ending.Memory is ends = absurd cc
-only_printed file n b old new ending.TooLong is ends = absurd cc
-
-printed_asks : (file : List ℕ) (n : ℕ) (b : ℤ) (old : ShelfView) (text : List ℕ) (q : Instance) → IsPrinted file n b old text q → Stands text (asking q n b)
-printed_asks file n b old text q h =
-    let ok = asking-instance q n b (stands_well_formed h.has.text q h.has.stands) h.atom h.room h.bound in
-    subst (λ (t : List ℕ). Stands t (asking q n b)) (sym h.is) (printed_stands (asking q n b) ok)
+printed_asks : (p : Instance) (n : ℕ) (b : ℤ) (text : List ℕ) → IsInstance p → IsPrintedAsk p n b text → Stands text (asking p n b)
+printed_asks p n b text ok h = subst (λ (t : List ℕ). Stands t (asking p n b)) (sym h.3) (printed_stands (asking p n b) (asking-instance p n b ok h.0 h.2 h.1))
 
 pub asked : (found : Option Command) (old new : ShelfView) (s : Status) (before now : Option (List ℕ)) → Runs found old new s before now → (p : Instance) (n : ℕ) (b : ℤ) → Asks found old.texts p n b → s ≡ status.Printed
     → (there written : List ℕ) → before ≡ Some there → now ≡ Some (there ++ written) → Stands written (asking p n b)
 asked found old new s before now runs p n b asks is there written held wrote =
-    let w : (status.Printed ≡ status_of runs.ending) × (now ≡ append_known before (text_of runs.ending)) = subst (λ (u : Status). Writes runs.ending u before now) is runs.writes in
-    let ends : Ends (Some (command.Ask asks.file n b)) old new runs.ending = subst (λ (c : Option Command). Ends c old new runs.ending) asks.is runs.ends in
-    let only = only_printed asks.file n b old new runs.ending w.0 ends in
-    let from = asked_text asks.file n b old new only.0 only.2 in
-    let one = its_problem asks.file asks.text old from.1.read p from.0 asks.told asks.stands from.1.has in
-    let same : only.0 ≡ written = sym (ap text_of only.1) ∙ appended before now there written (text_of runs.ending) held wrote w.1 in
-    subst (λ (t : List ℕ). Stands t (asking p n b)) same (subst (λ (q : Instance). Stands only.0 (asking q n b)) one (printed_asks asks.file n b old only.0 from.0 from.1))
+    shown found old new s before now runs (List ℕ) (λ text. ending.Printed text) (IsPrintedAsk p n b) came (λ t. Stands written (asking p n b)) stands status.Printed refl is
+  where
+    came : (e : Ending) → ComesTo found old new e → is_reply (status_of e) ≡ true → (text : List ℕ) × (e ≡ ending.Printed text) × IsPrintedAsk p n b text
+    came e comes reply =
+        let over : ComesTo (Some (command.Ask asks.file n b)) old new e = subst (λ (c : Option Command). ComesTo c old new e) asks.is comes in
+        asked_as p n b e (end_behind asks.file asks.text old new e p (λ q. IsAsked q n b e) asks.told asks.stands reply over) reply
+
+    stands : (text : List ℕ) → IsPrintedAsk p n b text → now ≡ append_known before text → Stands written (asking p n b)
+    stands text h w =
+        subst (λ (t : List ℕ). Stands t (asking p n b)) (appended before now there written text held wrote w) (printed_asks p n b text (stands_well_formed asks.text p asks.stands) h)

@@ -22,7 +22,7 @@ use Rattle.mono_check.specs.declared.verdict.Verdict.TheVariants as verdict
 use Rattle.mono_check.specs.Verdicts.{IsVerdict}
 use Rattle.mono_check.proofs.Accepted.{refutation_iff}
 use Rattle.mono_search.specs.Outcomes.{HasModel}
-use Rattle.mono_search.specs.Solving.{IsProgress}
+use Rattle.mono_steps.specs.New.{IsProgress}
 use Rattle.mono_core.specs.declared.outcome.Need.{Need}
 use Rattle.mono_core.specs.declared.outcome.CoreOutcome.{CoreOutcome}
 use Rattle.mono_core.specs.declared.outcome.CoreOutcome.TheVariants as outcome
@@ -116,8 +116,4 @@ consistent_outcomes p budget assumed (outcome.Model values) (outcome.Core lits s
     core_excludes p budget assumed lits steps needs ok y.literals room y.right (value_in values) x.right.satisfies
 consistent_outcomes p budget assumed (outcome.Core lits steps needs) (outcome.Model values) ok room x y =
     core_excludes p budget assumed lits steps needs ok x.literals room x.right (value_in values) y.right.satisfies
-consistent_outcomes p budget assumed (outcome.Model values) (outcome.Model values') ok room x y = tt
-consistent_outcomes p budget assumed (outcome.Model values) (outcome.Unknown steps) ok room x y = tt
-consistent_outcomes p budget assumed (outcome.Core lits steps needs) (outcome.Core lits' steps' needs') ok room x y = tt
-consistent_outcomes p budget assumed (outcome.Core lits steps needs) (outcome.Unknown steps') ok room x y = tt
-consistent_outcomes p budget assumed (outcome.Unknown steps) b ok room x y = tt
+consistent_outcomes p budget assumed a b ok room x y = tt

@@ -11,6 +11,7 @@ mod Notes
 mod OneEnding
 mod OutOfMemory
 mod PlaceByEnding
+mod Replies
 mod Solutions
 mod Solves
 mod Sound

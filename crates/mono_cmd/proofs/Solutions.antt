@@ -1,5 +1,5 @@
 -- `check` accepts what an answer's text says.
-use Rattle.std.proofs.Common.{◌≡◌, ℕ, suc, ◌+◌, ◌<◌, ◌^◌, Bool, List, [], ◌∷◌, length, map, Option, Some, refl, sym, ap, ◌∙◌, arith, append-nil}
+use Rattle.std.proofs.Common.{◌≡◌, ℕ, ◌+◌, ◌<◌, ◌^◌, Bool, List, [], ◌∷◌, length, map, Option, Some, refl, sym, ap, ◌∙◌, arith, append-nil}
 use Rattle.std.specs.Prelude.{IsTrue}
 use Rattle.std.specs.List.{enumerate_from}
 use Rattle.std.proofs.lemmas.Bool.{and_parts, le-leb}
@@ -7,7 +7,6 @@ use Rattle.mono_base.specs.declared.limits.TheConstants.{MAX_VARS}
 use Rattle.mono_problem.specs.Instance.{Instance}
 use Rattle.mono_problem.specs.WellFormed.{IsInstance}
 use Rattle.mono_steps.specs.declared.step.Step.{Step}
-use Rattle.mono_steps.specs.declared.step.Step.TheVariants as step
 use Rattle.mono_steps.specs.Steps.{are_justified, ends_empty}
 use Rattle.mono_steps.specs.Journals.{chain_count}
 use Rattle.mono_answer.specs.declared.kind.Kind.{Kind}
@@ -21,7 +20,8 @@ use Rattle.mono_answer.proofs.RoundTrip.{printed_is_read}
 use Rattle.mono_check.specs.Answers.{step_item, HasSteps, HasModel}
 use Rattle.mono_check.proofs.Accepted.{refutation_iff, progress_iff, model_iff}
 use Rattle.mono_search.specs.Outcomes.{HasModel as HasModelOf}
-use Rattle.mono_search.specs.Solving.{IsTrimRefutation, IsProgress}
+use Rattle.mono_steps.specs.Trimmed.{IsTrimRefutation}
+use Rattle.mono_steps.specs.New.{IsProgress}
 use Rattle.mono_cmd.specs.Solved.{IsSolution}
 use Rattle.mono_cmd.proofs.Values.{one_each_there, model_is}
 use Rattle.mono_cmd.proofs.Format.{steps_within}

@@ -1,16 +1,14 @@
 -- What the texts that `check` writes show of the problem that FILE stands for.
-use Rattle.std.proofs.Common.{◌≡◌, ◌<◌, ℕ, Bool, false, List, [], ◌++◌, Option, Some, None, IfSome, length, take, refl, sym, ap, subst, ◌∙◌, codes, inl, inr, arith}
+use Rattle.std.proofs.Common.{◌≡◌, ◌<◌, ℕ, Bool, true, false, List, [], ◌++◌, Option, Some, length, take, refl, sym, ap, subst, ◌∙◌, codes, inl, inr, arith}
 use Rattle.std.specs.Prelude.{slice_index}
 use Rattle.std.proofs.Math.Dec.{eqb}
 use Rattle.std.proofs.Math.Seq.{take-length}
 use Rattle.std.proofs.lemmas.Bool.{eqb-false}
-use Rattle.std.proofs.lemmas.List.{append_cancel_left, append-nil, get_or-take, length-take}
+use Rattle.std.proofs.lemmas.List.{append-nil, get_or-take, length-take}
 use Rattle.std.specs.Io.KnownBytes.{append_known}
 use Rattle.mono_problem.specs.Instance.{Instance}
 use Rattle.mono_problem.specs.Holds.{HasNoModel, Satisfies}
-use Rattle.mono_gnf.specs.Stands.{Stands}
 use Rattle.mono_gnf.proofs.WellFormedReading.{stands_well_formed}
-use Rattle.mono_answer.specs.declared.answer.Answer.{Answer}
 use Rattle.mono_check.specs.declared.verdict.Verdict.{Verdict}
 use Rattle.mono_check.specs.declared.verdict.Verdict.TheVariants as verdict
 use Rattle.mono_check.specs.Verdicts.{IsVerdict}
@@ -19,18 +17,18 @@ use Rattle.mono_best.specs.declared.outcome.BestOutcome.TheVariants as bounded
 use Rattle.mono_cmd.specs.declared.asking.AskRefusal.{AskRefusal}
 use Rattle.mono_cmd.specs.declared.asking.AskRefusal.TheVariants as refusal
 use Rattle.mono_cmd.specs.BestTexts.{best_text, refusal_text}
-use Rattle.mono_core.specs.declared.outcome.CoreOutcome.{CoreOutcome}
 use Rattle.mono_check.proofs.Accepted.{refutation_has_no_model, model_satisfies}
-use Rattle.mono_io.specs.Shelf.{Texts, ShelfView, text_named, told_text}
+use Rattle.mono_io.specs.Shelf.{ShelfView}
 use Rattle.mono_cmd.specs.declared.command.Command.{Command}
 use Rattle.mono_cmd.specs.declared.command.Command.TheVariants as command
 use Rattle.mono_cmd.specs.declared.status.Status.{Status}
 use Rattle.mono_cmd.specs.declared.status.Status.TheVariants as status
-use Rattle.mono_cmd.specs.declared.summary.Summary.{Summary}
 use Rattle.mono_cmd.specs.declared.ending.Ending.{Ending}
 use Rattle.mono_cmd.specs.declared.ending.Ending.TheVariants as ending
-use Rattle.mono_cmd.specs.Endings.{text_of, verdict_text}
+use Rattle.mono_cmd.specs.Endings.{status_of, text_of, verdict_text}
 use Rattle.mono_cmd.specs.Runs.{ComesTo, Ends, Writes, Runs, HasProblem, CheckWrote}
+use Rattle.mono_cmd.proofs.Stages.{IsOwn, stage_of}
+use Rattle.mono_cmd.proofs.Replies.{is_reply, replied, answer_reply, outcome_reply, its_problem, appended}
 
 -- ---- the front of a text
 
@@ -43,11 +41,6 @@ same_byte text front count i is within =
 differs : (text front : List ℕ) (count i a b : ℕ) → take count text ≡ front → i < length front → slice_index text i ≡ a → slice_index front i ≡ b → (eqb a b ≡ false) → ⊥
 differs text front count i a b is within has wants other =
     eqb-false a b other (sym has ∙ same_byte text front count i is within ∙ wants)
-
--- what was written behind a text is the text that was appended
-pub appended : (before now : Option (List ℕ)) (there written t : List ℕ) → before ≡ Some there → now ≡ Some (there ++ written) → now ≡ append_known before t → t ≡ written
-appended before now there written t held wrote is =
-    append_cancel_left there t written (let same : Some (there ++ t) ≡ Some (there ++ written) = sym (is ∙ ap (λ (o : Option (List ℕ)). append_known o t) held) ∙ wrote in cc)
 
 -- a text that was written behind another is the front of the text that is due
 pub front_written : (e : Ending) (s : Status) (before now : Option (List ℕ)) (there written : List ℕ) → 0 < length written → Writes e s before now
@@ -65,16 +58,7 @@ front_written e s before now there written some writes held wrote = by_status s 
     by_status : (t : Status) → Writes e t before now → (count : ℕ) × (take count (text_of e) ≡ written)
     by_status status.WriteFault w = (w.count, appended before now there written (take w.count (text_of e)) held wrote w.appended)
     by_status status.Memory w = nothing w.0
-    by_status status.Satisfiable w = whole w.1
-    by_status status.Unsatisfiable w = whole w.1
-    by_status status.Unknown w = whole w.1
-    by_status status.Accepted w = whole w.1
-    by_status status.Printed w = whole w.1
-    by_status status.Rejected w = whole w.1
-    by_status status.Words w = whole w.1
-    by_status status.Refused w = whole w.1
-    by_status status.ReadFault w = whole w.1
-    by_status status.TooLong w = whole w.1
+    by_status t w = whole w.1
 
 -- ---- which verdict it was
 
@@ -108,26 +92,6 @@ judged file answer old new v (inl ends) = absurd ends
 judged file answer old new v (inr (p, read, has, inl ends)) = absurd ends
 judged file answer old new v (inr (p, read, has, inr (text, shelf, given, end))) = (p, record { read = read; has = has; answer = text; is = end.0 })
 
-never_solved : (file answer : List ℕ) (old new : ShelfView) (a : Answer) → ComesTo (Some (command.Check file answer)) old new (ending.Solved a) → ⊥
-never_solved file answer old new a (inl ends) = ends
-never_solved file answer old new a (inr (p, read, has, inl ends)) = ends
-never_solved file answer old new a (inr (p, read, has, inr (t, shelf, given, end))) = end.0
-
-never_printed : (file answer : List ℕ) (old new : ShelfView) (text : List ℕ) → ComesTo (Some (command.Check file answer)) old new (ending.Printed text) → ⊥
-never_printed file answer old new text (inl ends) = ends
-never_printed file answer old new text (inr (p, read, has, inl ends)) = ends
-never_printed file answer old new text (inr (p, read, has, inr (t, shelf, given, end))) = end.0
-
-never_summed : (file answer : List ℕ) (old new : ShelfView) (s : Summary) → ComesTo (Some (command.Check file answer)) old new (ending.Summed s) → ⊥
-never_summed file answer old new s (inl ends) = ends
-never_summed file answer old new s (inr (p, read, has, inl ends)) = ends
-never_summed file answer old new s (inr (p, read, has, inr (t, shelf, given, end))) = end.0
-
-never_narrowed : (file answer : List ℕ) (old new : ShelfView) (o : CoreOutcome) → ComesTo (Some (command.Check file answer)) old new (ending.Narrowed o) → ⊥
-never_narrowed file answer old new o (inl ends) = ends
-never_narrowed file answer old new o (inr (p, read, has, inl ends)) = ends
-never_narrowed file answer old new o (inr (p, read, has, inr (t, shelf, given, end))) = end.0
-
 outcome_byte : (o : BestOutcome) → slice_index (best_text o) 0 ≡ 99
 outcome_byte (bounded.Best b model steps) = refl
 outcome_byte (bounded.Never steps) = refl
@@ -139,39 +103,39 @@ refusal_byte refusal.BadAtom = refl
 refusal_byte refusal.BadBound = refl
 refusal_byte refusal.TooMany = refl
 
--- a run that comes to no answer, summary, core or printed text writes a text that begins with `accepted` for a verdict alone
-pub only_verdicts : (found : Option Command) (old new : ShelfView) → ((a : Answer) → ComesTo found old new (ending.Solved a) → ⊥) → ((text : List ℕ) → ComesTo found old new (ending.Printed text) → ⊥)
-    → ((s : Summary) → ComesTo found old new (ending.Summed s) → ⊥) → ((o : CoreOutcome) → ComesTo found old new (ending.Narrowed o) → ⊥)
-    → (e : Ending) (front : List ℕ) (count : ℕ) → Ends found old new e → take count (text_of e) ≡ front → 0 < length front → slice_index front 0 ≡ 97 → (v : Verdict) × (e ≡ ending.Judged v) × ComesTo found old new (ending.Judged v)
-only_verdicts found old new solved printed summed narrowed ending.Words front count ends is some a = absurd (differs (text_of ending.Words) front count 0 117 97 is some refl a refl)
-only_verdicts found old new solved printed summed narrowed ending.ReadFault front count ends is some a = absurd (differs (text_of ending.ReadFault) front count 0 114 97 is some refl a refl)
-only_verdicts found old new solved printed summed narrowed ending.Memory front count ends is some a = absurd (differs (text_of ending.Memory) front count 0 0 97 is some refl a refl)
-only_verdicts found old new solved printed summed narrowed ending.TooLong front count ends is some a = absurd (differs (text_of ending.TooLong) front count 0 116 97 is some refl a refl)
-only_verdicts found old new solved printed summed narrowed (ending.Refused line fault) front count ends is some a = absurd (differs (text_of (ending.Refused line fault)) front count 0 114 97 is some refl a refl)
-only_verdicts found old new solved printed summed narrowed (ending.Solved reply) front count ends is some a = absurd (solved reply ends)
-only_verdicts found old new solved printed summed narrowed (ending.Printed text) front count ends is some a = absurd (printed text ends)
-only_verdicts found old new solved printed summed narrowed (ending.Summed s) front count ends is some a = absurd (summed s ends)
-only_verdicts found old new solved printed summed narrowed (ending.Narrowed o) front count ends is some a = absurd (narrowed o ends)
-only_verdicts found old new solved printed summed narrowed (ending.Bounded o) front count ends is some a = absurd (differs (best_text o) front count 0 99 97 is some (outcome_byte o) a refl)
-only_verdicts found old new solved printed summed narrowed (ending.Unasked r) front count ends is some a = absurd (differs (refusal_text r) front count 0 114 97 is some (refusal_byte r) a refl)
-only_verdicts found old new solved printed summed narrowed (ending.Judged v) front count ends is some a = (v, refl, ends)
+-- neither an answer, a summary, a core nor a printed text
+abbrev pub IsUnanswered : Ending → Type 0
+IsUnanswered (ending.Solved a) = ⊥
+IsUnanswered (ending.Printed text) = ⊥
+IsUnanswered (ending.Summed s) = ⊥
+IsUnanswered (ending.Narrowed o) = ⊥
+IsUnanswered e = Unit {0}
 
--- ---- the problem that FILE stands for
+-- where none of them is an ending of the command's own, the run comes to none
+unanswered : (found : Option Command) (old new : ShelfView) (e : Ending) → ((d : Ending) → IsOwn d found → IsUnanswered d) → ComesTo found old new e → is_reply (status_of e) ≡ true → IsUnanswered e
+unanswered found old new e never comes reply = never e (replied found old new e (stage_of found old new e comes) reply)
 
--- the text that was read is the one that the shelf tells
-same_text : (texts : Option Texts) (file text read : List ℕ) → told_text texts file ≡ Some text → IfSome texts (λ held. text_named file held ≡ Some read) → read ≡ text
-same_text None file text read told is = absurd cc
-same_text (Some held) file text read told is = cc
-
-pub same_problem : (text : List ℕ) (p q : Instance) → Stands text p → Stands text q → p ≡ q
-same_problem text p q a b = a.1 ∙ sym b.1
-
-pub its_problem : (file text : List ℕ) (old read : ShelfView) (p q : Instance) → told_text old.texts file ≡ Some text → Stands text p → HasProblem file old read q → q ≡ p
-its_problem file text old read p q told stands has =
-    let same = same_text old.texts file text has.text told has.read.whole in
-    same_problem text q p (subst (λ (t : List ℕ). Stands t q) same has.stands) stands
+-- and then it writes a text that begins with `accepted` for a verdict alone
+pub only_verdicts : (found : Option Command) (old new : ShelfView) → ((e : Ending) → IsOwn e found → IsUnanswered e) → (e : Ending) (front : List ℕ) (count : ℕ) → Ends found old new e
+    → take count (text_of e) ≡ front → 0 < length front → slice_index front 0 ≡ 97 → (v : Verdict) × (e ≡ ending.Judged v) × ComesTo found old new (ending.Judged v)
+only_verdicts found old new never (ending.Judged v) front count ends is some a = (v, refl, ends)
+only_verdicts found old new never ending.Words front count ends is some a = absurd (differs (text_of ending.Words) front count 0 117 97 is some refl a refl)
+only_verdicts found old new never ending.ReadFault front count ends is some a = absurd (differs (text_of ending.ReadFault) front count 0 114 97 is some refl a refl)
+only_verdicts found old new never ending.Memory front count ends is some a = absurd (differs (text_of ending.Memory) front count 0 0 97 is some refl a refl)
+only_verdicts found old new never ending.TooLong front count ends is some a = absurd (differs (text_of ending.TooLong) front count 0 116 97 is some refl a refl)
+only_verdicts found old new never (ending.Refused line fault) front count ends is some a = absurd (differs (text_of (ending.Refused line fault)) front count 0 114 97 is some refl a refl)
+only_verdicts found old new never (ending.Bounded o) front count ends is some a = absurd (differs (best_text o) front count 0 99 97 is some (outcome_byte o) a refl)
+only_verdicts found old new never (ending.Unasked r) front count ends is some a = absurd (differs (refusal_text r) front count 0 114 97 is some (refusal_byte r) a refl)
+only_verdicts found old new never (ending.Solved b) front count ends is some a = absurd (unanswered found old new (ending.Solved b) never ends (answer_reply b))
+only_verdicts found old new never (ending.Printed text) front count ends is some a = absurd (unanswered found old new (ending.Printed text) never ends refl)
+only_verdicts found old new never (ending.Summed t) front count ends is some a = absurd (unanswered found old new (ending.Summed t) never ends (answer_reply t.answer))
+only_verdicts found old new never (ending.Narrowed o) front count ends is some a = absurd (unanswered found old new (ending.Narrowed o) never ends (outcome_reply o))
 
 -- ---- what was written shows this
+
+check_verdicts : (file answer : List ℕ) (e : Ending) → IsOwn e (Some (command.Check file answer)) → IsUnanswered e
+check_verdicts file answer (ending.Judged v) own = tt
+check_verdicts file answer e own = absurd own
 
 verdict_written : (found : Option Command) (old new : ShelfView) (s : Status) (before now : Option (List ℕ)) (p : Instance) (written : List ℕ) → 0 < length written → slice_index written 0 ≡ 97
     → Runs found old new s before now → CheckWrote found old.texts before now p written
@@ -179,8 +143,7 @@ verdict_written : (found : Option Command) (old new : ShelfView) (s : Status) (b
 verdict_written found old new s before now p written some a runs wrote =
     let ends : Ends (Some (command.Check wrote.file wrote.answer)) old new runs.ending = subst (λ (c : Option Command). Ends c old new runs.ending) wrote.is runs.ends in
     let front = front_written runs.ending s before now wrote.there written some runs.writes wrote.held wrote.wrote in
-    let only = only_verdicts (Some (command.Check wrote.file wrote.answer)) old new (never_solved wrote.file wrote.answer old new) (never_printed wrote.file wrote.answer old new)
-    (never_summed wrote.file wrote.answer old new) (never_narrowed wrote.file wrote.answer old new) runs.ending written front.0 ends front.1 some a in
+    let only = only_verdicts (Some (command.Check wrote.file wrote.answer)) old new (check_verdicts wrote.file wrote.answer) runs.ending written front.0 ends front.1 some a in
     let j = judged wrote.file wrote.answer old new only.0 only.2 in
     let same = its_problem wrote.file wrote.text old j.1.read p j.0 wrote.told wrote.stands j.1.has in
     (only.0, j.1.answer, subst (λ (q : Instance). IsVerdict q j.1.answer only.0) same j.1.is, (front.0, subst (λ (e : Ending). take front.0 (text_of e) ≡ written) only.1 front.1))

@@ -9,21 +9,20 @@ use Rattle.mono_problem.specs.Holds.{HasNoModel, Satisfies}
 use Rattle.mono_problem.specs.Assuming.{assuming, HasRoom}
 use Rattle.mono_problem.proofs.Assumed.{assuming-instance}
 use Rattle.mono_gnf.proofs.WellFormedReading.{stands_well_formed}
-use Rattle.mono_answer.specs.declared.answer.Answer.{Answer}
 use Rattle.mono_check.specs.declared.verdict.Verdict.{Verdict}
 use Rattle.mono_check.specs.Verdicts.{IsVerdict}
 use Rattle.mono_check.proofs.Accepted.{refutation_has_no_model, model_satisfies}
-use Rattle.mono_core.specs.declared.outcome.CoreOutcome.{CoreOutcome}
 use Rattle.mono_io.specs.Shelf.{ShelfView}
 use Rattle.mono_cmd.specs.declared.command.Command.{Command}
 use Rattle.mono_cmd.specs.declared.command.Command.TheVariants as command
 use Rattle.mono_cmd.specs.declared.status.Status.{Status}
-use Rattle.mono_cmd.specs.declared.summary.Summary.{Summary}
 use Rattle.mono_cmd.specs.declared.ending.Ending.{Ending}
 use Rattle.mono_cmd.specs.declared.ending.Ending.TheVariants as ending
 use Rattle.mono_cmd.specs.Endings.{text_of, verdict_text}
 use Rattle.mono_cmd.specs.Runs.{ComesTo, Ends, Runs, HasProblem, CheckWithWrote}
-use Rattle.mono_cmd.proofs.Sound.{front_written, only_verdicts, only_refutation, only_model, refutation_text, model_text, its_problem}
+use Rattle.mono_cmd.proofs.Stages.{IsOwn}
+use Rattle.mono_cmd.proofs.Replies.{its_problem}
+use Rattle.mono_cmd.proofs.Sound.{front_written, IsUnanswered, only_verdicts, only_refutation, only_model, refutation_text, model_text}
 
 -- FILE stood for this problem, and the verdict on an answer to it under the assumptions was this
 record WasJudged (file : List ℕ) (lits : List ℤ) (old : ShelfView) (p : Instance) (v : Verdict) : Type 0 where
@@ -34,36 +33,17 @@ record WasJudged (file : List ℕ) (lits : List ℤ) (old : ShelfView) (p : Inst
   answer : List ℕ
   is : IsVerdict (assuming p lits) answer v
 
-module _ (file answer : List ℕ) (lits : List ℤ) (old new : ShelfView) where
-  judged : (v : Verdict) → ComesTo (Some (command.CheckWith file answer lits)) old new (ending.Judged v) → (p : Instance) × WasJudged file lits old p v
-  judged v (inl ends) = absurd ends
-  judged v (inr (p, read, has, inl beyond)) = absurd (cc beyond.0.1)
-  judged v (inr (p, read, has, inr (within, room, inl ends))) = absurd ends
-  judged v (inr (p, read, has, inr (within, room, inr (text, shelf, given, end)))) = (p, record { read = read; has = has; within = within; room = room; answer = text; is = end.0 })
+judged : (file answer : List ℕ) (lits : List ℤ) (old new : ShelfView) (v : Verdict) → ComesTo (Some (command.CheckWith file answer lits)) old new (ending.Judged v) → (p : Instance) × WasJudged file lits old p v
+judged file answer lits old new v (inl ends) = absurd ends
+judged file answer lits old new v (inr (p, read, has, inl beyond)) = absurd (cc beyond.0.1)
+judged file answer lits old new v (inr (p, read, has, inr (within, room, inl ends))) = absurd ends
+judged file answer lits old new v (inr (p, read, has, inr (within, room, inr (text, shelf, given, end)))) =
+    (p, record { read = read; has = has; within = within; room = room; answer = text; is = end.0 })
 
-  never_solved : (a : Answer) → ComesTo (Some (command.CheckWith file answer lits)) old new (ending.Solved a) → ⊥
-  never_solved a (inl ends) = ends
-  never_solved a (inr (p, read, has, inl beyond)) = absurd (cc beyond.0.1)
-  never_solved a (inr (p, read, has, inr (within, room, inl ends))) = ends
-  never_solved a (inr (p, read, has, inr (within, room, inr (text, shelf, given, end)))) = end.0
-
-  never_printed : (printed : List ℕ) → ComesTo (Some (command.CheckWith file answer lits)) old new (ending.Printed printed) → ⊥
-  never_printed printed (inl ends) = ends
-  never_printed printed (inr (p, read, has, inl beyond)) = absurd (cc beyond.0.1)
-  never_printed printed (inr (p, read, has, inr (within, room, inl ends))) = ends
-  never_printed printed (inr (p, read, has, inr (within, room, inr (text, shelf, given, end)))) = end.0
-
-  never_summed : (s : Summary) → ComesTo (Some (command.CheckWith file answer lits)) old new (ending.Summed s) → ⊥
-  never_summed s (inl ends) = ends
-  never_summed s (inr (p, read, has, inl beyond)) = absurd (cc beyond.0.1)
-  never_summed s (inr (p, read, has, inr (within, room, inl ends))) = ends
-  never_summed s (inr (p, read, has, inr (within, room, inr (text, shelf, given, end)))) = end.0
-
-  never_narrowed : (o : CoreOutcome) → ComesTo (Some (command.CheckWith file answer lits)) old new (ending.Narrowed o) → ⊥
-  never_narrowed o (inl ends) = ends
-  never_narrowed o (inr (p, read, has, inl beyond)) = absurd (cc beyond.0.1)
-  never_narrowed o (inr (p, read, has, inr (within, room, inl ends))) = ends
-  never_narrowed o (inr (p, read, has, inr (within, room, inr (text, shelf, given, end)))) = end.0
+check_with_verdicts : (file answer : List ℕ) (lits : List ℤ) (e : Ending) → IsOwn e (Some (command.CheckWith file answer lits)) → IsUnanswered e
+check_with_verdicts file answer lits (ending.Judged v) own = tt
+check_with_verdicts file answer lits (ending.Refused line fault) own = tt
+check_with_verdicts file answer lits e own = absurd own
 
 -- ---- what was written shows this
 
@@ -83,8 +63,7 @@ verdict_written found old new s before now p lits written some a runs wrote =
     let answer = wrote.answer in
     let ends : Ends (Some (command.CheckWith file answer lits)) old new runs.ending = subst (λ (c : Option Command). Ends c old new runs.ending) wrote.is runs.ends in
     let front = front_written runs.ending s before now wrote.there written some runs.writes wrote.held wrote.wrote in
-    let only = only_verdicts (Some (command.CheckWith file answer lits)) old new (never_solved file answer lits old new) (never_printed file answer lits old new) (never_summed file answer lits old new) (never_narrowed file answer lits old new)
-    runs.ending written front.0 ends front.1 some a in
+    let only = only_verdicts (Some (command.CheckWith file answer lits)) old new (check_with_verdicts file answer lits) runs.ending written front.0 ends front.1 some a in
     let j = judged file answer lits old new only.0 only.2 in
     let same = its_problem file wrote.text old j.1.read p j.0 wrote.told wrote.stands j.1.has in
     record {

@@ -1,5 +1,5 @@
 -- `check` accepts what `team` writes.
-use Rattle.std.proofs.Common.{◌≡◌, ℕ, ◌<◌, ◌^◌, Bool, List, length, refl}
+use Rattle.std.proofs.Common.{ℕ, ◌<◌, ◌^◌, Bool, List, length, refl}
 use Rattle.mono_problem.specs.Instance.{Instance}
 use Rattle.mono_problem.specs.WellFormed.{IsInstance}
 use Rattle.mono_steps.specs.declared.step.Step.{Step}
@@ -9,7 +9,7 @@ use Rattle.mono_answer.specs.declared.answer.Answer.TheVariants as answer
 use Rattle.mono_answer.specs.Printed.{answer_text}
 use Rattle.mono_check.proofs.Accepted.{progress_iff}
 use Rattle.mono_search.specs.Outcomes.{HasModel}
-use Rattle.mono_search.specs.Solving.{IsTrimRefutation}
+use Rattle.mono_steps.specs.Trimmed.{IsTrimRefutation}
 use Rattle.mono_portfolio.specs.Outcomes.{IsBoardOfRounds}
 use Rattle.mono_cmd.specs.Teams.{IsTeamSolution}
 use Rattle.mono_cmd.proofs.Format.{steps_within}

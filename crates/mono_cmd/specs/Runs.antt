@@ -33,7 +33,7 @@ use Rattle.mono_cmd.specs.Commands.{command_of}
 use Rattle.mono_cmd.specs.Statuses.{code_of}
 use Rattle.mono_cmd.specs.declared.command.TheConstants.{DEFAULT_BUDGET, MAX_MIGRATED_BYTES}
 use Rattle.mono_cmd.specs.Endings.{status_of, text_of, TakesMemory, summary_lines, verdict_text}
-use Rattle.mono_search.specs.Solving.{IsProgress}
+use Rattle.mono_steps.specs.New.{IsProgress}
 use Rattle.mono_problem.specs.Assuming.{assuming, HasRoom}
 use Rattle.mono_gnf.specs.declared.fault.GnfFault.TheVariants as fault
 use Rattle.mono_core.specs.declared.outcome.CoreOutcome.{CoreOutcome}

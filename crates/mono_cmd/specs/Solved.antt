@@ -5,7 +5,8 @@ use Rattle.mono_base.specs.Literal.{IsLitWithin}
 use Rattle.mono_problem.specs.Instance.{Instance, edges_total}
 use Rattle.mono_steps.specs.Journals.{chain_count}
 use Rattle.mono_search.specs.Outcomes.{HasModel}
-use Rattle.mono_search.specs.Solving.{IsTrimRefutation, IsProgress}
+use Rattle.mono_steps.specs.Trimmed.{IsTrimRefutation}
+use Rattle.mono_steps.specs.New.{IsProgress}
 use Rattle.mono_answer.specs.declared.answer.Answer.{Answer}
 use Rattle.mono_answer.specs.declared.answer.Answer.TheVariants as answer
 use Rattle.mono_answer.specs.Printed.{answer_text}

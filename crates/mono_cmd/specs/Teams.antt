@@ -5,7 +5,7 @@ use Rattle.mono_gnf.specs.Stands.{Stands}
 use Rattle.mono_steps.specs.declared.step.Step.{Step}
 use Rattle.mono_steps.specs.Journals.{chain_count}
 use Rattle.mono_search.specs.Outcomes.{HasModel}
-use Rattle.mono_search.specs.Solving.{IsTrimRefutation}
+use Rattle.mono_steps.specs.Trimmed.{IsTrimRefutation}
 use Rattle.mono_portfolio.specs.Outcomes.{IsBoardOfRounds}
 use Rattle.mono_io.specs.Shelf.{Texts, told_text}
 use Rattle.mono_answer.specs.declared.answer.Answer.{Answer}

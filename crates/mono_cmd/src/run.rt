@@ -10,6 +10,7 @@ ghost use Rattle.std.specs.Prelude.{◌≡◌, ◌≢◌, ◌≤◌, ◌+◌, �
 ghost use Rattle.mono_base.specs.declared.limits.TheConstants.{MAX_VARS};
 ghost use Rattle.mono_base.specs.Literal.{IsLitWithin};
 ghost use Rattle.mono_io.specs.Faults.{counted};
+ghost use Rattle.mono_io.specs.Shelf.{ShelfView};
 ghost use Rattle.mono_best.specs.Asking.{asking};
 ghost use Rattle.mono_best.specs.Optimum.{IsNeverMet};
 ghost use Rattle.mono_problem.specs.Assuming.{assuming};
@@ -77,55 +78,92 @@ pub fn run<S: Shelf, K: Sink>(alloc: Global, words: &[String], shelf: &mut S, ou
 
     // Each file is begun once at most.
     ensures begun { (S.seen shelf.new).begun ≤ begun_for (files_of (command_of (map string_bytes words.now))) (S.seen shelf.old).begun }
-    ensures too_long { result ≡ Status.TooLong → ((S.seen shelf.new).place ≡ Some (MAX_INPUT_BYTES + 1)) ⊎ ((S.seen shelf.new).place ≡ Some (MAX_ANSWER_BYTES + 1)) ⊎ ((S.seen shelf.new).place ≡ Some (MAX_MIGRATED_BYTES + 1)) }
+    ensures too_long { result ≡ Status.TooLong
+        → ((S.seen shelf.new).place ≡ Some (MAX_INPUT_BYTES + 1)) ⊎ ((S.seen shelf.new).place ≡ Some (MAX_ANSWER_BYTES + 1))
+        ⊎ ((S.seen shelf.new).place ≡ Some (MAX_MIGRATED_BYTES + 1)) }
 
     // Over a steady shelf that holds the files that the command comes to, no read fault is answered. Where they are within
     // their limits too, no write failed and memory was found, the command is carried out.
-    ensures steady { IsTrue (S.seen shelf.old).steady → IsSomeAnd (command_of (map string_bytes words.now)) (EachReached (IsHeld (S.seen shelf.old).texts) (S.seen shelf.old).texts) → result ≢ Status.ReadFault }
-    ensures complete { IsTrue (S.seen shelf.old).steady → IsSomeAnd (command_of (map string_bytes words.now)) (EachReached (IsHeldWithin (S.seen shelf.old).texts) (S.seen shelf.old).texts) → result ≢ Status.WriteFault → result ≢ Status.Memory → IsSomeAnd (command_of (map string_bytes words.now)) (λ c. IsCarriedOut c result) }
+    ensures steady { IsTrue (S.seen shelf.old).steady
+        → IsSomeAnd (command_of (map string_bytes words.now)) (EachReached (IsHeld (S.seen shelf.old).texts) (S.seen shelf.old).texts)
+        → result ≢ Status.ReadFault }
+    ensures complete { IsTrue (S.seen shelf.old).steady
+        → IsSomeAnd (command_of (map string_bytes words.now)) (EachReached (IsHeldWithin (S.seen shelf.old).texts) (S.seen shelf.old).texts)
+        → result ≢ Status.WriteFault → result ≢ Status.Memory → IsSomeAnd (command_of (map string_bytes words.now)) (λ c. IsCarriedOut c result) }
 
     // `solve`: an assignment satisfies the problem that FILE stands for; none does; the budget is below 3^V. What was
     // written has the verdict that `check` gives it.
-    ensures satisfiable { (p : Instance) (budget : ℕ) → Solves (command_of (map string_bytes words.now)) (S.seen shelf.old).texts p budget → result ≡ Status.Satisfiable → (a : ℕ → Bool) × Satisfies p a }
-    ensures unsatisfiable { (p : Instance) (budget : ℕ) → Solves (command_of (map string_bytes words.now)) (S.seen shelf.old).texts p budget → result ≡ Status.Unsatisfiable → HasNoModel p }
-    ensures unknown { (p : Instance) (budget : ℕ) → Solves (command_of (map string_bytes words.now)) (S.seen shelf.old).texts p budget → result ≡ Status.Unknown → budget < 3 ^ p.vars }
-    ensures verdict { (p : Instance) (budget : ℕ) (there written : List ℕ) → Solves (command_of (map string_bytes words.now)) (S.seen shelf.old).texts p budget → K.written out.old ≡ Some there → K.written out.new ≡ Some (there ++ written) → IsVerdictBy result p budget written }
+    ensures satisfiable { (p : Instance) (budget : ℕ) → Solves (command_of (map string_bytes words.now)) (S.seen shelf.old).texts p budget
+        → result ≡ Status.Satisfiable → (a : ℕ → Bool) × Satisfies p a }
+    ensures unsatisfiable { (p : Instance) (budget : ℕ) → Solves (command_of (map string_bytes words.now)) (S.seen shelf.old).texts p budget
+        → result ≡ Status.Unsatisfiable → HasNoModel p }
+    ensures unknown { (p : Instance) (budget : ℕ) → Solves (command_of (map string_bytes words.now)) (S.seen shelf.old).texts p budget
+        → result ≡ Status.Unknown → budget < 3 ^ p.vars }
+    ensures verdict { (p : Instance) (budget : ℕ) (there written : List ℕ)
+        → Solves (command_of (map string_bytes words.now)) (S.seen shelf.old).texts p budget → K.written out.old ≡ Some there
+        → K.written out.new ≡ Some (there ++ written) → IsVerdictBy result p budget written }
 
     // `gen` with `--solve`: the same of the problem that the generated input stands for, and what is written.
-    ensures gen_satisfiable { (p : Instance) → SolvesGenerated (command_of (map string_bytes words.now)) p → result ≡ Status.Satisfiable → (a : ℕ → Bool) × Satisfies p a }
+    ensures gen_satisfiable { (p : Instance) → SolvesGenerated (command_of (map string_bytes words.now)) p → result ≡ Status.Satisfiable
+        → (a : ℕ → Bool) × Satisfies p a }
     ensures gen_unsatisfiable { (p : Instance) → SolvesGenerated (command_of (map string_bytes words.now)) p → result ≡ Status.Unsatisfiable → HasNoModel p }
     ensures gen_unknown { (p : Instance) → SolvesGenerated (command_of (map string_bytes words.now)) p → result ≡ Status.Unknown → DEFAULT_BUDGET < 3 ^ p.vars }
-    ensures summary { (p : Instance) (there written : List ℕ) → SolvesGenerated (command_of (map string_bytes words.now)) p → K.written out.old ≡ Some there → K.written out.new ≡ Some (there ++ written) → IsSummaryBy result p written }
+    ensures summary { (p : Instance) (there written : List ℕ) → SolvesGenerated (command_of (map string_bytes words.now)) p
+        → K.written out.old ≡ Some there → K.written out.new ≡ Some (there ++ written) → IsSummaryBy result p written }
 
     // `core`: an assignment satisfies the problem under all assumptions; none does; what was written, and the verdict that
     // `check-with` gives it.
-    ensures core_satisfiable { (p : Instance) (lits : List ℤ) → Narrows (command_of (map string_bytes words.now)) (S.seen shelf.old).texts p lits → result ≡ Status.Satisfiable → (a : ℕ → Bool) × Satisfies (assuming p lits) a }
-    ensures core_unsatisfiable { (p : Instance) (lits : List ℤ) → Narrows (command_of (map string_bytes words.now)) (S.seen shelf.old).texts p lits → result ≡ Status.Unsatisfiable → HasNoModel (assuming p lits) }
-    ensures core { (p : Instance) (lits : List ℤ) (there written : List ℕ) → Narrows (command_of (map string_bytes words.now)) (S.seen shelf.old).texts p lits → K.written out.old ≡ Some there → K.written out.new ≡ Some (there ++ written) → IsCoreBy result p lits written }
+    ensures core_satisfiable { (p : Instance) (lits : List ℤ) → Narrows (command_of (map string_bytes words.now)) (S.seen shelf.old).texts p lits
+        → result ≡ Status.Satisfiable → (a : ℕ → Bool) × Satisfies (assuming p lits) a }
+    ensures core_unsatisfiable { (p : Instance) (lits : List ℤ) → Narrows (command_of (map string_bytes words.now)) (S.seen shelf.old).texts p lits
+        → result ≡ Status.Unsatisfiable → HasNoModel (assuming p lits) }
+    ensures core { (p : Instance) (lits : List ℤ) (there written : List ℕ)
+        → Narrows (command_of (map string_bytes words.now)) (S.seen shelf.old).texts p lits → K.written out.old ≡ Some there
+        → K.written out.new ≡ Some (there ++ written) → IsCoreBy result p lits written }
 
     // `best`: what was written, and the verdict that `check` gives it of the problem that asks for the next bound; no satisfying
     // assignment meets any bound; the budget is below 3 to the number of variables of a problem that asks.
-    ensures best_bound { (p : Instance) (n : ℕ) (there written : List ℕ) → Bounds (command_of (map string_bytes words.now)) (S.seen shelf.old).texts p n → K.written out.old ≡ Some there → K.written out.new ≡ Some (there ++ written) → IsBestBy result p n written }
-    ensures best_is_never_met { (p : Instance) (n : ℕ) → Bounds (command_of (map string_bytes words.now)) (S.seen shelf.old).texts p n → result ≡ Status.Unsatisfiable → IsNeverMet p n }
-    ensures best_unknown { (p : Instance) (n : ℕ) → Bounds (command_of (map string_bytes words.now)) (S.seen shelf.old).texts p n → result ≡ Status.Unknown → DEFAULT_BUDGET < 3 ^ (p.vars + 1) }
+    ensures best_bound { (p : Instance) (n : ℕ) (there written : List ℕ)
+        → Bounds (command_of (map string_bytes words.now)) (S.seen shelf.old).texts p n → K.written out.old ≡ Some there
+        → K.written out.new ≡ Some (there ++ written) → IsBestBy result p n written }
+    ensures best_is_never_met { (p : Instance) (n : ℕ) → Bounds (command_of (map string_bytes words.now)) (S.seen shelf.old).texts p n
+        → result ≡ Status.Unsatisfiable → IsNeverMet p n }
+    ensures best_unknown { (p : Instance) (n : ℕ) → Bounds (command_of (map string_bytes words.now)) (S.seen shelf.old).texts p n
+        → result ≡ Status.Unknown → DEFAULT_BUDGET < 3 ^ (p.vars + 1) }
 
     // `ask`: what was written stands for the problem that asks for the bound.
-    ensures asked { (p : Instance) (n : ℕ) (b : ℤ) (there written : List ℕ) → Asks (command_of (map string_bytes words.now)) (S.seen shelf.old).texts p n b → result ≡ Status.Printed → K.written out.old ≡ Some there → K.written out.new ≡ Some (there ++ written) → Stands written (asking p n b) }
+    ensures asked { (p : Instance) (n : ℕ) (b : ℤ) (there written : List ℕ)
+        → Asks (command_of (map string_bytes words.now)) (S.seen shelf.old).texts p n b → result ≡ Status.Printed → K.written out.old ≡ Some there
+        → K.written out.new ≡ Some (there ++ written) → Stands written (asking p n b) }
 
     // `team`: an assignment satisfies the problem that FILE stands for; none does; all rounds were played. What was written, and
     // the verdict that `check` gives it.
-    ensures team_satisfiable { (p : Instance) (workers rounds : ℕ) → PlaysTeam (command_of (map string_bytes words.now)) (S.seen shelf.old).texts p workers rounds → result ≡ Status.Satisfiable → (a : ℕ → Bool) × Satisfies p a }
-    ensures team_unsatisfiable { (p : Instance) (workers rounds : ℕ) → PlaysTeam (command_of (map string_bytes words.now)) (S.seen shelf.old).texts p workers rounds → result ≡ Status.Unsatisfiable → HasNoModel p }
-    ensures team_unknown { (p : Instance) (workers rounds : ℕ) → PlaysTeam (command_of (map string_bytes words.now)) (S.seen shelf.old).texts p workers rounds → result ≡ Status.Unknown → (board : List Step) × IsBoardOfRounds p workers rounds board }
-    ensures team { (p : Instance) (workers rounds : ℕ) (there written : List ℕ) → PlaysTeam (command_of (map string_bytes words.now)) (S.seen shelf.old).texts p workers rounds → K.written out.old ≡ Some there → K.written out.new ≡ Some (there ++ written) → IsTeamTextBy result p workers rounds written }
+    ensures team_satisfiable { (p : Instance) (workers rounds : ℕ)
+        → PlaysTeam (command_of (map string_bytes words.now)) (S.seen shelf.old).texts p workers rounds → result ≡ Status.Satisfiable
+        → (a : ℕ → Bool) × Satisfies p a }
+    ensures team_unsatisfiable { (p : Instance) (workers rounds : ℕ)
+        → PlaysTeam (command_of (map string_bytes words.now)) (S.seen shelf.old).texts p workers rounds → result ≡ Status.Unsatisfiable
+        → HasNoModel p }
+    ensures team_unknown { (p : Instance) (workers rounds : ℕ)
+        → PlaysTeam (command_of (map string_bytes words.now)) (S.seen shelf.old).texts p workers rounds → result ≡ Status.Unknown
+        → (board : List Step) × IsBoardOfRounds p workers rounds board }
+    ensures team { (p : Instance) (workers rounds : ℕ) (there written : List ℕ)
+        → PlaysTeam (command_of (map string_bytes words.now)) (S.seen shelf.old).texts p workers rounds → K.written out.old ≡ Some there
+        → K.written out.new ≡ Some (there ++ written) → IsTeamTextBy result p workers rounds written }
 
     // With this text written, no assignment satisfies the problem that FILE stands for; with the other one, some does.
-    ensures refutes { (p : Instance) → CheckWrote (command_of (map string_bytes words.now)) (S.seen shelf.old).texts (K.written out.old) (K.written out.new) p (codes "accepted refutation\n") → HasNoModel p }
-    ensures models { (p : Instance) → CheckWrote (command_of (map string_bytes words.now)) (S.seen shelf.old).texts (K.written out.old) (K.written out.new) p (codes "accepted model\n") → (a : ℕ → Bool) × Satisfies p a }
+    ensures refutes { (p : Instance) → CheckWrote (command_of (map string_bytes words.now)) (S.seen shelf.old).texts (K.written out.old)
+        (K.written out.new) p (codes "accepted refutation\n") → HasNoModel p }
+    ensures models { (p : Instance) → CheckWrote (command_of (map string_bytes words.now)) (S.seen shelf.old).texts (K.written out.old)
+        (K.written out.new) p (codes "accepted model\n") → (a : ℕ → Bool) × Satisfies p a }
 
     // What these texts say by `check-with`, of the problem under its assumptions.
-    ensures refutes_with { (p : Instance) (lits : List ℤ) → CheckWithWrote (command_of (map string_bytes words.now)) (S.seen shelf.old).texts (K.written out.old) (K.written out.new) p lits (codes "accepted refutation\n") → HasNoModel (assuming p lits) }
-    ensures models_with { (p : Instance) (lits : List ℤ) → CheckWithWrote (command_of (map string_bytes words.now)) (S.seen shelf.old).texts (K.written out.old) (K.written out.new) p lits (codes "accepted model\n") → (a : ℕ → Bool) × Satisfies (assuming p lits) a }
+    ensures refutes_with { (p : Instance) (lits : List ℤ)
+        → CheckWithWrote (command_of (map string_bytes words.now)) (S.seen shelf.old).texts (K.written out.old) (K.written out.new) p lits
+        (codes "accepted refutation\n") → HasNoModel (assuming p lits) }
+    ensures models_with { (p : Instance) (lits : List ℤ)
+        → CheckWithWrote (command_of (map string_bytes words.now)) (S.seen shelf.old).texts (K.written out.old) (K.written out.new) p lits
+        (codes "accepted model\n") → (a : ℕ → Bool) × Satisfies (assuming p lits) a }
 {
     let ending = ending_of(alloc, words, shelf);
     write_ending(alloc, ending, out)
@@ -255,10 +293,25 @@ fn check_with<S: Shelf>(
     ensures { let ends = Ends (Some (Command.CheckWith file.now answer.now lits.now)) (S.seen shelf.old) (S.seen shelf.new) in MatchResult result ends ends }
 {
     let input = read_problem(alloc, shelf, file)?;
-    if !has_room(&input, lits) {
+    judged_with(alloc, shelf, &input, answer, lits)
+}
+
+/// What `check-with` comes to behind FILE. It only borrows the problem, so that dropping it, a large value, is written out once.
+fn judged_with<S: Shelf>(
+    alloc: Global,
+    shelf: &mut S,
+    input: &Problem,
+    answer: &str,
+    lits: &[Lit],
+) -> Result<Ending, Ending>
+    requires { All (IsLitWithin MAX_VARS) lits.now }
+    ensures { (file : List ℕ) (old : ShelfView) → HasProblem file old (S.seen shelf.old) input.now
+        → let ends = Ends (Some (Command.CheckWith file answer.now lits.now)) old (S.seen shelf.new) in MatchResult result ends ends }
+{
+    if !has_room(input, lits) {
         return Ok(too_many());
     }
-    let assumed = with_lits(&input, lits)?;
+    let assumed = with_lits(input, lits)?;
     let verdict = verdict_from(alloc, &assumed, shelf, answer, MAX_ANSWER_BYTES)?;
     Ok(Ending::Judged(verdict))
 }
@@ -341,7 +394,8 @@ fn generated(
 /// Solves the problem that a text without fault stands for, and sums it up.
 fn summed(alloc: Global, text: &[u8]) -> Result<Ending, Ending>
     requires { first_fault text.now ≡ None }
-    ensures { MatchResult result (λ e. (p : Instance) × (s : SummaryOf) × Stands text.now p × (e ≡ Ending.Summed s) × IsSummary p DEFAULT_BUDGET s) (λ e. e ≡ Ending.Memory) }
+    ensures { MatchResult result (λ e. (p : Instance) × (s : SummaryOf) × Stands text.now p × (e ≡ Ending.Summed s)
+        × IsSummary p DEFAULT_BUDGET s) (λ e. e ≡ Ending.Memory) }
 {
     match read_gnf(alloc, text) {
         Ok(problem) => Ok(Ending::Summed(sum_up(alloc, &problem)?)),

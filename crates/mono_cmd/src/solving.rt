@@ -1,11 +1,11 @@
 //! Answers to problems, looked for by the search.
 
-ghost use Rattle.std.specs.Prelude.{◌≡◌, ◌≤◌, ℕ, [], true, false, replicate, All, IfOk, IsTrue};
+ghost use Rattle.std.specs.Prelude.{◌≤◌, ℕ, All, IfOk};
 ghost use Rattle.mono_base.specs.declared.limits.TheConstants.{MAX_VARS};
 ghost use Rattle.mono_base.specs.Literal.{IsLitWithin};
+ghost use Rattle.mono_problem.specs.Instance.{Instance};
 ghost use Rattle.mono_problem.specs.WellFormed.{IsInstance};
-ghost use Rattle.mono_steps.specs.Steps.{are_justified, is_refutation};
-ghost use Rattle.mono_search.specs.Solving.{IsProgress};
+ghost use Rattle.mono_search.specs.Solving.{IsSolved};
 ghost use Rattle.mono_problem.specs.Assuming.{HasRoom};
 ghost use Rattle.mono_core.specs.Cores.{IsOutcome};
 ghost use Rattle.mono_cmd.specs.declared.command.TheConstants.{DEFAULT_BUDGET};
@@ -15,10 +15,9 @@ use crate::command::DEFAULT_BUDGET;
 use mono_answer::Answer;
 use mono_base::{Lit, Row};
 use mono_core::{CoreOutcome, core};
-use mono_kinds::{AnyTheory, all_theories};
+use mono_kinds::all_theories;
 use mono_problem::Problem;
-use mono_search::{Outcome, Search};
-use mono_steps::{Journal, copy_steps};
+use mono_search::{Solved, solve};
 use std::alloc::{AllocError, Global};
 
 /// What the search comes to when it may learn so many clauses: a model, a refutation, or as much progress.
@@ -27,27 +26,19 @@ pub fn answer_to(alloc: Global, problem: &Problem, budget: u64) -> Result<Answer
     requires budget { 1 ≤ budget }
     ensures { IfOk result (IsSolution problem.now budget) }
 {
-    let theories = all_theories(alloc, problem)?;
-    let mut solver = Search::new(alloc, problem, theories)?;
-    answer_of(alloc, problem, &mut solver, budget)
+    let theories = |p: &Problem| all_theories(alloc, p);
+    let solved = solve(alloc, problem, &theories, budget)?;
+    Ok(answer_of(solved))
 }
 
-/// What a new search comes to. It only borrows the search, so that dropping it, a large value, is written out once.
-fn answer_of(
-    alloc: Global,
-    problem: &Problem,
-    solver: &mut Search<'_, AnyTheory>,
-    budget: u64,
-) -> Result<Answer, AllocError>
-    requires problem { IsInstance problem.now }
-    requires budget { 1 ≤ budget }
-    requires new { solver.old ≡ record { problem = problem.now; steps = []; live = true; signs = replicate problem.now.vars false } }
-    ensures { IfOk result (IsSolution problem.now budget) }
+/// What was found as an answer. Its steps are as few as a list in memory has, so the numbers of their lines are within the format.
+fn answer_of(solved: Solved) -> Answer
+    ensures { (p : Instance) (budget : ℕ) → IsInstance p → IsSolved p budget solved → IsSolution p budget result }
 {
-    match solver.run(budget)? {
-        Outcome::Sat(values) => Ok(Answer::Model(values)),
-        Outcome::Unsat => refutation(problem, solver.journal()),
-        Outcome::Unknown => progress(alloc, problem, budget, solver.journal()),
+    match solved {
+        Solved::Model(values) => Answer::Model(values),
+        Solved::Refutation(steps) => Answer::Refutation(Row::from_vec(steps.into_vec())),
+        Solved::Progress(steps) => Answer::Progress(Row::from_vec(steps.into_vec())),
     }
 }
 
@@ -79,29 +70,4 @@ fn narrowed(problem: &Problem, assumed: &[Lit], outcome: CoreOutcome) -> CoreOut
         }
         CoreOutcome::Unknown(steps) => CoreOutcome::Unknown(Row::from_vec(steps.into_vec())),
     }
-}
-
-/// The steps of a refutation, without those that its last one doesn't rest on.
-fn refutation(problem: &Problem, journal: &Journal) -> Result<Answer, AllocError>
-    requires problem { IsInstance problem.now }
-    requires refutes { IsTrue (is_refutation problem.now journal.now) }
-    ensures { (budget : ℕ) → IfOk result (IsSolution problem.now budget) }
-{
-    let steps = journal.trim(problem)?;
-    Ok(Answer::Refutation(Row::from_vec(steps)))
-}
-
-/// The progress: a copy of all steps that were made, lemmas too.
-fn progress(
-    alloc: Global,
-    problem: &Problem,
-    budget: u64,
-    journal: &Journal,
-) -> Result<Answer, AllocError>
-    requires problem { IsInstance problem.now }
-    requires progress { IsProgress problem.now budget journal.now }
-    ensures { IfOk result (IsSolution problem.now budget) }
-{
-    let steps = copy_steps(alloc, journal.steps())?;
-    Ok(Answer::Progress(Row::from_vec(steps)))
 }

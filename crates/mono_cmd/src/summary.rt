@@ -80,7 +80,9 @@ impl Summary {
 
     /// The first four lines.
     fn sizes_text(&self, alloc: Global) -> Result<Vec<u8>, AllocError>
-        ensures { IfOk result (λ text. text.items ≡ spaced (codes "variables" ∷ decimal self.now.vars ∷ []) ++ spaced (codes "clauses" ∷ decimal self.now.clauses ∷ []) ++ spaced (codes "edges" ∷ decimal self.now.edges ∷ []) ++ spaced (codes "predicates" ∷ decimal self.now.predicates ∷ [])) }
+        ensures { IfOk result (λ text. text.items ≡ spaced (codes "variables" ∷ decimal self.now.vars ∷ [])
+            ++ spaced (codes "clauses" ∷ decimal self.now.clauses ∷ []) ++ spaced (codes "edges" ∷ decimal self.now.edges ∷ [])
+            ++ spaced (codes "predicates" ∷ decimal self.now.predicates ∷ [])) }
     {
         let mut out = Vec::new(alloc);
         push_size(alloc, &mut out, "variables", self.vars)?;

@@ -11,27 +11,22 @@ mod acyclic;
 mod altered;
 mod assumptions;
 mod bounds;
-mod drawn;
-mod failing;
 mod faults;
 mod generated;
-mod handing;
 mod input;
 mod lemmas;
-mod lines;
 mod memory;
 mod models;
 mod process;
 mod refutations;
-mod search;
-mod sizes;
 mod solving;
 mod team_runs;
-mod teams;
-mod unread;
 mod versions;
-mod weighed;
 mod witnesses;
+
+/// What is written where the words are no command.
+const USAGE: &[u8] =
+    b"usage: solve FILE [--conflicts N] | check FILE ANSWER | print FILE | gen KIND SIZE SEED [--solve] | migrate FILE ANSWER VERSION | core FILE LIT.. | check-with FILE ANSWER LIT.. | best FILE ATOM | ask FILE ATOM B | team FILE K R\n";
 
 /// What a run wrote, and how it ended.
 #[derive(Drop)]

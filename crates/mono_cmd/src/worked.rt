@@ -22,7 +22,8 @@ ghost use Rattle.mono_cmd.specs.Worked.{empty_problem};
 pub fn worked_commands()
     ensures solve { command_of (codes "solve" ∷ codes "f" ∷ []) ≡ Some (command.Solve (codes "f") 100000) }
     ensures conflicts { command_of (codes "solve" ∷ codes "f" ∷ codes "--conflicts" ∷ codes "0012" ∷ []) ≡ Some (command.Solve (codes "f") 12) }
-    ensures most { command_of (codes "solve" ∷ codes "f" ∷ codes "--conflicts" ∷ codes "18446744073709551615" ∷ []) ≡ Some (command.Solve (codes "f") 18446744073709551615) }
+    ensures most { command_of (codes "solve" ∷ codes "f" ∷ codes "--conflicts" ∷ codes "18446744073709551615" ∷ [])
+        ≡ Some (command.Solve (codes "f") 18446744073709551615) }
     ensures beyond { command_of (codes "solve" ∷ codes "f" ∷ codes "--conflicts" ∷ codes "18446744073709551616" ∷ []) ≡ None }
     ensures no_budget { command_of (codes "solve" ∷ codes "f" ∷ codes "--conflicts" ∷ codes "0" ∷ []) ≡ None }
     ensures no_number { command_of (codes "solve" ∷ codes "f" ∷ codes "--conflicts" ∷ codes "x" ∷ []) ≡ None }
@@ -62,7 +63,8 @@ pub fn worked_commands()
     ensures core_of_zero { command_of (codes "core" ∷ codes "f" ∷ codes "0" ∷ []) ≡ None }
     ensures core_beyond { command_of (codes "core" ∷ codes "f" ∷ codes "1000001" ∷ []) ≡ None }
     ensures core_with_dash { command_of (codes "core" ∷ codes "-f" ∷ codes "1" ∷ []) ≡ None }
-    ensures check_with { command_of (codes "check-with" ∷ codes "f" ∷ codes "a" ∷ codes "3" ∷ []) ≡ Some (command.CheckWith (codes "f") (codes "a") (pos 3 ∷ [])) }
+    ensures check_with { command_of (codes "check-with" ∷ codes "f" ∷ codes "a" ∷ codes "3" ∷ [])
+        ≡ Some (command.CheckWith (codes "f") (codes "a") (pos 3 ∷ [])) }
     ensures check_with_none { command_of (codes "check-with" ∷ codes "f" ∷ codes "a" ∷ []) ≡ None }
     ensures literal_for_answer { command_of (codes "check-with" ∷ codes "f" ∷ codes "-1" ∷ codes "3" ∷ []) ≡ None }
 
@@ -72,7 +74,8 @@ pub fn worked_commands()
     ensures predicate_beyond { command_of (codes "best" ∷ codes "f" ∷ codes "100001" ∷ []) ≡ None }
     ensures best_of_no_number { command_of (codes "best" ∷ codes "f" ∷ codes "x" ∷ []) ≡ None }
     ensures ask { command_of (codes "ask" ∷ codes "f" ∷ codes "1" ∷ codes "-1" ∷ []) ≡ Some (command.Ask (codes "f") 1 (negsuc 0)) }
-    ensures ask_for_most { command_of (codes "ask" ∷ codes "f" ∷ codes "1" ∷ codes "9007199254740993" ∷ []) ≡ Some (command.Ask (codes "f") 1 (pos 9007199254740993)) }
+    ensures ask_for_most { command_of (codes "ask" ∷ codes "f" ∷ codes "1" ∷ codes "9007199254740993" ∷ [])
+        ≡ Some (command.Ask (codes "f") 1 (pos 9007199254740993)) }
     ensures ask_beyond { command_of (codes "ask" ∷ codes "f" ∷ codes "1" ∷ codes "9007199254740994" ∷ []) ≡ None }
     ensures ask_below { command_of (codes "ask" ∷ codes "f" ∷ codes "1" ∷ codes "-9007199254740994" ∷ []) ≡ None }
     ensures ask_without_a_bound { command_of (codes "ask" ∷ codes "f" ∷ codes "1" ∷ []) ≡ None }
@@ -142,7 +145,8 @@ pub fn worked_endings()
 
 /// What a run comes to has its text.
 pub fn worked_texts()
-    ensures words { text_of ending.Words ≡ codes "usage: solve FILE [--conflicts N] | check FILE ANSWER | print FILE | gen KIND SIZE SEED [--solve] | migrate FILE ANSWER VERSION | core FILE LIT.. | check-with FILE ANSWER LIT.. | best FILE ATOM | ask FILE ATOM B | team FILE K R\n" }
+    ensures words { text_of ending.Words ≡ codes
+        "usage: solve FILE [--conflicts N] | check FILE ANSWER | print FILE | gen KIND SIZE SEED [--solve] | migrate FILE ANSWER VERSION | core FILE LIT.. | check-with FILE ANSWER LIT.. | best FILE ATOM | ask FILE ATOM B | team FILE K R\n" }
     ensures read_fault { text_of ending.ReadFault ≡ codes "read fault\n" }
     ensures memory { text_of ending.Memory ≡ [] }
     ensures too_long { text_of ending.TooLong ≡ codes "too long\n" }
@@ -154,8 +158,26 @@ pub fn worked_texts()
     ensures rejected { text_of (ending.Judged (verdict.Rejected 2 reason.BadLine)) ≡ codes "rejected 2 BadLine\n" }
     ensures clause_false { text_of (ending.Judged (verdict.Rejected 2 (reason.ClauseFalse 5))) ≡ codes "rejected 2 ClauseFalse 5\n" }
     ensures printed { text_of (ending.Printed (codes "p gnf 0 0\n")) ≡ codes "p gnf 0 0\n" }
-    ensures summary { text_of (ending.Summed (record { vars = 9; clauses = 3; edges = 8; predicates = 1; answer = answer.Refutation []; progress = progress_text (answer.Refutation []); verdict = verdict.Refutation })) ≡ codes "variables 9\nclauses 3\nedges 8\npredicates 1\nresult unsatisfiable\nverdict accepted refutation\n" }
-    ensures summary_of_progress { text_of (ending.Summed (record { vars = 9; clauses = 3; edges = 8; predicates = 1; answer = answer.Progress []; progress = progress_text (answer.Progress []); verdict = verdict.Progress 0 })) ≡ codes "variables 9\nclauses 3\nedges 8\npredicates 1\nresult unknown\nverdict accepted progress 0\ns UNKNOWN\n" }
+    ensures summary { text_of (ending.Summed (record {
+      vars = 9;
+      clauses = 3;
+      edges = 8;
+      predicates = 1;
+      answer = answer.Refutation [];
+      progress = progress_text (answer.Refutation []);
+      verdict = verdict.Refutation;
+    }))
+        ≡ codes "variables 9\nclauses 3\nedges 8\npredicates 1\nresult unsatisfiable\nverdict accepted refutation\n" }
+    ensures summary_of_progress { text_of (ending.Summed (record {
+      vars = 9;
+      clauses = 3;
+      edges = 8;
+      predicates = 1;
+      answer = answer.Progress [];
+      progress = progress_text (answer.Progress []);
+      verdict = verdict.Progress 0;
+    }))
+        ≡ codes "variables 9\nclauses 3\nedges 8\npredicates 1\nresult unknown\nverdict accepted progress 0\ns UNKNOWN\n" }
 {}
 
 /// The text is written whole, a prefix of it where a write failed, and nothing where memory was wanting.
@@ -177,7 +199,8 @@ pub fn worked_writes()
     ensures verdict_with_a_number { Writes (ending.Judged (verdict.Progress 3)) status.Memory (Some (codes "x")) (Some (codes "x")) }
     ensures other_verdict { Writes (ending.Judged (verdict.Rejected 2 reason.BadLine)) status.Memory (Some (codes "x")) (Some (codes "x")) }
 
-    ensures wrote { CheckWrote (Some (command.Check (codes "f") (codes "a"))) (Some ((codes "f", codes "") ∷ [])) (Some (codes "x")) (Some (codes "xaccepted model\n")) empty_problem (codes "accepted model\n") }
+    ensures wrote { CheckWrote (Some (command.Check (codes "f") (codes "a"))) (Some ((codes "f", codes "") ∷ [])) (Some (codes "x"))
+        (Some (codes "xaccepted model\n")) empty_problem (codes "accepted model\n") }
 {}
 
 /// Two runs of one command.
@@ -211,6 +234,8 @@ pub fn worked_needs()
     ensures print { EachReached (IsHeld (Some ((codes "f", codes "") ∷ []))) (Some ((codes "f", codes "") ∷ [])) (command.Print (codes "f")) }
     ensures no_file { ¬ EachReached (IsHeld (Some ((codes "a", codes "") ∷ []))) (Some ((codes "a", codes "") ∷ [])) (command.Check (codes "f") (codes "a")) }
     ensures no_answer { ¬ EachReached (IsHeld (Some ((codes "f", codes "") ∷ []))) (Some ((codes "f", codes "") ∷ [])) (command.Check (codes "f") (codes "a")) }
-    ensures no_answer_needed { EachReached (IsHeld (Some ((codes "f", codes "x") ∷ []))) (Some ((codes "f", codes "x") ∷ [])) (command.Check (codes "f") (codes "a")) }
-    ensures both { EachReached (IsHeld (Some ((codes "f", codes "") ∷ (codes "a", codes "") ∷ []))) (Some ((codes "f", codes "") ∷ (codes "a", codes "") ∷ [])) (command.Check (codes "f") (codes "a")) }
+    ensures no_answer_needed { EachReached (IsHeld (Some ((codes "f", codes "x") ∷ []))) (Some ((codes "f", codes "x") ∷ []))
+        (command.Check (codes "f") (codes "a")) }
+    ensures both { EachReached (IsHeld (Some ((codes "f", codes "") ∷ (codes "a", codes "") ∷ []))) (Some ((codes "f", codes "")
+        ∷ (codes "a", codes "") ∷ [])) (command.Check (codes "f") (codes "a")) }
 {}

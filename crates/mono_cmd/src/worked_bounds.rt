@@ -20,7 +20,8 @@ ghost use Rattle.mono_cmd.specs.Worked.{empty_problem};
 
 /// What `best` writes.
 pub fn worked_bound_texts()
-    ensures best { text_of (ending.Bounded (outcome.Best (pos 7) (true ∷ false ∷ []) (chain [] (3 ∷ 1 ∷ []) ∷ []))) ≡ codes "c best 7\nc v 1 -2 0\ns UNSATISFIABLE\nchain 0 3 1\n" }
+    ensures best { text_of (ending.Bounded (outcome.Best (pos 7) (true ∷ false ∷ []) (chain [] (3 ∷ 1 ∷ []) ∷ [])))
+        ≡ codes "c best 7\nc v 1 -2 0\ns UNSATISFIABLE\nchain 0 3 1\n" }
     ensures never { text_of (ending.Bounded (outcome.Never (chain [] (1 ∷ []) ∷ []))) ≡ codes "c never\ns UNSATISFIABLE\nchain 0 1\n" }
     ensures beyond { text_of (ending.Bounded (outcome.Beyond (true ∷ false ∷ []))) ≡ codes "c beyond\ns SATISFIABLE\nv 1 -2 0\n" }
     ensures spent { text_of (ending.Bounded (outcome.Unknown (negsuc 0) first_learned)) ≡ codes "c open -1\ns UNKNOWN\nchain 1 0 1 2\n" }

@@ -30,7 +30,8 @@ pub fn worked_assumptions()
     ensures negated_zero { command_of (codes "core" ∷ codes "f" ∷ codes "-0" ∷ []) ≡ None }
     ensures sign_alone { command_of (codes "core" ∷ codes "f" ∷ codes "-" ∷ []) ≡ None }
     ensures second_is_none { command_of (codes "core" ∷ codes "f" ∷ codes "1" ∷ codes "x" ∷ []) ≡ None }
-    ensures repeated { command_of (codes "core" ∷ codes "f" ∷ codes "2" ∷ codes "1" ∷ codes "2" ∷ []) ≡ Some (command.Core (codes "f") (pos 2 ∷ pos 1 ∷ pos 2 ∷ [])) }
+    ensures repeated { command_of (codes "core" ∷ codes "f" ∷ codes "2" ∷ codes "1" ∷ codes "2" ∷ [])
+        ≡ Some (command.Core (codes "f") (pos 2 ∷ pos 1 ∷ pos 2 ∷ [])) }
     ensures no_file { command_of (codes "core" ∷ []) ≡ None }
     ensures no_answer { command_of (codes "check-with" ∷ codes "f" ∷ []) ≡ None }
     ensures dashed_file { command_of (codes "check-with" ∷ codes "-f" ∷ codes "a" ∷ codes "3" ∷ []) ≡ None }
@@ -47,7 +48,8 @@ pub fn worked_assumptions()
 pub fn worked_core_texts()
     ensures model { text_of (ending.Narrowed (outcome.Model (true ∷ false ∷ []))) ≡ codes "s SATISFIABLE\nv 1 -2 0\n" }
     ensures progress { text_of (ending.Narrowed (outcome.Unknown first_learned)) ≡ codes "s UNKNOWN\nchain 1 0 1 2\n" }
-    ensures core { text_of (ending.Narrowed (outcome.Core (minus 2 ∷ pos 1 ∷ []) (chain [] (3 ∷ 1 ∷ []) ∷ []) (need.Model (true ∷ false ∷ []) ∷ need.Model (false ∷ true ∷ []) ∷ []))) ≡ codes "c core -2 1 0\nc needed -2 1 -2 0\nc needed 1 -1 2 0\ns UNSATISFIABLE\nchain 0 3 1\n" }
+    ensures core { text_of (ending.Narrowed (outcome.Core (minus 2 ∷ pos 1 ∷ []) (chain [] (3 ∷ 1 ∷ []) ∷ []) (need.Model (true ∷ false ∷ [])
+        ∷ need.Model (false ∷ true ∷ []) ∷ []))) ≡ codes "c core -2 1 0\nc needed -2 1 -2 0\nc needed 1 -1 2 0\ns UNSATISFIABLE\nchain 0 3 1\n" }
     ensures without_assumptions { text_of (ending.Narrowed (outcome.Core [] (chain [] (1 ∷ []) ∷ []) [])) ≡ codes "c core 0\ns UNSATISFIABLE\nchain 0 1\n" }
     ensures tried { need_text (minus 3) (need.Tried (pos 1 ∷ minus 2 ∷ []) first_learned) ≡ codes "c open -3 1 -2 0\nc s UNKNOWN\nc chain 1 0 1 2\n" }
     ensures tried_alone { need_text (pos 3) (need.Tried [] []) ≡ codes "c open 3 0\nc s UNKNOWN\n" }
@@ -111,12 +113,18 @@ pub fn worked_findings()
 /// ANSWER is needed only where FILE has no fault and there is room for the assumptions.
 pub fn worked_needs_with()
     ensures core { EachReached (IsHeld (Some ((codes "f", codes "") ∷ []))) (Some ((codes "f", codes "") ∷ [])) (command.Core (codes "f") (pos 1 ∷ [])) }
-    ensures no_file { EachReached (IsHeld (Some ((codes "a", codes "") ∷ []))) (Some ((codes "a", codes "") ∷ [])) (command.CheckWith (codes "f") (codes "a") (pos 1 ∷ [])) → ⊥ }
-    ensures no_answer { EachReached (IsHeld (Some ((codes "f", codes "") ∷ []))) (Some ((codes "f", codes "") ∷ [])) (command.CheckWith (codes "f") (codes "a") (pos 1 ∷ [])) → ⊥ }
-    ensures no_answer_needed { EachReached (IsHeld (Some ((codes "f", codes "x") ∷ []))) (Some ((codes "f", codes "x") ∷ [])) (command.CheckWith (codes "f") (codes "a") (pos 1 ∷ [])) }
-    ensures both { EachReached (IsHeld (Some ((codes "f", codes "") ∷ (codes "a", codes "") ∷ []))) (Some ((codes "f", codes "") ∷ (codes "a", codes "") ∷ [])) (command.CheckWith (codes "f") (codes "a") (pos 1 ∷ [])) }
-    ensures no_room { (texts : Option Texts) (file text : List ℕ) (p : Instance) (lits : List ℤ) → told_text texts file ≡ Some text → Stands text p → (HasRoom p lits → ⊥) → HasNoFaultWith texts file lits → ⊥ }
+    ensures no_file { EachReached (IsHeld (Some ((codes "a", codes "") ∷ []))) (Some ((codes "a", codes "") ∷ []))
+        (command.CheckWith (codes "f") (codes "a") (pos 1 ∷ [])) → ⊥ }
+    ensures no_answer { EachReached (IsHeld (Some ((codes "f", codes "") ∷ []))) (Some ((codes "f", codes "") ∷ []))
+        (command.CheckWith (codes "f") (codes "a") (pos 1 ∷ [])) → ⊥ }
+    ensures no_answer_needed { EachReached (IsHeld (Some ((codes "f", codes "x") ∷ []))) (Some ((codes "f", codes "x") ∷ []))
+        (command.CheckWith (codes "f") (codes "a") (pos 1 ∷ [])) }
+    ensures both { EachReached (IsHeld (Some ((codes "f", codes "") ∷ (codes "a", codes "") ∷ []))) (Some ((codes "f", codes "")
+        ∷ (codes "a", codes "") ∷ [])) (command.CheckWith (codes "f") (codes "a") (pos 1 ∷ [])) }
+    ensures no_room { (texts : Option Texts) (file text : List ℕ) (p : Instance) (lits : List ℤ) → told_text texts file ≡ Some text → Stands text p
+        → (HasRoom p lits → ⊥) → HasNoFaultWith texts file lits → ⊥ }
     ensures runs { Narrows (Some (command.Core (codes "f") (pos 1 ∷ []))) (Some ((codes "f", codes "") ∷ [])) empty_problem (pos 1 ∷ []) }
-    ensures wrote { CheckWithWrote (Some (command.CheckWith (codes "f") (codes "a") (pos 1 ∷ []))) (Some ((codes "f", codes "") ∷ [])) (Some (codes "x")) (Some (codes "xaccepted model\n")) empty_problem (pos 1 ∷ []) (codes "accepted model\n") }
+    ensures wrote { CheckWithWrote (Some (command.CheckWith (codes "f") (codes "a") (pos 1 ∷ []))) (Some ((codes "f", codes "") ∷ []))
+        (Some (codes "x")) (Some (codes "xaccepted model\n")) empty_problem (pos 1 ∷ []) (codes "accepted model\n") }
     ensures other_literals { Narrows (Some (command.Core (codes "f") (pos 1 ∷ []))) (Some ((codes "f", codes "") ∷ [])) empty_problem (pos 2 ∷ []) → ⊥ }
 {}

@@ -12,7 +12,7 @@ use Rattle.mono_steps.specs.declared.step.Step.{Step}
 use Rattle.mono_steps.specs.Steps.{is_refutation}
 use Rattle.mono_steps.proofs.Ranks.{length_pick, rank_le}
 use Rattle.mono_search.specs.Outcomes.{HasModel}
-use Rattle.mono_search.specs.Solving.{IsProgress}
+use Rattle.mono_steps.specs.New.{IsProgress}
 use Rattle.mono_problem.specs.Assuming.{assuming, HasRoom}
 use Rattle.mono_core.specs.Cores.{AreNeeds, AreAmong, AreFound, IsFoundAt, IsTried, IsKeptNeed, IsRefuted, IsWideModel, others_of}
 use Rattle.mono_core.proofs.Fewer.{wide_fewer}

@@ -9,7 +9,7 @@ use Rattle.mono_steps.specs.Renumbering.{pick}
 use Rattle.mono_steps.specs.Needed.{is_set}
 use Rattle.mono_search.specs.Outcomes.{HasModel}
 use Rattle.mono_problem.specs.Assuming.{assuming}
-use Rattle.mono_search.specs.Solving.{IsProgress}
+use Rattle.mono_steps.specs.New.{IsProgress}
 use Rattle.mono_core.specs.declared.outcome.Need.{Need}
 use Rattle.mono_core.specs.declared.outcome.Need.TheVariants as need
 use Rattle.mono_core.specs.declared.outcome.CoreOutcome.{CoreOutcome}

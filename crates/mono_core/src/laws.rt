@@ -13,5 +13,7 @@ ghost use Rattle.mono_core.specs.declared.outcome.Need.{Need};
 
 /// Where each need is a model, the core is minimal: there is no model under all of it, and one under all of it but any one.
 pub fn cores_with_models_are_minimal()
-    ensures { (p : Instance) (budget : ℕ) (assumed lits : List ℤ) (steps : List Step) (needs : List Need) → IsInstance p → All (IsLitWithin MAX_VARS) assumed → HasRoom p assumed → IsCore p budget assumed lits steps needs → All IsModelNeed needs → IsMinimal p lits }
+    ensures { (p : Instance) (budget : ℕ) (assumed lits : List ℤ) (steps : List Step) (needs : List Need) → IsInstance p
+        → All (IsLitWithin MAX_VARS) assumed → HasRoom p assumed → IsCore p budget assumed lits steps needs → All IsModelNeed needs
+        → IsMinimal p lits }
 {}

@@ -23,7 +23,8 @@ pub(crate) fn needs_of(
 ) -> Result<Vec<Need>, AllocError>
     requires kept { length kept.now.items ≡ length assumed.now }
     requires all { length found.items ≡ length assumed.now }
-    ensures { (budget : ℕ) → AreFound problem.now budget assumed.now kept.now.items found.items → IfOk result (λ needs. AreNeeds (IsNeed problem.now budget assumed.now kept.now.items) 0 kept.now.items needs.items) }
+    ensures { (budget : ℕ) → AreFound problem.now budget assumed.now kept.now.items found.items
+        → IfOk result (λ needs. AreNeeds (IsNeed problem.now budget assumed.now kept.now.items) 0 kept.now.items needs.items) }
 {
     let mut needs = Vec::new(alloc);
     for place in 0..assumed.len() {
@@ -48,7 +49,8 @@ fn kept_need(
 ) -> Result<Option<Need>, AllocError>
     requires kept { length kept.now.items ≡ length assumed.now }
     requires place { place < length assumed.now }
-    ensures { (budget : ℕ) → IsFoundAt problem.now budget assumed.now kept.now.items place found → IfOk result (IsKeptNeed (IsNeed problem.now budget assumed.now kept.now.items) kept.now.items place) }
+    ensures { (budget : ℕ) → IsFoundAt problem.now budget assumed.now kept.now.items place found
+        → IfOk result (IsKeptNeed (IsNeed problem.now budget assumed.now kept.now.items) kept.now.items place) }
 {
     let Some(need) = found else {
         return Ok(None);

@@ -33,14 +33,15 @@ pub fn needs()
     ensures no_model { IsNeed one_clause 1 (minus 1 ∷ []) (true ∷ []) 0 (need.Model (false ∷ [])) → ⊥ }
     ensures too_short { IsNeed one_clause 1 (minus 1 ∷ []) (true ∷ []) 0 (need.Model []) → ⊥ }
     ensures too_long { IsNeed one_clause 1 (minus 1 ∷ pos 2 ∷ []) (true ∷ false ∷ []) 0 (need.Model (true ∷ true ∷ [])) → ⊥ }
-    ensures tried_with_itself { (steps : List Step) → IsTried one_clause 1 (minus 1 ∷ []) (true ∷ []) 0 (minus 1 ∷ []) steps → ⊥ }
+    ensures tried_with_itself { (budget : ℕ) (steps : List Step) → IsTried one_clause budget (minus 1 ∷ []) (true ∷ []) 0 (minus 1 ∷ []) steps → ⊥ }
 {}
 
 /// A core is some of the assumptions, with a refutation under them.
 pub fn cores()
     ensures core { IsCore one_clause 1 (pos 2 ∷ minus 1 ∷ []) (minus 1 ∷ []) (chain [] (1 ∷ 2 ∷ []) ∷ []) (need.Model (true ∷ []) ∷ []) }
     ensures no_refutation { IsCore one_clause 1 (minus 1 ∷ []) (minus 1 ∷ []) [] (need.Model (true ∷ []) ∷ []) → ⊥ }
-    ensures number_of_the_larger_list { IsCore one_clause 1 (pos 2 ∷ minus 1 ∷ []) (minus 1 ∷ []) (chain [] (1 ∷ 3 ∷ []) ∷ []) (need.Model (true ∷ []) ∷ []) → ⊥ }
+    ensures number_of_the_larger_list { IsCore one_clause 1 (pos 2 ∷ minus 1 ∷ []) (minus 1 ∷ [])
+        (chain [] (1 ∷ 3 ∷ []) ∷ []) (need.Model (true ∷ []) ∷ []) → ⊥ }
 {}
 
 /// The variable of a dropped assumption is none of the first.
@@ -58,12 +59,15 @@ pub fn tried_assumptions()
     ensures model_that_breaks_another { IsNeed one_clause 1 (pos 2 ∷ minus 1 ∷ []) (true ∷ true ∷ []) 0 (need.Model (true ∷ [])) → ⊥ }
     ensures other_left_out { IsTried one_clause 0 (minus 1 ∷ pos 1 ∷ []) (true ∷ true ∷ []) 0 [] [] → ⊥ }
     ensures not_assumed { IsTried one_clause 0 (minus 1 ∷ []) (true ∷ []) 0 (pos 2 ∷ []) [] → ⊥ }
+    ensures more_flags { IsTried one_clause 0 [] (true ∷ true ∷ []) 0 [] [] → ⊥ }
 {}
 
-/// A core's literals are assumptions, and each need is one of it.
+/// A core's literals are assumptions, and each need is that of one of these.
 pub fn assumptions_kept()
     ensures not_assumed { IsCore one_clause 1 (pos 2 ∷ []) (minus 1 ∷ []) (chain [] (1 ∷ 2 ∷ []) ∷ []) (need.Model (true ∷ []) ∷ []) → ⊥ }
     ensures no_need { IsCore one_clause 1 (minus 1 ∷ []) (minus 1 ∷ []) (chain [] (1 ∷ 2 ∷ []) ∷ []) (need.Model (false ∷ []) ∷ []) → ⊥ }
+    ensures need_of_none { IsCore one_clause 0 (minus 1 ∷ []) (minus 1 ∷ []) (chain [] (1 ∷ 2 ∷ []) ∷ [])
+        (need.Model (true ∷ []) ∷ need.Tried (minus 1 ∷ []) [] ∷ []) → ⊥ }
 {}
 
 /// A model is one under all assumptions, and what is unknown spent the budget.

@@ -13,7 +13,8 @@ use Rattle.mono_graph.proofs.Prefixes.{distinct_new, marked_more, take_has}
 use Rattle.mono_graph.specs.Cycles.{rank_in}
 use Rattle.mono_cycles.specs.Searches.{IsStep}
 use Rattle.mono_cycles.specs.Behind.{AllClear, Continues, IsOnward, AreFound, IsPassed, IsClosed}
-use Rattle.mono_cycles.proofs.Lists.{index_of, pigeon, all_has}
+use Rattle.mono_graph.proofs.Pigeons.{pigeon, all_has}
+use Rattle.mono_cycles.proofs.Lists.{index_of}
 use Rattle.mono_cycles.proofs.Ranked.{rank_at, rank_before}
 use Rattle.mono_cycles.proofs.Walking.{walk_push}
 

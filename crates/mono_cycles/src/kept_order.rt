@@ -92,7 +92,8 @@ impl KeptOrder {
     pub fn new(alloc: Global, nodes: u32) -> Result<Self, AllocError>
         requires { nodes ≤ MAX_NODES }
         ensures size { IfOk result (λ kept. length kept.order ≡ nodes) }
-        ensures order { IfOk result (λ kept. (g : Digraph) (P : List Bool) → g.nodes ≡ nodes → ((k : ℕ) → present P k ≡ false) → IsTrue (is_order g P kept.order)) }
+        ensures order { IfOk result (λ kept. (g : Digraph) (P : List Bool) → g.nodes ≡ nodes → ((k : ℕ) → present P k ≡ false)
+            → IsTrue (is_order g P kept.order)) }
     {
         Ok(KeptOrder {
             order: numbers(alloc, nodes)?,
@@ -114,7 +115,8 @@ impl KeptOrder {
         requires place { place < length graph.now.edges }
         requires here { IsTrue (present part.now place) }
         ensures size { length self.new.order ≡ length self.old.order }
-        ensures order { IsTrue result → (P : List Bool) → IsTrue (is_order graph.now P self.old.order) → IsGrownBy P part.now place → IsTrue (is_order graph.now part.now self.new.order) }
+        ensures order { IsTrue result → (P : List Bool) → IsTrue (is_order graph.now P self.old.order) → IsGrownBy P part.now place
+            → IsTrue (is_order graph.now part.now self.new.order) }
         ensures cycle { result ≡ false → IsTrue (is_cycle graph.now part.now self.new.cycle) }
         ensures stays { result ≡ false → self.new.order ≡ self.old.order }
     {

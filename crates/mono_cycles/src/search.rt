@@ -37,7 +37,8 @@ fn next_due(graph: &Graph, part: &Part, done: &[bool], edges: &[u32], first: usi
     requires first { first ≤ length edges.now }
     ensures from { first ≤ result }
     ensures within { result ≤ length edges.now }
-    ensures passed { (j : ℕ) → first ≤ j → j < result → IsTrue (present part.now (slice_index edges.now j)) → slice_index_or done.now (edge_at graph.now (slice_index edges.now j)).from false ≡ true }
+    ensures passed { (j : ℕ) → first ≤ j → j < result → IsTrue (present part.now (slice_index edges.now j))
+        → slice_index_or done.now (edge_at graph.now (slice_index edges.now j)).from false ≡ true }
     ensures here { result < length edges.now → present part.now (slice_index edges.now result) ≡ true }
     ensures due { result < length edges.now → slice_index_or done.now (edge_at graph.now (slice_index edges.now result)).from false ≡ false }
 {
@@ -62,7 +63,9 @@ fn close(
 ) -> Result<Vec<u32>, AllocError>
     requires len { length taken.now ≡ length path.now }
     requires start { IsTrue (has path.now start) }
-    ensures { IfOk result (λ cycle. (g : Digraph) (P : List Bool) → IsPath g P path.now taken.now → IsStep g P closing start (slice_index path.now (length path.now - 1)) → IsTrue (is_cycle g P cycle.items) × All (λ k. k < length g.edges) cycle.items) }
+    ensures { IfOk result (λ cycle. (g : Digraph) (P : List Bool) → IsPath g P path.now taken.now
+        → IsStep g P closing start (slice_index path.now (length path.now - 1))
+        → IsTrue (is_cycle g P cycle.items) × All (λ k. k < length g.edges) cycle.items) }
 {
     let mut cycle = Vec::new(alloc);
     cycle.push(closing)?;
@@ -143,7 +146,8 @@ impl Search {
 
     /// The last node of the path.
     fn last(&self) -> Option<u32>
-        ensures { MatchOption result (self.now.path.items ≡ []) (λ u. (0 < length self.now.path.items) × (slice_index self.now.path.items (length self.now.path.items - 1) ≡ u)) }
+        ensures { MatchOption result (self.now.path.items ≡ []) (λ u. (0 < length self.now.path.items)
+            × (slice_index self.now.path.items (length self.now.path.items - 1) ≡ u)) }
     {
         if self.path.is_empty() {
             None
@@ -164,7 +168,9 @@ impl Search {
         ensures path { self.new.path.items ≡ self.old.path.items }
         ensures taken { self.new.taken.items ≡ self.old.taken.items }
         ensures order { self.new.order.items ≡ self.old.order.items }
-        ensures due { MatchOption result (slice_index self.new.next.items node ≡ length (entering graph.now node)) (λ k. IsStep graph.now part.now k (edge_at graph.now k).from node × (has self.old.order.items (edge_at graph.now k).from ≡ false)) }
+        ensures due { MatchOption result (slice_index self.new.next.items node
+            ≡ length (entering graph.now node)) (λ k. IsStep graph.now part.now k (edge_at graph.now k).from node
+            × (has self.old.order.items (edge_at graph.now k).from ≡ false)) }
     {
         // The edges of a graph lead between its nodes.
         let _ = graph.nodes();

@@ -1,10 +1,10 @@
 -- What a theory of distances knows of nodes is right, stays while literals come, and decides when it is quiet.
-use Rattle.std.proofs.Common.{◌≡◌, ℕ, zero, suc, ◌+◌, ◌<◌, ◌≤◌, ◌&&◌, Bool, true, false, not, cond, List, [], ◌∷◌, length, eqb, eq-eqb, refl, sym, ap, subst, ◌∙◌, inl, inr, arith, ℤ, pos, negsuc, ◌+ℤ◌, ◌≤ℤ◌, int_lt, int_le}
+use Rattle.std.proofs.Common.{◌≡◌, ◌≢◌, ℕ, zero, suc, ◌+◌, ◌<◌, ◌≤◌, ◌&&◌, Bool, true, false, not, cond, List, [], ◌∷◌, length, take, eqb, eq-eqb, refl, sym, ap, subst, ◌∙◌, inl, inr, arith, ℤ, pos, negsuc, ◌+ℤ◌, ◌≤ℤ◌, int_lt, int_le}
 use Rattle.std.specs.Prelude.{IsTrue, Option, Some, None, IfSome, IfNone, IsSome, MatchOption, ◌⊎◌, ◌==◌}
 use Rattle.std.specs.Option.{is_some}
 use Rattle.std.specs.Ordering.{int_eq}
 use Rattle.std.specs.List.{list_all}
-use Rattle.std.proofs.lemmas.Bool.{and_parts, eqb-true}
+use Rattle.std.proofs.lemmas.Bool.{and_from, and_parts, cases_lt, eqb-true, ne_eqb}
 use Rattle.std.proofs.lemmas.Bool.Decides.{Decides-int_eq}
 use Rattle.std.proofs.lemmas.Int.{ints}
 use Rattle.std.proofs.lemmas.List.Sums.{sum_by-cons}
@@ -12,7 +12,7 @@ use Rattle.mono_graph.specs.declared.label.Label.{Label}
 use Rattle.mono_graph.specs.declared.limit.Limit.{Limit}
 use Rattle.mono_graph.specs.declared.limit.Limit.TheVariants as limit
 use Rattle.mono_graph.specs.Digraph.{Digraph, IsGraph, is_place, places, present, edge_at, weight_of}
-use Rattle.mono_graph.specs.Walks.{is_walk, is_labelling, is_tense, label_at, bound_of, cost_of, leads, cost_along}
+use Rattle.mono_graph.specs.Walks.{is_light, is_path, is_walk, is_labelling, is_tense, label_at, bound_of, cost_of, leads, cost_along}
 use Rattle.mono_graph.proofs.CutsBoundWalks.{IsPotential, labels_are_potential}
 use Rattle.mono_dynamic.specs.LeastRows.{costs_at}
 use Rattle.mono_paths.specs.Found.{HasBound}
@@ -31,12 +31,14 @@ use Rattle.mono_theory.specs.declared.evidence.Evidence.{Evidence}
 use Rattle.mono_theory.specs.declared.stage.Stage.{Stage}
 use Rattle.mono_theory.specs.declared.stage.Stage.TheVariants as stage
 use Rattle.mono_theory.specs.AtomPlaces.{place_of_atom}
-use Rattle.mono_theory.specs.Evidences.{Decides}
+use Rattle.mono_theory.specs.Asked.{asks_walk}
+use Rattle.mono_theory.specs.Evidences.{Decides, shown_by}
 use Rattle.mono_theory.specs.Frames.{AreAtomsOf}
 use Rattle.mono_theory.specs.Sound.{IsRightIn, IsSound, IsWitnessIn, evidence_at}
 use Rattle.mono_theory.specs.Stages.{NoneWaits, shows, stage_at}
-use Rattle.mono_theory.specs.Supports.{AreCovered, GraphTheoryView, IsKeptBy, IsSideFor, SideView, StageIs, atom_at, facts_in}
-use Rattle.mono_theory.specs.Theories.{Facts, atom_of}
+use Rattle.mono_theory.specs.PossibleRows.{PossibleView, is_cut_off}
+use Rattle.mono_theory.specs.Supports.{AreCovered, IsKeptBy, IsSideFor, SideView, StageIs, atom_at, facts_in, part_of}
+use Rattle.mono_theory.specs.Theories.{Facts, atom_of, cut_to}
 use Rattle.mono_theory.specs.declared.either_side.EitherSide.{EitherSide}
 use Rattle.mono_theory.specs.declared.either_side.EitherSide.TheVariants as side
 use Rattle.mono_theory.specs.EitherSides.{IsEitherKept}
@@ -49,12 +51,14 @@ use Rattle.mono_theory.proofs.PartsOfSides.{part_len}
 use Rattle.mono_theory.proofs.SidesStay.{shown_now}
 use Rattle.mono_theory.proofs.KeptEvidenceDecides.{rising_decides, sound_witness}
 use Rattle.mono_distance.specs.declared.node_labels.Labels.{Labels}
-use Rattle.mono_distance.specs.Readings.{IsDecidedSide, IsReached, IsLeast, IsRightSide, above, bound_number, labels_at, labels_in, over_by, over_in, over_of, under_at, under_in}
-use Rattle.mono_distance.specs.SureLabels.{SureLabels, AreLabelsAfter, last_node, is_alike, is_within, limit_of, row_of_atom, under_label}
+use Rattle.mono_distance.specs.Readings.{AreBothDecided, DistanceView, IsDecidedSide, IsPossiblyDecided, IsPossiblyRight, IsReached, IsLeast, IsRightSide, above, bound_number, labels_at, labels_in, over_at, over_by, over_in, over_known, over_of, under_at, under_in}
+use Rattle.mono_distance.specs.SureLabels.{SureLabels, AreLabelsAfter, first_node, last_node, is_alike, is_within, limit_of, row_of_atom, under_label}
 use Rattle.mono_distance.proofs.DistanceEvidence.{distance_rises}
 use Rattle.mono_distance.proofs.TableLabels.{label_is}
-use Rattle.mono_distance.proofs.RowsBySource.{alike_itself}
-use Rattle.mono_distance.proofs.SureLabels.{label_walk, label_decides, labels_uncut, last_asked, limit_asked, low_enough, of_holds, under_cap}
+use Rattle.mono_theory.proofs.AskedRows.{last_asked, limit_asked}
+use Rattle.mono_theory.proofs.PossibleParts.{only_shrinks}
+use Rattle.mono_theory.proofs.WalksTold.{cut_off_fails, lacking_decides, none_later}
+use Rattle.mono_distance.proofs.SureLabels.{alike_itself, label_walk, label_decides, labels_uncut, light_of, low_enough, of_holds, under_cap}
 
 -- ---- with the surely present edges
 
@@ -139,7 +143,7 @@ up_to_above l n b le = within (pos n) (bound_of l +ℤ pos 1) (let h = above_is 
     within : (x y : ℤ) → x ≤ℤ y → IsTrue (int_le x y)
     within x y e = grind (arith, ints)
 
-none_least : (g : Digraph) (P : List Bool) (q : Predicate) (v : ℕ) → HasBound (limit_of q) → IsLeast g P q v 0
+pub none_least : (g : Digraph) (P : List Bool) (q : Predicate) (v : ℕ) → HasBound (limit_of q) → IsLeast g P q v 0
 none_least g P q v bound = record { least = λ ks w. omega arith; most = up_to_above (limit_of q) 0 bound (omega arith) }
 
 -- what a witness against a predicate says is at most what walks cost
@@ -303,6 +307,74 @@ decided_under f (side.Searches s) a graph over-it kind-it lt none h =
     decides_by f.graph (under f.graph f.seen) q (shows (stage_at s.stages a)) (is_some (under_in (side.Searches s) a q (last_node q))) (at_last q (shows (stage_at s.stages a)) (bound_number (bound_of (limit_of q))))
     (by_stage a (stage_at s.stages a) graph over-it kind-it lt h refl (none a stage.Waits (omega (arith, lt, len))))
 
+-- what a predicate asks for
+pub limit_is : (q : Predicate) (u w : ℕ) (l : Limit) → q ≡ predicate_of u w l → limit_of q ≡ l
+limit_is q u w l is = ap limit_of is ∙ limit_asked u w l
+
+pub to_is_last : (q : Predicate) (u w : ℕ) (l : Limit) → q ≡ predicate_of u w l → w ≡ last_node q
+to_is_last q u w l is = sym (ap last_node is ∙ last_asked u w l)
+
+-- ---- where rows of the possibly present edges are kept
+
+beyond_bound : (l : Limit) → HasBound l → is_within (above (bound_of l)) l ≡ false
+beyond_bound l bound = beyond (bound_of l) (above (bound_of l)) (above_is l bound)
+  where
+    beyond : (x : ℤ) (m : ℕ) → pos m ≡ x +ℤ pos 1 → int_le (pos m) x ≡ false
+    beyond x m e = grind (arith, ints)
+
+-- the label says whether a walk within the bound leads to the last node, where that is known
+rows_decide : (g : Digraph) (P : List Bool) (q : Predicate) (b : Bool) → IsTrue (is_distance q) → HasBound (limit_of q) → Decides g P q (not b) → Decides g P q (is_within (cond b (above (bound_of (limit_of q))) 0) (limit_of q))
+rows_decide g P q true kind-it bound fails = decides_by g P q false (is_within (above (bound_of (limit_of q))) (limit_of q)) (beyond_bound (limit_of q) bound) fails
+rows_decide g P q false kind-it bound holds =
+    let w = of_holds g P q (limit_of q) kind-it (alike_itself (limit_of q)) holds in
+    decides_by g P q true (is_within 0 (limit_of q)) (low_enough 0 (cost_along (limit_of q) g w.0) (bound_of (limit_of q)) (omega arith) w.2) holds
+
+pub rows_decided : (g : Digraph) (P : List Bool) (q : Predicate) (b : Bool) (r : ℕ) → IsTrue (is_distance q) → HasBound (limit_of q) → r ≡ cond b (above (bound_of (limit_of q))) 0 → Decides g P q (not b) → Decides g P q (is_within r (limit_of q))
+rows_decided g P q b r kind-it bound read h = decides_by g P q (is_within (cond b (above (bound_of (limit_of q))) 0) (limit_of q)) (is_within r (limit_of q)) (ap (λ (m : ℕ). is_within m (limit_of q)) read) (rows_decide g P q b kind-it bound h)
+
+-- a walk that costs less than that is within the bound
+below_above : (b : ℤ) (m n : ℕ) → pos m ≡ b +ℤ pos 1 → n < m → int_le (pos n) b ≡ true
+below_above b m n e lt = grind (arith, ints)
+
+no_walk_below : (g : Digraph) (P : List Bool) (q : Predicate) (ks : List ℕ) → HasBound (limit_of q) → ((js : List ℕ) → IsTrue (is_path g P (first_node q) (last_node q) (limit_of q) js) → ⊥) → IsTrue (is_walk g P (first_node q) (last_node q) ks) → above (bound_of (limit_of q)) ≤ cost_along (limit_of q) g ks
+no_walk_below g P q ks bound none way = elim (cases_lt (cost_along (limit_of q) g ks) (above (bound_of (limit_of q)))) [
+  | inl low ↦ absurd (none ks (and_from (is_walk g P (first_node q) (last_node q) ks) (is_light (limit_of q) g ks) way
+      (light_of g (limit_of q) (limit_of q) ks (alike_itself (limit_of q)) (below_above (bound_of (limit_of q)) (above (bound_of (limit_of q))) (cost_along (limit_of q) g ks) (above_is (limit_of q) bound) low))))
+  | inr high ↦ high
+]
+
+pub rows_least : (g : Digraph) (t : List ℤ) (n : ℕ) (q : Predicate) (v : ℕ) (b : Bool) → IsTrue (asks_walk q) → HasBound (limit_of q) → v ≡ last_node q → (IsTrue b → Decides g (part_of g (take n t) true) q (shown_by q false)) → IsLeast g (over g t) q v (cond b (above (bound_of (limit_of q))) 0)
+rows_least g t n q v false asks bound last fails = none_least g (over g t) q v bound
+rows_least g t n q v true asks bound last fails = record {
+  least = λ ks way. no_walk_below g (over g t) q ks bound (none_later g t n q asks (fails refl)) (subst (λ (w : ℕ). IsTrue (is_walk g (over g t) (first_node q) w ks)) last way);
+  most = up_to_above (limit_of q) (above (bound_of (limit_of q))) bound (omega arith);
+}
+
+-- of other nodes nothing is known
+pub over_elsewhere : (s : PossibleView) (a v w u : ℕ) (l : Limit) (q : Predicate) → q ≡ predicate_of u w l → v ≢ w → 0 ≡ over_at s a q v
+over_elsewhere s a v w u l q is other = sym (ap (λ (b : Bool). cond (b && is_cut_off s a) (above (bound_of (limit_of q))) 0) (ne_eqb v (last_node q) (λ e. other (e ∙ (ap last_node is ∙ last_asked u w l)))))
+
+pub over_at_last : (s : PossibleView) (a v w u : ℕ) (l : Limit) (q : Predicate) (b : Bool) (r : ℕ) → q ≡ predicate_of u w l → v ≡ w → b ≡ is_cut_off s a → r ≡ cond b (above (bound_of l)) 0 → r ≡ over_at s a q v
+over_at_last s a v w u l q b r is last cut read =
+    read ∙ (ap (λ (c : Bool). cond c (above (bound_of l)) 0) cut
+    ∙ (ap (λ (k : Limit). cond (is_cut_off s a) (above (bound_of k)) 0) (sym (ap limit_of is ∙ limit_asked u w l))
+    ∙ sym (ap (λ (c : Bool). cond (c && is_cut_off s a) (above (bound_of (limit_of q))) 0) (eq-eqb v (last_node q) (last ∙ sym (ap last_node is ∙ last_asked u w l))))))
+
+decided_over : (f : Facts) (d : EitherSide PossibleView) (a : ℕ) → IsGraph f.graph → IsOver f.graph (atom_at f.atoms a).predicate → IsTrue (is_distance (atom_at f.atoms a).predicate) → a < length f.atoms → IsPossiblyDecided f d → IsPossiblyRight f d
+    → Decides f.graph (over f.graph f.seen) (atom_at f.atoms a).predicate (is_within (over_known d a (atom_at f.atoms a).predicate (last_node (atom_at f.atoms a).predicate)) (limit_of (atom_at f.atoms a).predicate))
+decided_over f (side.Rows s) a graph over-it kind-it lt stands h =
+    let q = (atom_at f.atoms a).predicate in
+    let P = over f.graph f.seen in
+    let off = is_cut_off s.rows a in
+    let fails : IsTrue off → Decides f.graph (part_of f.graph (take s.looked f.seen) true) q (shown_by q false) = λ on. cut_off_fails {f = cut_to s.looked f} a lt (only_shrinks (cut_to s.looked f) _) h.rows on in
+    let same : cond (eqb (last_node q) (last_node q) && off) (above (bound_of (limit_of q))) 0 ≡ cond off (above (bound_of (limit_of q))) 0 =
+    ap (λ (c : Bool). cond (c && off) (above (bound_of (limit_of q))) 0) (eq-eqb (last_node q) (last_node q) refl) in
+    decides_by f.graph P q (is_within (cond off (above (bound_of (limit_of q))) 0) (limit_of q)) (is_within (over_at s.rows a q (last_node q)) (limit_of q)) (ap (λ (m : ℕ). is_within m (limit_of q)) same)
+    (rows_decide f.graph P q off kind-it (bound_of_kind f.graph q kind-it over-it) (lacking_decides a off lt h stands refl fails))
+decided_over f (side.Searches r) a graph over-it kind-it lt none h =
+    let len = h.side.stages_len in
+    at_stage {f = f} a (stage_at r.stages a) graph over-it kind-it lt h refl (none a stage.Waits (omega (arith, lt, len)))
+
 found_at : (f : Facts) (n : ℕ) (x : Atom) → AreAtomsOf f.graph f.atoms → atom_of f.atoms n ≡ Some x → (place_of_atom f.atoms n < length f.atoms) × (atom_at f.atoms (place_of_atom f.atoms n) ≡ x)
 found_at f n x known is =
     let held = place_held f.atoms n (subst (λ (o : Option Atom). IsSome o) (sym is) (cc)) in
@@ -312,21 +384,19 @@ found_at f n x known is =
     some_same : (y z : Atom) → Some y ≡ Some z → y ≡ z
     some_same y z e = cc
 
--- the labels of an atom's last node decide once what is kept with the surely present edges does and no atom waits
-pub labels_decide : (s : GraphTheoryView (EitherSide SureLabels) SideView) (n : ℕ) (x : Atom) → IsGraph s.graph → AreAtomsOf s.graph s.atoms → AreCovered is_distance s.atoms → IsRightSide (facts_in s) s.surely → IsSideFor (facts_in s) true true s.possibly → IsDecidedSide (facts_in s) s.surely
-    → NoneWaits s.possibly.stages → atom_of s.atoms n ≡ Some x
+-- the labels of an atom's last node decide once what is kept does
+pub labels_decide : (s : DistanceView) (n : ℕ) (x : Atom) → IsGraph s.graph → AreAtomsOf s.graph s.atoms → AreCovered is_distance s.atoms → IsRightSide (facts_in s) s.surely → IsPossiblyRight (facts_in s) s.possibly → AreBothDecided s → atom_of s.atoms n ≡ Some x
     → Decides s.graph (under s.graph s.seen) x.predicate (is_some (labels_in s n (last_node x.predicate)).under) × Decides s.graph (over s.graph s.seen) x.predicate (is_within (labels_in s n (last_node x.predicate)).over (limit_of x.predicate))
-labels_decide s n x graph known covered right possibly decides none is =
+labels_decide s n x graph known covered right possibly decides is =
     let f : Facts = facts_in s in
     let a = place_of_atom s.atoms n in
     let p = found_at f n x known is in
     let over-it : IsOver s.graph (atom_at s.atoms a).predicate = (known.over a no_atom p.0).1 in
     let kind-it : IsTrue (is_distance (atom_at s.atoms a).predicate) = covered.each a no_atom p.0 in
-    let len = possibly.side.stages_len in
     subst
     (λ (y : Atom). Decides s.graph (under s.graph s.seen) y.predicate (is_some (labels_in s n (last_node y.predicate)).under) × Decides s.graph (over s.graph s.seen) y.predicate (is_within (labels_in s n (last_node y.predicate)).over (limit_of y.predicate))) p.1 (
-      decided_under f s.surely a graph over-it kind-it p.0 decides right,
-      at_stage {f = f} a (stage_at s.possibly.stages a) graph over-it kind-it p.0 possibly refl (none a stage.Waits (let lt = p.0 in omega (arith, lt, len))),
+      decided_under f s.surely a graph over-it kind-it p.0 decides.surely right,
+      decided_over f s.possibly a graph over-it kind-it p.0 decides.possibly possibly,
     )
 
 -- ---- what is known stays while literals come
@@ -349,27 +419,31 @@ under_stays f l (side.Searches s) (side.Searches r) a q v kept =
 under_stays f l (side.Rows s) (side.Searches r) a q v same = absurd same
 under_stays f l (side.Searches s) (side.Rows r) a q v same = absurd same
 
-pub labels_stay : (s r : GraphTheoryView (EitherSide SureLabels) SideView) (lit : ℤ) (n v : ℕ) → r.atoms ≡ s.atoms → IsEitherKept (facts_in s) lit s.surely r.surely → IsKeptBy s.graph true lit s.possibly r.possibly → labels_in r n v ≡ labels_in s n v
-labels_stay s r lit n v atoms surely kept =
+known_stays : (f : Facts) (l : ℤ) (c d : EitherSide PossibleView) (a : ℕ) (q : Predicate) (v : ℕ) → IsEitherKept f l c d → over_known d a q v ≡ over_known c a q v
+known_stays f l (side.Rows s) (side.Rows r) a q v same = ap (λ (t : RowsView PossibleView). over_at t.rows a q v) same
+known_stays f l (side.Searches s) (side.Searches r) a q v kept =
+    ap (λ (x : SideView). over_of (limit_of q) v (stage_at r.stages a) (evidence_at x.shown a)) kept.same
+    ∙ over_stays (limit_of q) v (stage_at s.stages a) (stage_at r.stages a) (evidence_at s.shown a) (stage_stays a kept)
+known_stays f l (side.Rows s) (side.Searches r) a q v same = absurd same
+known_stays f l (side.Searches s) (side.Rows r) a q v same = absurd same
+
+pub labels_stay : (s r : DistanceView) (lit : ℤ) (n v : ℕ) → r.atoms ≡ s.atoms → IsEitherKept (facts_in s) lit s.surely r.surely → IsEitherKept (facts_in s) lit s.possibly r.possibly → labels_in r n v ≡ labels_in s n v
+labels_stay s r lit n v atoms surely possibly =
     let a = place_of_atom s.atoms n in
     let q = (atom_at s.atoms a).predicate in
-    let shown : r.possibly.shown ≡ s.possibly.shown = ap (λ (x : SideView). x.shown) kept.same in
-    let stage : over_of (limit_of q) v (stage_at r.possibly.stages a) (evidence_at s.possibly.shown a) ≡ over_of (limit_of q) v (stage_at s.possibly.stages a) (evidence_at s.possibly.shown a) =
-    over_stays (limit_of q) v (stage_at s.possibly.stages a) (stage_at r.possibly.stages a) (evidence_at s.possibly.shown a) (stage_stays a kept) in
     ap (λ (xs : List Atom). labels_at r (place_of_atom xs n) (atom_at xs (place_of_atom xs n)).predicate v) atoms
-    ∙ (ap (λ (o : Option ℕ). let x : Labels = record { under = o; over = over_of (limit_of q) v (stage_at r.possibly.stages a) (evidence_at r.possibly.shown a) } in x) (under_stays (facts_in s) lit s.surely r.surely a q v surely)
-    ∙ (ap (λ (es : List (Option Evidence)). let x : Labels = record { under = under_in s.surely a q v; over = over_of (limit_of q) v (stage_at r.possibly.stages a) (evidence_at es a) } in x) shown
-    ∙ ap (λ (d : ℕ). let x : Labels = record { under = under_in s.surely a q v; over = d } in x) stage))
+    ∙ (ap (λ (o : Option ℕ). let x : Labels = record { under = o; over = over_known r.possibly a q v } in x) (under_stays (facts_in s) lit s.surely r.surely a q v surely)
+    ∙ ap (λ (d : ℕ). let x : Labels = record { under = under_in s.surely a q v; over = d } in x) (known_stays (facts_in s) lit s.possibly r.possibly a q v possibly))
 
 -- ---- a reading
-
-limit_is : (q : Predicate) (u w : ℕ) (l : Limit) → q ≡ predicate_of u w l → limit_of q ≡ l
-limit_is q u w l is = ap limit_of is ∙ limit_asked u w l
 
 pub over_read : {W : Type 0} (o : Option W) (value : W → Witness) (r : ℕ) (l : Limit) (v : ℕ) (st : Stage) (kept : Option Evidence) → MatchOption o (r ≡ 0) (λ w. r ≡ over_by l v (value w))
     → IfNone o (shows st ≡ false) → (IsSome o → shows st ≡ true) → IfSome o (λ w. MatchOption kept ⊥ (λ e. value w ≡ e.witness)) → r ≡ over_of l v st kept
 over_read None value r l v st kept is none some its = is ∙ sym (over_none l v st kept none)
 over_read (Some w) value r l v st kept is none some its = is ∙ sym (over_some l v st kept (value w) (some cc) its)
+
+pub known_read : (s : SideView) (a v u w r : ℕ) (l : Limit) (q : Predicate) → q ≡ predicate_of u w l → r ≡ over_of l v (stage_at s.stages a) (evidence_at s.shown a) → r ≡ over_of (limit_of q) v (stage_at s.stages a) (evidence_at s.shown a)
+known_read s a v u w r l q is read = read ∙ ap (λ (k : Limit). over_of k v (stage_at s.stages a) (evidence_at s.shown a)) (sym (limit_is q u w l is))
 
 pub least_read : {W : Type 0} (o : Option W) (value : W → Witness) (r : ℕ) (g : Digraph) (P : List Bool) (q : Predicate) (u x v : ℕ) (l : Limit) → q ≡ predicate_of u x l → HasBound l → IsTrue (is_distance q) → MatchOption o (r ≡ 0) (λ w. r ≡ over_by l v (value w))
     → IfSome o (λ w. IsWitnessIn g P q false (value w)) → IsLeast g P q v r
@@ -455,11 +529,9 @@ searches_reach f a u w v number l x is last same kind-it shown =
     let number-is : bound_number (bound_of (limit_of q)) ≡ number = ap (λ (k : Limit). bound_number (bound_of k)) (limit_is q u w l is) ∙ sym same in
     subst (λ (m : ℕ). IsReached g P q m number) (sym (last ∙ sym (ap last_node is ∙ last_asked u w l))) (subst (λ (d : ℕ). IsReached g P q (last_node q) d) number-is shows-it)
 
-pub reading_is : (s : GraphTheoryView (EitherSide SureLabels) SideView) (n v a u w r : ℕ) (l : Limit) (o : Option ℕ) → place_of_atom s.atoms n ≡ a → (atom_at s.atoms a).predicate ≡ predicate_of u w l → o ≡ under_in s.surely a (atom_at s.atoms a).predicate v
-    → r ≡ over_of l v (stage_at s.possibly.stages a) (evidence_at s.possibly.shown a) → record { under = o; over = r } ≡ labels_in s n v
-reading_is s n v a u w r l o at is read r-is =
+pub reading_is : (s : DistanceView) (n v a r : ℕ) (o : Option ℕ) → place_of_atom s.atoms n ≡ a → o ≡ under_in s.surely a (atom_at s.atoms a).predicate v → r ≡ over_known s.possibly a (atom_at s.atoms a).predicate v → record { under = o; over = r } ≡ labels_in s n v
+reading_is s n v a r o at read high =
     let q = (atom_at s.atoms a).predicate in
-    let high : r ≡ over_of (limit_of q) v (stage_at s.possibly.stages a) (evidence_at s.possibly.shown a) = r-is ∙ ap (λ (k : Limit). over_of k v (stage_at s.possibly.stages a) (evidence_at s.possibly.shown a)) (sym (limit_is q u w l is)) in
     ap (λ (p : Option ℕ). let x : Labels = record { under = p; over = r } in x) read
     ∙ (ap (λ (d : ℕ). let x : Labels = record { under = under_in s.surely a q v; over = d } in x) high
     ∙ sym (ap (λ (b : ℕ). labels_at s b (atom_at s.atoms b).predicate v) at))

@@ -1,5 +1,5 @@
 -- What is kept of the labels along the surely present edges stays right, and decides each predicate.
-use Rattle.std.proofs.Common.{◌≡◌, ℕ, ◌+◌, ◌<◌, ◌≤◌, Bool, true, false, List, length, map, take, get_or, refl, sym, ap, subst, ◌∙◌, inl, inr, arith, ℤ, pos, ◌+ℤ◌, nat_abs, int_lt, int_le, All}
+use Rattle.std.proofs.Common.{◌≡◌, ℕ, ◌+◌, ◌<◌, ◌≤◌, Bool, true, false, List, length, map, take, get_or, refl, sym, ap, subst, ◌∙◌, inl, inr, arith, ℤ, pos, nat_abs, int_lt, int_le, All}
 use Rattle.std.specs.Prelude.{IsTrue, slice_index}
 use Rattle.std.specs.List.{AllZip}
 use Rattle.std.proofs.lemmas.Bool.{cases_lt, cases_Bool, both_ways, and_from, and_parts}
@@ -16,14 +16,13 @@ use Rattle.mono_graph.proofs.Subparts.{is_walk-larger}
 use Rattle.mono_paths.proofs.Ends.{ones}
 use Rattle.mono_dynamic.specs.declared.cost_source.CostSource.{CostSource}
 use Rattle.mono_dynamic.specs.Costs.{Costs, label_of, labels_after, made_after, unwound, AreLeast, AreLeastAlong}
-use Rattle.mono_dynamic.specs.LeastRows.{no_costs, costs_at, costs_from, IsBackCosts, IsCostRow, IsCostSource, IsGrownCosts}
+use Rattle.mono_dynamic.specs.LeastRows.{no_costs, costs_at, costs_from, measure_of, IsBackCosts, IsCostRow, IsCostSource, IsGrownCosts}
 use Rattle.mono_dynamic.proofs.CostLists.{after_none, label_same, length-unwound}
 use Rattle.mono_dynamic.proofs.LeastExact.{least_first, least_same, least_still}
 use Rattle.mono_problem.specs.declared.atom.Predicate.{Predicate}
 use Rattle.mono_problem.specs.declared.atom.Predicate.TheVariants as kind
 use Rattle.mono_problem.specs.Holds.{Holds}
 use Rattle.mono_problem.specs.Quiet.{under}
-use Rattle.mono_problem.specs.WellFormed.{IsOver}
 use Rattle.mono_theory.specs.Bound.{Bound, edge_vars, IsBoundOf}
 use Rattle.mono_theory.specs.DueAtoms.{PutsDue}
 use Rattle.mono_theory.specs.DueNodes.{PutsRows}
@@ -39,8 +38,27 @@ use Rattle.mono_theory.specs.Theories.{Facts, cut_to}
 use Rattle.mono_theory.specs.SureParts.{sure_parts}
 use Rattle.mono_theory.proofs.SureEdges.{bounds_grown, cut_length, none_sure, parts_cut, sure_larger, sure_still, sure_within}
 use Rattle.mono_distance.specs.Distances.{is_distance, predicate_of}
-use Rattle.mono_distance.specs.SureLabels.{SureLabels, AreLabelsAfter, AreOfAtoms, AreSureLabels, HasLast, HasLimit, shows_last, HaveRows, IsRowFor, is_alike, is_within, first_node, last_node, limit_of, under_label, row_of_atom, source_at, no_source, IsSourceFor}
-use Rattle.mono_distance.proofs.RowsBySource.{alike_itself}
+use Rattle.mono_theory.specs.Asked.{no_source, source_at, AreOfAtoms, HaveRows}
+use Rattle.mono_theory.proofs.AskedRows.{first_asked, last_asked, limit_asked}
+use Rattle.mono_distance.specs.SureLabels.{SureLabels, AreLabelsAfter, AreSureLabels, HasLast, HasLimit, shows_last, IsRowFor, is_alike, is_within, first_node, last_node, limit_of, under_label, row_of_atom}
+
+-- ---- limits that measure alike
+
+pub alike_itself : (l : Limit) → is_alike l l ≡ true
+alike_itself limit.Free = refl
+alike_itself (limit.Steps a) = refl
+alike_itself (limit.Weight a) = refl
+
+measure_alike : (k l : Limit) → measure_of k ≡ measure_of l → is_alike k l ≡ true
+measure_alike limit.Free limit.Free same = refl
+measure_alike (limit.Steps a) (limit.Steps b) same = refl
+measure_alike (limit.Weight a) (limit.Weight b) same = refl
+measure_alike limit.Free (limit.Steps b) same = absurd (omega (arith, same))
+measure_alike limit.Free (limit.Weight b) same = absurd (omega (arith, same))
+measure_alike (limit.Steps a) limit.Free same = absurd (omega (arith, same))
+measure_alike (limit.Steps a) (limit.Weight b) same = absurd (omega (arith, same))
+measure_alike (limit.Weight a) limit.Free same = absurd (omega (arith, same))
+measure_alike (limit.Weight a) (limit.Steps b) same = absurd (omega (arith, same))
 
 -- ---- the first literals alone
 
@@ -233,36 +251,6 @@ label_walk {f = f} {s = s} {n = n} a v lt inside fits h low =
 
 -- ---- what was asked
 
-pub first_asked : (u v : ℕ) (l : Limit) → first_node (predicate_of u v l) ≡ u
-first_asked u v limit.Free = refl
-first_asked u v (limit.Steps most) = refl
-first_asked u v (limit.Weight most) = refl
-
-pub last_asked : (u v : ℕ) (l : Limit) → last_node (predicate_of u v l) ≡ v
-last_asked u v limit.Free = refl
-last_asked u v (limit.Steps most) = refl
-last_asked u v (limit.Weight most) = refl
-
-pub limit_asked : (u v : ℕ) (l : Limit) → limit_of (predicate_of u v l) ≡ l
-limit_asked u v limit.Free = refl
-limit_asked u v (limit.Steps most) = refl
-limit_asked u v (limit.Weight most) = refl
-
-pub last_known : (g : Digraph) (u v : ℕ) (l : Limit) → IsOver g (predicate_of u v l) → v < g.nodes
-last_known g u v limit.Free h = h.1
-last_known g u v (limit.Steps most) h = h.1
-last_known g u v (limit.Weight most) h = h.1
-
-pub source_asked : (q : Predicate) (u v cap : ℕ) (l : Limit) → q ≡ predicate_of u v l → pos cap ≡ bound_of l +ℤ pos 1 → IsSourceFor q (record { node = u; limit = l; cap = cap })
-source_asked q u v cap l is high = subst (λ (p : Predicate). IsSourceFor p (record { node = u; limit = l; cap = cap })) (sym is) (record {
-  node = sym (first_asked u v l);
-  alike = ap (λ (k : Limit). is_alike l k) (limit_asked u v l) ∙ alike_itself l;
-  beyond = ap (λ (k : Limit). int_lt (bound_of k) (pos cap)) (limit_asked u v l) ∙ one_more (bound_of l) cap high;
-})
-  where
-    one_more : (b : ℤ) (n : ℕ) → pos n ≡ b +ℤ pos 1 → int_lt b (pos n) ≡ true
-    one_more b n e = grind (arith, ints)
-
 pub within_asked : (s : SureLabels) (a u v n : ℕ) (l : Limit) (q : Predicate) → q ≡ predicate_of u v l → n ≡ under_label s a v → is_within n l ≡ is_within (under_label s a (last_node q)) (limit_of q)
 within_asked s a u v n l q is label =
     ap (λ (m : ℕ). is_within m l) (label ∙ ap (λ (w : ℕ). under_label s a w) (sym (ap last_node is ∙ last_asked u v l)))
@@ -309,7 +297,7 @@ labels_start f sources row_of lasts limits known have ends bounds = record {
       let q = (atom_at f.atoms a).predicate in record {
         held = (let held = own.0 in omega (arith, held, length-map sources (costs_from f.graph.nodes)));
         source = get_or-map (λ (y : CostSource). y.node) sources r no_source 0 own.0 ∙ own.1.node;
-        alike = ap (λ (t : Costs). is_alike t.limit (limit_of q)) (at r own.0) ∙ own.1.alike;
+        alike = ap (λ (t : Costs). is_alike t.limit (limit_of q)) (at r own.0) ∙ measure_alike (source_at sources r).limit (limit_of q) own.1.alike;
         beyond = ap (λ (t : Costs). int_lt (bound_of (limit_of q)) (pos t.cap)) (at r own.0) ∙ own.1.beyond;
       };
 }

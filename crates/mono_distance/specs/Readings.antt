@@ -12,8 +12,9 @@ use Rattle.mono_theory.specs.declared.stage.Stage.{Stage}
 use Rattle.mono_theory.specs.declared.stage.Stage.TheVariants as stage
 use Rattle.mono_theory.specs.AtomPlaces.{place_of_atom}
 use Rattle.mono_theory.specs.Sound.{evidence_at}
-use Rattle.mono_theory.specs.Stages.{NoneWaits, shows, stage_at}
-use Rattle.mono_theory.specs.Supports.{GraphTheoryView, SideView, atom_at, facts_in}
+use Rattle.mono_theory.specs.Stages.{shows, stage_at}
+use Rattle.mono_theory.specs.PossibleRows.{PossibleView, AreTargetsOf, RowsStand, is_cut_off}
+use Rattle.mono_theory.specs.Supports.{GraphTheoryView, atom_at, facts_in}
 use Rattle.mono_theory.specs.Theories.{Facts}
 use Rattle.mono_theory.specs.declared.either_side.EitherSide.{EitherSide}
 use Rattle.mono_theory.specs.declared.either_side.EitherSide.TheVariants as side
@@ -76,14 +77,35 @@ abbrev pub over_of : Limit → ℕ → Stage → Option Evidence → ℕ
 over_of l v (stage.Forcing m) (Some e) = over_by l v e.witness
 over_of l v s o = 0
 
--- what is known of a node for the atom of a number
-abbrev pub labels_at : GraphTheoryView (EitherSide SureLabels) SideView → ℕ → Predicate → ℕ → Labels
-labels_at s a q v = record { under = under_in s.surely a q v; over = over_of (limit_of q) v (stage_at s.possibly.stages a) (evidence_at s.possibly.shown a) }
+-- what is kept with the possibly present edges is right
+abbrev pub IsPossiblyRight : Facts → EitherSide PossibleView → Type 0
+IsPossiblyRight f s = IsEitherRight is_distance true true AreTargetsOf is_cut_off f s
 
-abbrev pub labels_in : GraphTheoryView (EitherSide SureLabels) SideView → ℕ → ℕ → Labels
+-- what is kept with the possibly present edges decides each predicate
+abbrev pub IsPossiblyDecided : Facts → EitherSide PossibleView → Type 0
+IsPossiblyDecided f s = IsEitherDecided RowsStand f s
+
+-- Rows say of the last node alone that each walk there costs more than the bound: then the label is one more than the bound.
+abbrev pub over_at : PossibleView → ℕ → Predicate → ℕ → ℕ
+over_at s a q v = if v == last_node q && is_cut_off s a then above (bound_of (limit_of q)) else 0
+
+-- the label by what is kept with the possibly present edges
+abbrev pub over_known : EitherSide PossibleView → ℕ → Predicate → ℕ → ℕ
+over_known (side.Rows s) a q v = over_at s.rows a q v
+over_known (side.Searches s) a q v = over_of (limit_of q) v (stage_at s.stages a) (evidence_at s.shown a)
+
+-- a theory of distances
+abbrev pub DistanceView : Type 0
+DistanceView = GraphTheoryView (EitherSide SureLabels) (EitherSide PossibleView)
+
+-- what is known of a node for the atom of a number
+abbrev pub labels_at : DistanceView → ℕ → Predicate → ℕ → Labels
+labels_at s a q v = record { under = under_in s.surely a q v; over = over_known s.possibly a q v }
+
+abbrev pub labels_in : DistanceView → ℕ → ℕ → Labels
 labels_in s n v = labels_at s (place_of_atom s.atoms n) (atom_at s.atoms (place_of_atom s.atoms n)).predicate v
 
 -- what is kept decides each predicate with the surely present edges, and with the possibly present ones
-pub record AreBothDecided (s : GraphTheoryView (EitherSide SureLabels) SideView) : Type 0 where
+pub record AreBothDecided (s : DistanceView) : Type 0 where
   pub surely : IsDecidedSide (facts_in s) s.surely
-  pub possibly : NoneWaits s.possibly.stages
+  pub possibly : IsPossiblyDecided (facts_in s) s.possibly

@@ -1,35 +1,16 @@
 -- What is kept of the labels of nodes along the surely present edges: a row for each first node and measure of an atom.
-use Rattle.std.specs.Prelude.{◌≡◌, ℕ, ◌<◌, ◌≤◌, Bool, true, false, pos, int_lt, int_le, List, length, slice_index, slice_index_or}
+use Rattle.std.specs.Prelude.{◌≡◌, ℕ, ◌<◌, Bool, true, false, pos, int_lt, int_le, List, length, slice_index, slice_index_or}
 use Rattle.mono_graph.specs.declared.limit.Limit.{Limit}
 use Rattle.mono_graph.specs.declared.limit.Limit.TheVariants as limit
 use Rattle.mono_graph.specs.Walks.{bound_of}
-use Rattle.mono_dynamic.specs.declared.cost_source.CostSource.{CostSource}
 use Rattle.mono_dynamic.specs.Costs.{Costs, label_of}
 use Rattle.mono_dynamic.specs.LeastRows.{costs_at, AreAllLeast}
-use Rattle.mono_problem.specs.declared.atom.Atom.{Atom}
 use Rattle.mono_problem.specs.declared.atom.Predicate.{Predicate}
-use Rattle.mono_problem.specs.declared.atom.Predicate.TheVariants as kind
+pub use Rattle.mono_theory.specs.Asked.{first_node, last_node, limit_of}
+use Rattle.mono_theory.specs.Asked.{AreOfAtoms}
 use Rattle.mono_theory.specs.Supports.{atom_at}
 use Rattle.mono_theory.specs.Theories.{Facts}
 use Rattle.mono_theory.specs.SureParts.{sure_parts}
-
--- the nodes between which a walk is to lead, and its limit
-abbrev pub first_node : Predicate → ℕ
-first_node (kind.Reach u v) = u
-first_node (kind.Steps u v most) = u
-first_node (kind.Distance u v most) = u
-first_node q = 0
-
-abbrev pub last_node : Predicate → ℕ
-last_node (kind.Reach u v) = v
-last_node (kind.Steps u v most) = v
-last_node (kind.Distance u v most) = v
-last_node q = 0
-
-abbrev pub limit_of : Predicate → Limit
-limit_of (kind.Steps u v most) = limit.Steps most
-limit_of (kind.Distance u v most) = limit.Weight most
-limit_of q = limit.Free
 
 -- the limits measure walks alike
 abbrev pub is_alike : Limit → Limit → Bool
@@ -59,11 +40,6 @@ under_label s a v = label_of (costs_at s.rows (row_of_atom s a)).labels v
 -- whether the label of the last node of the atom at a place is within its limit
 abbrev pub shows_last : SureLabels → ℕ → Bool
 shows_last s a = is_within (under_label s a (slice_index s.lasts a)) (slice_index_or s.limits a limit.Free)
-
--- of the first n atoms, what is such of their predicates
-pub record AreOfAtoms {X : Type 0} (Is : Predicate → X → Type 0) (atoms : List Atom) (n : ℕ) (xs : List X) : Type 0 where
-  pub len : length xs ≡ n
-  pub each : (a : ℕ) (d : X) → a < n → Is (atom_at atoms a).predicate (slice_index_or xs a d)
 
 -- it is the last node of the predicate, or its limit
 abbrev pub HasLast : Predicate → ℕ → Type 0
@@ -95,26 +71,3 @@ AreSureLabels s f = AreLabelsAfter f (length f.seen) s
 -- rows that change with each literal are always up to date
 abbrev pub AlwaysStand : SureLabels → Facts → Type 0
 AlwaysStand s f = Unit {0}
-
--- ---- the rows of the atoms at first
-
-abbrev pub no_source : CostSource
-no_source = record { node = 0; limit = limit.Free; cap = 0 }
-
-abbrev pub source_at : List CostSource → ℕ → CostSource
-source_at ss r = slice_index_or ss r no_source
-
--- no two rows are from the same node by the same measure
-abbrev pub AreApart : List CostSource → Type 0
-AreApart sources = (i j : ℕ) → i < length sources → j < length sources → (source_at sources i).node ≡ (source_at sources j).node → is_alike (source_at sources i).limit (source_at sources j).limit ≡ true → i ≡ j
-
--- what is to be in a row
-pub record IsSourceFor (q : Predicate) (s : CostSource) : Type 0 where
-  pub node : s.node ≡ first_node q
-  pub alike : is_alike s.limit (limit_of q) ≡ true
-  pub beyond : int_lt (bound_of (limit_of q)) (pos s.cap) ≡ true
-
--- each of the first n atoms has a row that serves its predicate
-pub record HaveRows (atoms : List Atom) (n : ℕ) (row_of : List ℕ) (sources : List CostSource) : Type 0 where
-  pub len : length row_of ≡ n
-  pub each : (a : ℕ) → a < n → (slice_index_or row_of a 0 < length sources) × IsSourceFor (atom_at atoms a).predicate (source_at sources (slice_index_or row_of a 0))

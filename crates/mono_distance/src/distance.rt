@@ -4,11 +4,10 @@
 //! its edges. Labels rest on the absent edges along which they rise by more than the edge costs. Of two labellings, the
 //! one counted from the first node and the one counted from the last, it is the one that rests on fewer.
 
-ghost use Rattle.std.specs.Prelude.{◌≡◌, ◌<◌, ◌≤◌, All, IfOk, IsTrue, length};
+ghost use Rattle.std.specs.Prelude.{◌≡◌, ◌<◌, ◌≤◌, All, IfOk, IsTrue};
 ghost use Rattle.mono_graph.specs.Digraph.{IsPartOf};
 ghost use Rattle.mono_graph.specs.Walks.{is_labelling};
 ghost use Rattle.mono_paths.specs.Found.{HasBound};
-ghost use Rattle.mono_problem.specs.WellFormed.{IsOver};
 ghost use Rattle.mono_theory.specs.Evidences.{IsEvidence};
 ghost use Rattle.mono_distance.specs.Distances.{is_distance, predicate_of, IsLabelEvidence};
 
@@ -22,7 +21,7 @@ use mono_paths::{PathOrLabels, WalkFinder};
 use mono_problem::Predicate;
 use mono_steps::Witness;
 use mono_theory::walks::walk_evidence;
-use mono_theory::{EitherSide, Evidence, GraphTheory, Kind};
+use mono_theory::{Asked, AsksWalk, EitherSide, Evidence, GraphTheory, Kind, PossibleRows};
 use std::alloc::{AllocError, Global};
 use std::marker::Model;
 
@@ -41,14 +40,6 @@ impl Model for Distance {
     ghost view = { λ d. d.finder };
 
     ghost invariant = { λ d. d.table ≡ d.finder };
-}
-
-/// The ends and the limit of a predicate.
-#[derive(Clone, Copy)]
-pub(crate) struct Asked {
-    pub(crate) from: u32,
-    pub(crate) to: u32,
-    pub(crate) limit: Limit,
 }
 
 /// What the predicate asks for.
@@ -182,5 +173,11 @@ impl Kind for Distance {
     }
 }
 
+impl AsksWalk for Distance {
+    fn asked(predicate: Predicate) -> Asked {
+        what_is_asked(predicate)
+    }
+}
+
 /// Predicates on walks within a limit over one graph.
-pub type DistanceTheory = GraphTheory<Distance, EitherSide<LeastRows>>;
+pub type DistanceTheory = GraphTheory<Distance, EitherSide<LeastRows>, EitherSide<PossibleRows>>;

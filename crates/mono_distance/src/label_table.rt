@@ -56,7 +56,8 @@ impl<'a> Labelled<'a> {
     /// Adds those of the edges that are absent and along which the labels rise.
     fn push_rising(&self, places: &[u32], edges: &mut Vec<u32>) -> Result<(), AllocError>
         requires { All (λ k. k < length self.now.graph.now.edges) places.now }
-        ensures { IfOk result (λ _. edges.new.items ≡ edges.old.items ++ absent_rising self.now.graph.now self.now.part.now self.now.entries.now self.now.others self.now.limit places.now) }
+        ensures { IfOk result (λ _. edges.new.items ≡ edges.old.items
+            ++ absent_rising self.now.graph.now self.now.part.now self.now.entries.now self.now.others self.now.limit places.now) }
     {
         for place in places {
             if !self.part.has(*place) && self.rises(*place) {
@@ -69,7 +70,8 @@ impl<'a> Labelled<'a> {
     /// Adds those at a listed node. Into it they rise from a node that isn't listed only where its label is greater.
     fn push_at(&self, label: Label, edges: &mut Vec<u32>) -> Result<(), AllocError>
         requires { label.node < self.now.graph.now.nodes }
-        ensures { IfOk result (λ _. edges.new.items ≡ edges.old.items ++ absent_at self.now.graph.now self.now.part.now self.now.entries.now self.now.others self.now.limit label) }
+        ensures { IfOk result (λ _. edges.new.items ≡ edges.old.items
+            ++ absent_at self.now.graph.now self.now.part.now self.now.entries.now self.now.others self.now.limit label) }
     {
         self.push_rising(self.graph.leaving(label.node), edges)?;
         if label.value > self.others {
@@ -81,7 +83,8 @@ impl<'a> Labelled<'a> {
     /// Those at the listed nodes.
     fn absent_tense(&self, alloc: Global, labels: &[Label]) -> Result<Vec<u32>, AllocError>
         requires { All (λ l. l.node < self.now.graph.now.nodes) labels.now }
-        ensures { IfOk result (λ edges. edges.items ≡ absent_tense_of self.now.graph.now self.now.part.now self.now.entries.now self.now.others self.now.limit labels.now) }
+        ensures { IfOk result (λ edges. edges.items
+            ≡ absent_tense_of self.now.graph.now self.now.part.now self.now.entries.now self.now.others self.now.limit labels.now) }
     {
         let mut edges = Vec::new(alloc);
         for label in labels {

@@ -1,35 +1,37 @@
 //! What follows from the definitions alone, of what a theory of distances knows of nodes.
 
-ghost use Rattle.std.specs.Prelude.{◌≡◌, ℕ, ℤ, true, Some, IfOk};
+ghost use Rattle.std.specs.Prelude.{◌≡◌, ℕ, ℤ, Some, IfOk};
 ghost use Rattle.std.specs.Option.{is_some};
 ghost use Rattle.mono_graph.specs.Digraph.{IsGraph};
 ghost use Rattle.mono_problem.specs.Quiet.{under, over};
 ghost use Rattle.mono_problem.specs.declared.atom.Atom.{Atom};
 ghost use Rattle.mono_theory.specs.Evidences.{Decides};
 ghost use Rattle.mono_theory.specs.Frames.{AreAtomsOf};
-ghost use Rattle.mono_theory.specs.Stages.{NoneWaits};
-ghost use Rattle.mono_theory.specs.Supports.{AreCovered, GraphTheoryView, IsKeptBy, IsSideFor, SideView, facts_in};
+ghost use Rattle.mono_theory.specs.Supports.{AreCovered, facts_in};
 ghost use Rattle.mono_theory.specs.Theories.{atom_of};
-ghost use Rattle.mono_theory.specs.declared.either_side.EitherSide.{EitherSide};
 ghost use Rattle.mono_theory.specs.EitherSides.{IsEitherKept};
 ghost use Rattle.mono_distance.specs.Distances.{is_distance};
-ghost use Rattle.mono_distance.specs.Readings.{AreBothDecided, labels_in, IsDecidedSide, IsRightSide};
-ghost use Rattle.mono_distance.specs.SureLabels.{SureLabels, is_within, last_node, limit_of};
+ghost use Rattle.mono_distance.specs.Readings.{AreBothDecided, DistanceView, labels_in, IsPossiblyRight, IsRightSide};
+ghost use Rattle.mono_distance.specs.SureLabels.{is_within, last_node, limit_of};
 
 use crate::DistanceTheory;
 use mono_theory::{Force, Theory};
 use std::alloc::AllocError;
 
-/// Once what is kept with the surely present edges decides and no atom waits, the labels of an atom's last node decide: its
-/// predicate holds with the surely present edges exactly where `under` is there, and with the possibly present ones exactly
-/// where `over` is within the bound.
+/// Once what is kept decides, with the surely present edges and with the possibly present ones, the labels of an atom's last node
+/// do: its predicate holds with the surely present edges exactly where `under` is there, and with the possibly present ones
+/// exactly where `over` is within the bound.
 pub fn labels_of_last_nodes_decide()
-    ensures { (s : GraphTheoryView (EitherSide SureLabels) SideView) (n : ℕ) (x : Atom) → IsGraph s.graph → AreAtomsOf s.graph s.atoms → AreCovered is_distance s.atoms → IsRightSide (facts_in s) s.surely → IsSideFor (facts_in s) true true s.possibly → IsDecidedSide (facts_in s) s.surely → NoneWaits s.possibly.stages → atom_of s.atoms n ≡ Some x → Decides s.graph (under s.graph s.seen) x.predicate (is_some (labels_in s n (last_node x.predicate)).under) × Decides s.graph (over s.graph s.seen) x.predicate (is_within (labels_in s n (last_node x.predicate)).over (limit_of x.predicate)) }
+    ensures { (s : DistanceView) (n : ℕ) (x : Atom) → IsGraph s.graph → AreAtomsOf s.graph s.atoms → AreCovered is_distance s.atoms
+        → IsRightSide (facts_in s) s.surely → IsPossiblyRight (facts_in s) s.possibly → AreBothDecided s → atom_of s.atoms n ≡ Some x
+        → Decides s.graph (under s.graph s.seen) x.predicate (is_some (labels_in s n (last_node x.predicate)).under)
+        × Decides s.graph (over s.graph s.seen) x.predicate (is_within (labels_in s n (last_node x.predicate)).over (limit_of x.predicate)) }
 {}
 
 /// Labels stay while literals come: rows stay, and of what searches found an atom that stands may wait again.
 pub fn labels_stay_while_literals_come()
-    ensures { (s r : GraphTheoryView (EitherSide SureLabels) SideView) (lit : ℤ) (n v : ℕ) → r.atoms ≡ s.atoms → IsEitherKept (facts_in s) lit s.surely r.surely → IsKeptBy s.graph true lit s.possibly r.possibly → labels_in r n v ≡ labels_in s n v }
+    ensures { (s r : DistanceView) (lit : ℤ) (n v : ℕ) → r.atoms ≡ s.atoms → IsEitherKept (facts_in s) lit s.surely r.surely
+        → IsEitherKept (facts_in s) lit s.possibly r.possibly → labels_in r n v ≡ labels_in s n v }
 {}
 
 /// Asks what is forced. Where the answer is Quiet, what is kept decides each predicate, with the surely present edges and with

@@ -18,13 +18,13 @@ ghost use Rattle.mono_theory.specs.SureParts.{sure_parts};
 ghost use Rattle.mono_distance.specs.Distances.{predicate_of};
 ghost use Rattle.mono_distance.specs.SureLabels.{is_within as is_within_of, row_of_atom, under_label, AreLabelsAfter};
 
-use crate::distance::{Asked, Distance, what_is_asked};
-use crate::sources::{last_nodes, limits_of, sources_of};
-use mono_base::Lit;
+use crate::distance::{Distance, what_is_asked};
+use crate::sources::{last_nodes, limits_of};
+use mono_base::{Lit, Worklist};
 use mono_dynamic::{BySource, LeastCosts, Sources};
 use mono_graph::{Graph, Limit};
 use mono_theory::walks::walk_evidence;
-use mono_theory::{AtomsByNode, Bounds, Due, Evidence, Frame, Rows};
+use mono_theory::{Asked, AtomsByNode, Bounds, Evidence, Frame, Rows, sources_of};
 use std::alloc::{AllocError, Global};
 use std::marker::Model;
 
@@ -73,9 +73,9 @@ pub(crate) fn is_within(label: u64, limit: Limit) -> bool
 }
 
 /// Puts the atoms in `due` whose last nodes have labels that fell after the first `looked` steps.
-fn put_due(lasts: &AtomsByNode, row: &LeastCosts, looked: u32, due: &mut Due)
-    requires { length due.old ≡ length lasts.now }
-    ensures { PutsNodes lasts.now (map (λ c. c.node) (made_after looked row.now.changes)) due.old due.new }
+fn put_due(lasts: &AtomsByNode, row: &LeastCosts, looked: u32, due: &mut Worklist)
+    requires { length due.old.listed ≡ length lasts.now }
+    ensures { PutsNodes lasts.now (map (λ c. c.node) (made_after looked row.now.changes)) due.old.listed due.new.listed }
 {
     for change in row.changes_after(looked) {
         lasts.insert(change.node, due);
@@ -83,9 +83,9 @@ fn put_due(lasts: &AtomsByNode, row: &LeastCosts, looked: u32, due: &mut Due)
 }
 
 /// So it is in each row.
-fn put_each_due(lasts: &AtomsByNode, rows: &BySource<LeastCosts>, looked: u32, due: &mut Due)
-    requires { length due.old ≡ length lasts.now }
-    ensures { PutsRows lasts.now (λ i. map (λ c. c.node) (made_after looked (costs_at rows.now i).changes)) (length rows.now) due.old due.new }
+fn put_each_due(lasts: &AtomsByNode, rows: &BySource<LeastCosts>, looked: u32, due: &mut Worklist)
+    requires { length due.old.listed ≡ length lasts.now }
+    ensures { PutsRows lasts.now (λ i. map (λ c. c.node) (made_after looked (costs_at rows.now i).changes)) (length rows.now) due.old.listed due.new.listed }
 {
     for i in 0..rows.count() {
         put_due(lasts, rows.row(i), looked, due);
@@ -105,7 +105,8 @@ impl LeastRows {
         requires looked { looked + 1 < 2 ^ 32 }
         requires vars { bounds.now.vars ≡ edge_vars graph.now }
         ensures same { OnOk result (self.new ≡ record self.old { rows = self.new.rows }) }
-        ensures grown { OnOk result ((ks : List ℕ) × ArePlacesOf bounds.now.vars var ks × AllZip (IsGrownCosts graph.now bounds.now.under ks (looked + 1)) self.old.rows self.new.rows) }
+        ensures grown { OnOk result ((ks : List ℕ) × ArePlacesOf bounds.now.vars var ks
+            × AllZip (IsGrownCosts graph.now bounds.now.under ks (looked + 1)) self.old.rows self.new.rows) }
         ensures unchanged { OnErr result (self.new ≡ self.old) }
     {
         let _ = graph.nodes();
@@ -150,7 +151,8 @@ impl LeastRows {
         requires place { place < length frame.now.atoms }
         requires asked { (atom_at frame.now.atoms place).predicate ≡ predicate_of asked.from asked.to asked.limit }
         requires node { asked.to < frame.now.graph.nodes }
-        ensures { IfOk result (λ found. IfSome found (λ walk. IsTrue (is_path frame.now.graph (sure_parts frame.now kept) asked.from asked.to asked.limit walk.items))) }
+        ensures { IfOk result (λ found. IfSome found
+            (λ walk. IsTrue (is_path frame.now.graph (sure_parts frame.now kept) asked.from asked.to asked.limit walk.items))) }
     {
         let _ = frame.seen();
         let row = self.rows.row(self.row(place));
@@ -179,7 +181,7 @@ impl Rows<Distance> for LeastRows {
     ghost stand = { AlwaysStand };
 
     fn are_few(alloc: Global, frame: &Frame) -> Result<bool, AllocError> {
-        let sources = sources_of(alloc, frame)?;
+        let sources = sources_of::<Distance>(alloc, frame)?;
         let nodes = frame.graph().nodes() as usize;
         let labels = sources.rows.len().saturating_mul(nodes);
         Ok(labels <= MAX_LABELS)
@@ -188,7 +190,7 @@ impl Rows<Distance> for LeastRows {
     fn of_frame(alloc: Global, frame: &Frame) -> Result<Self, AllocError> {
         let graph = frame.graph();
         let _ = frame.atom_count();
-        let sources = sources_of(alloc, frame)?;
+        let sources = sources_of::<Distance>(alloc, frame)?;
         let nodes = last_nodes(alloc, frame)?;
         let lasts = AtomsByNode::new(alloc, nodes)?;
         let limits = limits_of(alloc, frame)?;
@@ -208,7 +210,7 @@ impl Rows<Distance> for LeastRows {
         bounds: &Bounds,
         looked: usize,
         lit: Lit,
-        due: &mut Due,
+        due: &mut Worklist,
     ) -> Result<(), AllocError> {
         let _ = frame.seen();
         // The variable of a literal isn't 0.
@@ -227,7 +229,7 @@ impl Rows<Distance> for LeastRows {
         frame: &Frame,
         bounds: &Bounds,
         looked: usize,
-        due: &mut Due,
+        due: &mut Worklist,
     ) -> Result<(), AllocError> {
         let _ = frame.seen();
         Ok(())

@@ -13,7 +13,7 @@ pub mod laws;
 mod nearest;
 /// What a theory knows of a node.
 mod node_labels;
-/// The rows of labels for which atoms ask.
+/// What the atoms ask for.
 mod sources;
 /// Rows of what is told of labels, worked by hand.
 pub mod worked;

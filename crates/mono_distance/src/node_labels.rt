@@ -3,20 +3,24 @@
 ghost use Rattle.std.specs.Prelude.{◌≡◌, ◌<◌, ◌≤◌, ◌==◌, ◌&&◌, None, Some, false, true, length, IfSome, IsTrue, MatchOption, if◌then◌else◌};
 ghost use Rattle.mono_graph.specs.Walks.{bound_of};
 ghost use Rattle.mono_paths.specs.Found.{HasBound};
-ghost use Rattle.mono_problem.specs.Quiet.{under};
-ghost use Rattle.mono_theory.specs.Stages.{shows, stage_at};
+ghost use Rattle.mono_problem.specs.Quiet.{over, under};
+ghost use Rattle.mono_theory.specs.Evidences.{Decides};
+ghost use Rattle.mono_theory.specs.PossibleRows.{AreTargetsOf, RowsStand, is_cut_off};
+ghost use Rattle.mono_theory.specs.RowSides.{AreRowsFor, AreUpToDate};
+ghost use Rattle.mono_theory.specs.Sound.{evidence_at};
+ghost use Rattle.mono_theory.specs.Stages.{NoneWaits, shows, stage_at};
 ghost use Rattle.mono_theory.specs.Supports.{atom_at, IsSideFor};
 ghost use Rattle.mono_distance.specs.Distances.{is_distance, predicate_of};
 ghost use Rattle.mono_distance.specs.Labels.{entry_in, value_by};
-ghost use Rattle.mono_distance.specs.Readings.{bound_number, over_by as over_by_of, under_at, under_in, IsReached, IsRightSide};
-ghost use Rattle.mono_distance.specs.SureLabels.{is_within as is_within_of, AreLabelsAfter};
+ghost use Rattle.mono_distance.specs.Readings.{above, bound_number, over_at, over_by as over_by_of, over_known as over_known_of, over_of, under_at, under_in, IsLeast, IsPossiblyDecided, IsPossiblyRight, IsReached, IsRightSide};
+ghost use Rattle.mono_distance.specs.SureLabels.{is_within as is_within_of, last_node, limit_of, AreLabelsAfter};
 
-use crate::distance::{Asked, Distance, what_is_asked};
+use crate::distance::{Distance, what_is_asked};
 use crate::label_table::others_of;
 use crate::least_rows::{LeastRows, is_within};
 use mono_graph::{Label, Limit};
 use mono_steps::Witness;
-use mono_theory::{EitherSide, Frame, GraphTheory, KeptSide};
+use mono_theory::{Asked, EitherSide, Frame, GraphTheory, KeptSide, PossibleRows, Rows, RowsSide};
 
 /// What a theory knows of a node, for one of its atoms.
 #[derive(Clone, Copy, Debug, PartialEq, Eq)]
@@ -26,7 +30,8 @@ pub struct Labels {
     /// many, it is known of the atom's last node alone, and is the bound.
     pub under: Option<u64>,
     /// What each walk along the possibly present edges costs at least, as far as it is known: at most one more than the
-    /// bound.
+    /// bound. Where rows of the possibly present edges are kept, since many atoms have one first node, it is known of the
+    /// atom's last node alone whether it is one more than the bound.
     pub over: u64,
 }
 
@@ -57,10 +62,17 @@ pub trait HasLabels {
         requires owned { IsSome (atom_of (facts self.now).atoms atom) }
         requires node { node < (facts self.now).graph.nodes }
         ensures value { result ≡ labels_of self.now atom node }
-        ensures under { IfSome result.under (λ d. MatchOption (atom_of (facts self.now).atoms atom) ⊥ (λ x. IsReached (facts self.now).graph (under (facts self.now).graph (facts self.now).seen) x.predicate node d)) }
-        ensures over { MatchOption (atom_of (facts self.now).atoms atom) ⊥ (λ x. IsLeast (facts self.now).graph (over (facts self.now).graph (facts self.now).seen) x.predicate node result.over) }
-        ensures decided_under { is_decided self.now → MatchOption (atom_of (facts self.now).atoms atom) ⊥ (λ x. node ≡ last_node x.predicate → Decides (facts self.now).graph (under (facts self.now).graph (facts self.now).seen) x.predicate (is_some result.under)) }
-        ensures decided_over { is_decided self.now → MatchOption (atom_of (facts self.now).atoms atom) ⊥ (λ x. node ≡ last_node x.predicate → Decides (facts self.now).graph (over (facts self.now).graph (facts self.now).seen) x.predicate (is_within result.over (limit_of x.predicate))) };
+        ensures under { IfSome result.under (λ d. MatchOption (atom_of (facts self.now).atoms atom) ⊥
+            (λ x. IsReached (facts self.now).graph (under (facts self.now).graph (facts self.now).seen) x.predicate node d)) }
+        ensures over { MatchOption (atom_of (facts self.now).atoms atom) ⊥
+            (λ x. IsLeast (facts self.now).graph (over (facts self.now).graph (facts self.now).seen) x.predicate node result.over) }
+        ensures decided_under { is_decided self.now
+            → MatchOption (atom_of (facts self.now).atoms atom) ⊥ (λ x. node ≡ last_node x.predicate
+            → Decides (facts self.now).graph (under (facts self.now).graph (facts self.now).seen) x.predicate (is_some result.under)) }
+        ensures decided_over { is_decided self.now
+            → MatchOption (atom_of (facts self.now).atoms atom) ⊥ (λ x. node ≡ last_node x.predicate
+            → Decides (facts self.now).graph (over (facts self.now).graph (facts self.now).seen) x.predicate
+            (is_within result.over (limit_of x.predicate))) };
 }
 
 /// The label of a node in a list, and this one where it isn't listed.
@@ -184,7 +196,88 @@ fn under_by(
     }
 }
 
-impl HasLabels for GraphTheory<Distance, EitherSide<LeastRows>> {
+/// The label of a last node: one more than the bound where no walk within it leads there.
+fn over_where(cut_off: bool, limit: Limit) -> u64
+    requires { HasBound limit }
+    ensures { result ≡ (if cut_off then above (bound_of limit) else 0) }
+{
+    if cut_off { others_of(limit) } else { 0 }
+}
+
+/// What rows tell of a node with the possibly present edges, for the atom at a place: of its last node alone, that no walk within
+/// the bound leads there.
+fn over_by_rows(
+    side: &RowsSide<PossibleRows>,
+    frame: &Frame,
+    place: u32,
+    asked: Asked,
+    node: u32,
+) -> u64
+    requires right { AreRowsFor is_distance true AreTargetsOf is_cut_off frame.now side.now }
+    requires place { place < length frame.now.atoms }
+    requires asked { (atom_at frame.now.atoms place).predicate ≡ predicate_of asked.from asked.to asked.limit }
+    requires limit { HasBound asked.limit }
+    ensures value { result ≡ over_at side.now.rows place (atom_at frame.now.atoms place).predicate node }
+    ensures least { IsLeast frame.now.graph (over frame.now.graph frame.now.seen) (atom_at frame.now.atoms place).predicate node result }
+    ensures decides { AreUpToDate RowsStand frame.now side.now → node ≡ last_node (atom_at frame.now.atoms place).predicate
+        → Decides frame.now.graph (over frame.now.graph frame.now.seen) (atom_at frame.now.atoms place).predicate
+        (is_within_of result (limit_of (atom_at frame.now.atoms place).predicate)) }
+{
+    let _ = frame.seen();
+    if node != asked.to {
+        return 0;
+    }
+    let looked = side.looked();
+    let rows = side.rows();
+    let cut_off = <PossibleRows as Rows<Distance>>::shows(rows, frame, looked, place as usize);
+    over_where(cut_off, asked.limit)
+}
+
+/// What searches found of a node with the possibly present edges, for the atom at a place.
+fn over_by_searches(kept: &KeptSide, frame: &Frame, place: u32, asked: Asked, node: u32) -> u64
+    requires right { IsSideFor frame.now true true kept.now }
+    requires place { place < length frame.now.atoms }
+    requires kind { IsTrue (is_distance (atom_at frame.now.atoms place).predicate) }
+    requires asked { (atom_at frame.now.atoms place).predicate ≡ predicate_of asked.from asked.to asked.limit }
+    requires limit { HasBound asked.limit }
+    ensures value { result
+        ≡ over_of (limit_of (atom_at frame.now.atoms place).predicate) node (stage_at kept.now.stages place) (evidence_at kept.now.shown place) }
+    ensures least { IsLeast frame.now.graph (over frame.now.graph frame.now.seen) (atom_at frame.now.atoms place).predicate node result }
+    ensures decides { NoneWaits kept.now.stages → node ≡ last_node (atom_at frame.now.atoms place).predicate
+        → Decides frame.now.graph (over frame.now.graph frame.now.seen) (atom_at frame.now.atoms place).predicate
+        (is_within_of result (limit_of (atom_at frame.now.atoms place).predicate)) }
+{
+    let _ = frame.graph();
+    let witness = kept.shown_witness(place);
+    over_by(witness, asked.limit, node)
+}
+
+/// What is kept of a node with the possibly present edges, for the atom at a place.
+fn over_known(
+    side: &EitherSide<PossibleRows>,
+    frame: &Frame,
+    place: u32,
+    asked: Asked,
+    node: u32,
+) -> u64
+    requires right { IsPossiblyRight frame.now side.now }
+    requires place { place < length frame.now.atoms }
+    requires kind { IsTrue (is_distance (atom_at frame.now.atoms place).predicate) }
+    requires asked { (atom_at frame.now.atoms place).predicate ≡ predicate_of asked.from asked.to asked.limit }
+    requires limit { HasBound asked.limit }
+    ensures value { result ≡ over_known_of side.now place (atom_at frame.now.atoms place).predicate node }
+    ensures least { IsLeast frame.now.graph (over frame.now.graph frame.now.seen) (atom_at frame.now.atoms place).predicate node result }
+    ensures decides { IsPossiblyDecided frame.now side.now → node ≡ last_node (atom_at frame.now.atoms place).predicate
+        → Decides frame.now.graph (over frame.now.graph frame.now.seen) (atom_at frame.now.atoms place).predicate
+        (is_within_of result (limit_of (atom_at frame.now.atoms place).predicate)) }
+{
+    match side {
+        EitherSide::Rows(rows) => over_by_rows(rows, frame, place, asked, node),
+        EitherSide::Searches(kept) => over_by_searches(kept, frame, place, asked, node),
+    }
+}
+
+impl HasLabels for GraphTheory<Distance, EitherSide<LeastRows>, EitherSide<PossibleRows>> {
     ghost use Rattle.mono_theory.specs.Supports.{facts_in};
     ghost use Rattle.mono_distance.specs.Readings.{AreBothDecided, labels_in};
 
@@ -198,13 +291,13 @@ impl HasLabels for GraphTheory<Distance, EitherSide<LeastRows>> {
         let frame = self.frame();
         let _ = frame.graph();
         let place = frame.place_of(atom);
-        let side = self.surely();
+        let surely = self.surely();
+        let possibly = self.possibly();
         let held = frame.atom_at(place as usize);
         let asked = what_is_asked(held.predicate);
-        let witness = self.possibly().shown_witness(place);
         Labels {
-            under: under_by(side, frame, place, asked, node),
-            over: over_by(witness, asked.limit, node),
+            under: under_by(surely, frame, place, asked, node),
+            over: over_known(possibly, frame, place, asked, node),
         }
     }
 }

@@ -7,7 +7,8 @@ ghost use Rattle.mono_problem.specs.declared.atom.Predicate.TheVariants as kind;
 ghost use Rattle.mono_steps.specs.declared.lemma.Witness.TheVariants as by;
 ghost use Rattle.mono_theory.specs.declared.stage.Stage.TheVariants as stage;
 ghost use Rattle.mono_distance.specs.Readings.{AreBothDecided, IsLeast, IsReached, labels_in};
-ghost use Rattle.mono_distance.specs.Worked.{keeping, labelled, rows_with, searched, showing, within_7};
+ghost use Rattle.mono_theory.specs.PossibleRows.{AreTargetsOf};
+ghost use Rattle.mono_distance.specs.Worked.{along_the_edge, facts_with, keeping, labelled, possibly, rows_with, searched, to_node_1, tree_rows, tree_view, trees_with, ways_from, within_7};
 
 /// Where a node has a label with the surely present edges, some walk costs at most so much, and the label is within the bound.
 pub fn nodes_reached()
@@ -56,18 +57,47 @@ pub fn labels_with_possibly_present_edges()
     ensures unlisted { (labels_in (keeping within_7 (searched stage.Waits) (labelled (label 0 0 ∷ []))) 4 1).over ≡ 8 }
     ensures cut { (labels_in (keeping within_7 (searched stage.Waits) (labelled (label 1 20 ∷ []))) 4 1).over ≡ 8 }
     ensures never_met { (labels_in (keeping (kind.Distance 0 1 (negsuc 0)) (searched stage.Waits) (labelled (label 1 20 ∷ []))) 4 1).over ≡ 0 }
-    ensures waits { (labels_in (keeping within_7 (searched stage.Waits) (showing stage.Waits (Some (by.Label (label 1 5 ∷ []))))) 4 1).over ≡ 0 }
-    ensures stands { (labels_in (keeping within_7 (searched stage.Waits) (showing stage.Supported (Some (by.Label (label 1 5 ∷ []))))) 4 1).over ≡ 0 }
-    ensures other_witness { (labels_in (keeping within_7 (searched stage.Waits) (showing (stage.Forcing 0) (Some (by.Path [])))) 4 1).over ≡ 0 }
-    ensures nothing_shown { (labels_in (keeping within_7 (searched stage.Waits) (showing (stage.Forcing 0) None)) 4 1).over ≡ 0 }
+    ensures waits { (labels_in (keeping within_7 (searched stage.Waits) (possibly stage.Waits (Some (by.Label (label 1 5 ∷ []))))) 4 1).over ≡ 0 }
+    ensures stands { (labels_in (keeping within_7 (searched stage.Waits) (possibly stage.Supported (Some (by.Label (label 1 5 ∷ []))))) 4 1).over ≡ 0 }
+    ensures other_witness { (labels_in (keeping within_7 (searched stage.Waits) (possibly (stage.Forcing 0) (Some (by.Path [])))) 4 1).over ≡ 0 }
+    ensures nothing_shown { (labels_in (keeping within_7 (searched stage.Waits) (possibly (stage.Forcing 0) None)) 4 1).over ≡ 0 }
 {}
 
-/// What is kept decides where rows are those of all literals seen, or searches leave no atom waiting, and none waits with the
-/// possibly present edges.
+/// Where rows of the possibly present edges are kept, the label of the last node is one more than the bound where the last search
+/// found no walk within it, also after an edge went by which it found others. Of other nodes nothing is known.
+pub fn labels_of_last_nodes_in_rows()
+    ensures not_found { (labels_in (keeping within_7 (searched stage.Waits) (trees_with 1 (Some 1) None (ways_from 0 [] (0 ∷ 8 ∷ [])))) 4 1).over ≡ 8 }
+    ensures found { (labels_in (keeping within_7 (searched stage.Waits) (trees_with 1 (Some 1) None (ways_from 0 along_the_edge (0 ∷ 5 ∷ [])))) 4 1).over ≡ 0 }
+    ensures at_the_bound { (labels_in (keeping within_7 (searched stage.Waits) (trees_with 1 (Some 1) None (ways_from 0 along_the_edge (0 ∷ 7 ∷ [])))) 4 1).over ≡ 0 }
+    ensures beyond { (labels_in (keeping within_7 (searched stage.Waits) (trees_with 1 (Some 1) None (ways_from 0 along_the_edge (0 ∷ 8 ∷ [])))) 4 1).over ≡ 8 }
+    ensures an_edge_went { (labels_in (keeping within_7 (searched stage.Waits) (trees_with 1 (Some 0) (Some 1) (ways_from 0 [] (0 ∷ 8 ∷ [])))) 4 1).over ≡ 8 }
+    ensures not_searched { (labels_in (keeping within_7 (searched stage.Waits) (trees_with 1 None None (ways_from 0 [] (0 ∷ 8 ∷ [])))) 4 1).over ≡ 0 }
+    ensures elsewhere { (labels_in (keeping within_7 (searched stage.Waits) (trees_with 1 (Some 1) None (ways_from 0 [] (0 ∷ 8 ∷ [])))) 4 0).over ≡ 0 }
+    ensures never_met { (labels_in (keeping (kind.Distance 0 1 (negsuc 0)) (searched stage.Waits) (trees_with 1 (Some 1) None (ways_from 0 [] (0 ∷ 8 ∷ [])))) 4 1).over ≡ 0 }
+{}
+
+/// Rows are right before any search, and after one that found the walk. They aren't where the atom's row isn't asked for its walk,
+/// is from another node, or measures something else; nor where the walk that was found has an edge that isn't there.
+pub fn rows_of_the_possibly_present_edges()
+    ensures unsearched { AreTargetsOf (tree_view 1 (tree_rows (to_node_1 ∷ []) None None (ways_from 0 [] (0 ∷ 8 ∷ [])))) (facts_with within_7 (pos 1)) }
+    ensures found { AreTargetsOf (tree_view 1 (tree_rows (to_node_1 ∷ []) (Some 0) None (ways_from 0 along_the_edge (0 ∷ 5 ∷ [])))) (facts_with within_7 (pos 1)) }
+    ensures not_asked { AreTargetsOf (tree_view 1 (tree_rows [] None None (ways_from 0 [] (0 ∷ 8 ∷ [])))) (facts_with within_7 (pos 1)) → ⊥ }
+    ensures from_another_node { AreTargetsOf (tree_view 0 (tree_rows (to_node_1 ∷ []) None None (ways_from 0 [] (0 ∷ 8 ∷ [])))) (facts_with within_7 (pos 1)) → ⊥ }
+    ensures of_steps { AreTargetsOf (tree_view 1 (tree_rows (to_node_1 ∷ []) None None (ways_from 0 [] (0 ∷ 8 ∷ [])))) (facts_with (kind.Steps 0 1 (pos 7)) (pos 1)) → ⊥ }
+    ensures edge_absent { AreTargetsOf (tree_view 1 (tree_rows (to_node_1 ∷ []) (Some 0) None (ways_from 0 along_the_edge (0 ∷ 5 ∷ [])))) (facts_with within_7 (negsuc 0)) → ⊥ }
+    ensures out_of_reach { AreTargetsOf (tree_view 1 (tree_rows (to_node_1 ∷ []) (Some 1) None (ways_from 0 [] (0 ∷ 8 ∷ [])))) (facts_with within_7 (pos 1)) → ⊥ }
+{}
+
+/// What is kept decides where rows are up to date for all literals seen, or searches leave no atom waiting, on each of the two
+/// sides.
 pub fn theories_that_decide()
-    ensures rows { AreBothDecided (keeping within_7 (rows_with 1 (0 ∷ 5 ∷ [])) (showing stage.Supported None)) }
-    ensures searches { AreBothDecided (keeping within_7 (searched stage.Supported) (showing (stage.Forcing 1) None)) }
-    ensures rows_behind { AreBothDecided (keeping within_7 (rows_with 0 (0 ∷ 5 ∷ [])) (showing stage.Supported None)) → ⊥ }
-    ensures surely_waits { AreBothDecided (keeping within_7 (searched stage.Waits) (showing stage.Supported None)) → ⊥ }
-    ensures possibly_waits { AreBothDecided (keeping within_7 (rows_with 1 (0 ∷ 5 ∷ [])) (showing stage.Waits None)) → ⊥ }
+    ensures rows { AreBothDecided (keeping within_7 (rows_with 1 (0 ∷ 5 ∷ [])) (possibly stage.Supported None)) }
+    ensures searches { AreBothDecided (keeping within_7 (searched stage.Supported) (possibly (stage.Forcing 1) None)) }
+    ensures possibly_rows { AreBothDecided (keeping within_7 (searched stage.Supported) (trees_with 1 (Some 0) None (ways_from 0 along_the_edge (0 ∷ 5 ∷ [])))) }
+    ensures rows_behind { AreBothDecided (keeping within_7 (rows_with 0 (0 ∷ 5 ∷ [])) (possibly stage.Supported None)) → ⊥ }
+    ensures surely_waits { AreBothDecided (keeping within_7 (searched stage.Waits) (possibly stage.Supported None)) → ⊥ }
+    ensures possibly_behind { AreBothDecided (keeping within_7 (rows_with 1 (0 ∷ 5 ∷ [])) (trees_with 0 (Some 0) None (ways_from 0 [] (0 ∷ 8 ∷ [])))) → ⊥ }
+    ensures an_edge_went { AreBothDecided (keeping within_7 (rows_with 1 (0 ∷ 5 ∷ [])) (trees_with 1 (Some 0) (Some 1) (ways_from 0 [] (0 ∷ 8 ∷ [])))) → ⊥ }
+    ensures not_searched { AreBothDecided (keeping within_7 (rows_with 1 (0 ∷ 5 ∷ [])) (trees_with 1 None None (ways_from 0 [] (0 ∷ 8 ∷ [])))) → ⊥ }
+    ensures possibly_waits { AreBothDecided (keeping within_7 (rows_with 1 (0 ∷ 5 ∷ [])) (possibly stage.Waits None)) → ⊥ }
 {}

@@ -7,11 +7,13 @@ use Rattle.std.proofs.lemmas.List.{length-set, length-replicate, get_or-replicat
 use Rattle.std.proofs.lemmas.List.Sums.{sum_by_push, sum_by-cons}
 use Rattle.std.proofs.lemmas.List.Elements.{All-nil}
 use Rattle.mono_graph.specs.declared.limit.Limit.{Limit}
-use Rattle.mono_graph.specs.Digraph.{Digraph, edge_at, present, has, is_place}
+use Rattle.mono_graph.specs.Digraph.{Digraph, edge_at, present, has, is_place, leaving}
+use Rattle.mono_graph.proofs.Membership.{at_places}
 use Rattle.mono_graph.specs.Walks.{is_walk, leads, cost_of, cost_along}
 use Rattle.mono_dynamic.specs.declared.change.Change.{Change}
 use Rattle.mono_dynamic.specs.Arrivals.{IsGrown, GrowsAfter}
 use Rattle.mono_dynamic.specs.Costs.{Costs, label_of, AreAttained, AreLeast, AreLeastAlong, IsTight, AreTight, AreRelaxed, IsLater, unwound, made_by, made_after, labels_after, no_change, change_at, IsLed, AreLed}
+use Rattle.mono_dynamic.specs.Ways.{AreCostsFrom}
 use Rattle.mono_dynamic.proofs.Exact.{walks, is_walk_of, walk_push, walk_none}
 use Rattle.mono_dynamic.proofs.CostWalks.{led_same, led_grown}
 use Rattle.mono_dynamic.proofs.CostLists.{after_none, after_parts, by_latest, unwound-append, later_earlier}
@@ -19,7 +21,7 @@ use Rattle.mono_dynamic.proofs.CostLists.{after_none, after_parts, by_latest, un
 pub record EachTight (g : Digraph) (P : List Bool) (limit : Limit) (labels : List ℕ) : Type 0 where
   pub each : (k : ℕ) → k < length g.edges → IsTrue (present P k) → IsTight g limit labels k
 
-bounded : (g : Digraph) (P : List Bool) (limit : Limit) (labels : List ℕ) → EachTight g P limit labels → (u v : ℕ) (ks : List ℕ)
+pub bounded : (g : Digraph) (P : List Bool) (limit : Limit) (labels : List ℕ) → EachTight g P limit labels → (u v : ℕ) (ks : List ℕ)
     → IsTrue (list_all (is_place g) ks) → IsTrue (list_all (present P) ks) → IsTrue (leads g u ks v) → label_of labels v ≤ label_of labels u + cost_along limit g ks
 bounded g P limit labels t u v [] known here way = subst (λ (w : ℕ). label_of labels w ≤ label_of labels u + 0) (eqb-true u v way) (omega arith)
 bounded g P limit labels t u v (k ∷ ks) known here way =
@@ -63,44 +65,107 @@ attained_grown g P Q limit u most labels js grown a = record {
 pub record HasNodes (g : Digraph) : Type 0 where
   pub from : (k : ℕ) → k < length g.edges → (edge_at g k).from < g.nodes
 
+-- least costs rise along each present edge by at most what it costs
+pub each_tight : (g : Digraph) (P : List Bool) (limit : Limit) (u most : ℕ) (labels : List ℕ) → HasNodes g → AreLeast g P limit u most labels → EachTight g P limit labels
+each_tight g P limit u most labels ends l = record {
+  each = λ k lt here. elim (cases_lt (label_of labels (edge_at g k).from) most) [
+    | inl low ↦
+        let w = l.attained.walk (edge_at g k).from (ends.from k lt) low in
+        let cost : cost_along limit g (w.0 ++ k ∷ []) ≡ cost_along limit g w.0 + cost_of limit (edge_at g k) = sum_by_push (λ (j : ℕ). cost_of limit (edge_at g j)) w.0 k in
+        let far = l.least (edge_at g k).to (w.0 ++ k ∷ []) (walk_push g P u (edge_at g k).from k w.0 w.1 lt here refl) in
+        omega (arith, far, cost, w.2)
+    | inr high ↦ let top = l.most (edge_at g k).to in omega arith
+  ];
+}
+
 tight_start : (g : Digraph) (P Q : List Bool) (limit : Limit) (u most : ℕ) (labels js : List ℕ) → HasNodes g → IsGrown P Q js → AreLeast g P limit u most labels → AreTight g Q limit most labels [] js
 tight_start g P Q limit u most labels js ends grown l = record {
   each = λ k lt here. elim (or_cases (present P k) (has js k) (sym (grown.each k) ∙ here)) [
-    | inl old ↦ elim (cases_lt (label_of labels (edge_at g k).from) most) [
-      | inl low ↦
-          let w = l.attained.walk (edge_at g k).from (ends.from k lt) low in
-          let cost : cost_along limit g (w.0 ++ k ∷ []) ≡ cost_along limit g w.0 + cost_of limit (edge_at g k) = sum_by_push (λ (j : ℕ). cost_of limit (edge_at g j)) w.0 k in
-          let far = l.least (edge_at g k).to (w.0 ++ k ∷ []) (walk_push g P u (edge_at g k).from k w.0 w.1 lt old refl) in
-          inl (inl (omega (arith, far, cost, w.2)))
-      | inr high ↦ inl (inl (let top = l.most (edge_at g k).to in omega arith))
-    ]
+    | inl old ↦ inl (inl ((each_tight g P limit u most labels ends l).each k lt old))
     | inr due ↦ inr due
   ];
 }
 
-pub least_relaxed : (g : Digraph) (P Q : List Bool) (u : ℕ) (js : List ℕ) (old new : Costs) → HasNodes g → length new.labels ≡ length old.labels → IsGrown P Q js → AreRelaxed g Q js [] old new [] [] []
-    → AreLeast g P old.limit u old.cap old.labels → AreLeast g Q old.limit u old.cap new.labels
-least_relaxed g P Q u js old new ends len grown r l =
-    let source : label_of old.labels u ≤ 0 = l.least u [] (walk_none g P u) in
-    let tight : EachTight g Q old.limit new.labels = record {
-      each = λ k lt here. elim ((r.tight (tight_start g P Q old.limit u old.cap old.labels js ends grown l)).each k lt here) [
+-- labels that were attained and lowered until each present edge is tight are the least costs
+least_lowered : (g : Digraph) (P : List Bool) (u : ℕ) (js : List ℕ) (old new : Costs) → length new.labels ≡ g.nodes → ((v : ℕ) → label_of old.labels v ≤ old.cap) → label_of old.labels u ≤ 0
+    → AreAttained g P old.limit u old.cap old.labels → AreTight g P old.limit old.cap old.labels [] js → AreRelaxed g P js [] old new [] [] [] → AreLeast g P old.limit u old.cap new.labels
+least_lowered g P u js old new len most source a t r = record {
+  len = len;
+  most = λ v. (let a = r.lower v in let b = most v in omega arith);
+  least = λ v ks h.
+      let x = walks g P u v ks h in
+      let far = bounded g P old.limit new.labels tight u v ks x.known x.here x.way in
+      let a = r.lower u in
+      omega (arith, far, a, source);
+  attained = r.attained u a;
+}
+  where
+    tight : EachTight g P old.limit new.labels
+    tight = record {
+      each = λ k lt here. elim ((r.tight t).each k lt here) [
         | inl done ↦ elim done [
           | inl t ↦ t
           | inr waits ↦ absurd cc
         ]
         | inr none ↦ absurd cc
       ];
-    } in
-    record {
-      len = len ∙ l.len;
-      most = λ v. (let a = r.lower v in let b = l.most v in omega arith);
-      least = λ v ks h.
-          let x = walks g Q u v ks h in
-          let far = bounded g Q old.limit new.labels tight u v ks x.known x.here x.way in
-          let a = r.lower u in
-          omega (arith, far, a, source);
-      attained = r.attained u (attained_grown g P Q old.limit u old.cap old.labels js grown l.attained);
     }
+
+pub least_relaxed : (g : Digraph) (P Q : List Bool) (u : ℕ) (js : List ℕ) (old new : Costs) → HasNodes g → length new.labels ≡ length old.labels → IsGrown P Q js → AreRelaxed g Q js [] old new [] [] []
+    → AreLeast g P old.limit u old.cap old.labels → AreLeast g Q old.limit u old.cap new.labels
+least_relaxed g P Q u js old new ends len grown r l =
+    least_lowered g Q u js old new (len ∙ l.len) l.most (l.least u [] (walk_none g P u)) (attained_grown g P Q old.limit u old.cap old.labels js grown l.attained) (tight_start g P Q old.limit u old.cap old.labels js ends grown l) r
+
+-- ---- a search from nothing
+
+pub first_source : (n u most : ℕ) → u < n → label_of (set (replicate n most) u 0) u ≡ 0
+first_source n u most inside = get_or-set_same (replicate n most) u 0 0 (omega (arith, length-replicate n most))
+
+pub first_other : (n u v most : ℕ) → v < n → (v ≡ u → ⊥) → label_of (set (replicate n most) u 0) v ≡ most
+first_other n u v most lt other = get_or-set_other (replicate n most) u v 0 0 other ∙ get_or-replicate n v most 0 lt
+
+first_most : (n u v most : ℕ) → u < n → label_of (set (replicate n most) u 0) v ≤ most
+first_most n u v most inside = elim (cases_eq v u) [
+  | inl at ↦ subst (λ (w : ℕ). label_of (set (replicate n most) u 0) w ≤ most) (sym at) (omega (arith, first_source n u most inside))
+  | inr other ↦ elim (cases_lt v n) [
+    | inl lt ↦ omega (arith, first_other n u v most lt other)
+    | inr past ↦ omega (arith, get_or_past (set (replicate n most) u 0) v 0 (omega (arith, past, length-set (replicate n most) u 0, length-replicate n most)))
+  ]
+]
+
+first_attained : (g : Digraph) (P : List Bool) (limit : Limit) (u most : ℕ) → u < g.nodes → AreAttained g P limit u most (set (replicate g.nodes most) u 0)
+first_attained g P limit u most inside = record {
+  walk = λ v lt below. elim (cases_eq v u) [
+    | inl at ↦ subst (λ (w : ℕ). (ks : List ℕ) × IsTrue (is_walk g P u w ks) × (cost_along limit g ks ≡ label_of (set (replicate g.nodes most) u 0) w)) (sym at) ([], walk_none g P u, sym (first_source g.nodes u most inside))
+    | inr other ↦ absurd (omega (arith, first_other g.nodes u v most lt other, below))
+  ];
+}
+
+first_tight : (g : Digraph) (P : List Bool) (limit : Limit) (u most : ℕ) → HasNodes g → u < g.nodes → AreTight g P limit most (set (replicate g.nodes most) u 0) [] (leaving g u)
+first_tight g P limit u most ends inside = record {
+  each = λ k lt here. elim (cases_eq (edge_at g k).from u) [
+    | inl at ↦ inr (at_places (λ e. e.from) g u k lt at)
+    | inr other ↦ inl (inl (omega (arith, first_other g.nodes u (edge_at g k).from most (ends.from k lt) other, first_most g.nodes u (edge_at g k).to most inside)))
+  ];
+}
+
+pub least_anew : (g : Digraph) (P : List Bool) (u stamp : ℕ) (old new : Costs) → HasNodes g → u < g.nodes → old.labels ≡ set (replicate g.nodes old.cap) u 0 → IsLater stamp old new → AreRelaxed g P (leaving g u) [] old new [] [] []
+    → AreLeast g P old.limit u old.cap new.labels
+least_anew g P u stamp old new ends inside first later r =
+    let size : length new.labels ≡ g.nodes = later.len ∙ (ap length first ∙ (length-set (replicate g.nodes old.cap) u 0 ∙ length-replicate g.nodes old.cap)) in
+    least_lowered g P u (leaving g u) old new size
+    (λ v. subst (λ (ls : List ℕ). label_of ls v ≤ old.cap) (sym first) (first_most g.nodes u v old.cap inside))
+    (subst (λ (ls : List ℕ). label_of ls u ≤ 0) (sym first) (omega (arith, first_source g.nodes u old.cap inside)))
+    (subst (λ (ls : List ℕ). AreAttained g P old.limit u old.cap ls) (sym first) (first_attained g P old.limit u old.cap inside))
+    (subst (λ (ls : List ℕ). AreTight g P old.limit old.cap ls [] (leaving g u)) (sym first) (first_tight g P old.limit u old.cap ends inside)) r
+
+-- once what a search lowered is taken back, all is as before it
+pub from_later : (n u stamp : ℕ) (old new : Costs) → u < n → old.labels ≡ set (replicate n old.cap) u 0 → old.changes ≡ [] → IsLater stamp old new → AreCostsFrom n u new
+from_later n u stamp old new inside first none later = record {
+  inside = inside;
+  len = later.len ∙ (ap length first ∙ (length-set (replicate n old.cap) u 0 ∙ length-replicate n old.cap));
+  first = ap (λ (cs : List Change). unwound new.labels cs) (later.changes ∙ ap (λ (cs : List Change). cs ++ later.added) none) ∙ (later.back ∙ (first ∙ ap (λ (c : ℕ). set (replicate n c) u 0) (sym later.cap)));
+}
 
 -- ---- after each number of steps
 
@@ -208,34 +273,22 @@ pub least_first : (g : Digraph) (parts : ℕ → List Bool) (limit : Limit) (u m
     → AreLeastAlong g parts 0 u (record { limit = limit; cap = most; labels = set (replicate g.nodes most) u 0; changes = [] })
 least_first g parts limit u most inside none =
     let labels : List ℕ = set (replicate g.nodes most) u 0 in
-    let source : label_of labels u ≡ 0 = get_or-set_same (replicate g.nodes most) u 0 0 (omega (arith, length-replicate g.nodes most)) in
     record {
       each = λ m le. let e : 0 ≡ m = omega arith in subst (λ (j : ℕ). AreLeast g (parts j) limit u most labels) e (record {
         len = length-set (replicate g.nodes most) u 0 ∙ length-replicate g.nodes most;
-        most = λ v. elim (cases_eq v u) [
-          | inl at ↦ subst (λ (w : ℕ). label_of labels w ≤ most) (sym at) (omega (arith, source))
-          | inr other ↦ elim (cases_lt v g.nodes) [
-            | inl lt ↦ omega (arith, get_or-set_other (replicate g.nodes most) u v 0 0 other, get_or-replicate g.nodes v most 0 lt)
-            | inr past ↦ omega (arith, get_or_past labels v 0 (omega (arith, length-set (replicate g.nodes most) u 0, length-replicate g.nodes most)))
-          ]
-        ];
+        most = λ v. first_most g.nodes u v most inside;
         least = λ v ks h.
             let x = walks g (parts 0) u v ks h in
             let empty : ks ≡ [] = none_present (parts 0) none ks x.here in
             let at : u ≡ v = eqb-true u v (subst (λ (js : List ℕ). IsTrue (leads g u js v)) empty x.way) in
-            subst (λ (w : ℕ). label_of labels w ≤ cost_along limit g ks) at (omega (arith, source));
-        attained = record {
-          walk = λ v lt below. elim (cases_eq v u) [
-            | inl at ↦ subst (λ (w : ℕ). (ks : List ℕ) × IsTrue (is_walk g (parts 0) u w ks) × (cost_along limit g ks ≡ label_of labels w)) (sym at) ([], walk_none g (parts 0) u, sym source)
-            | inr other ↦ absurd (omega (arith, get_or-set_other (replicate g.nodes most) u v 0 0 other, get_or-replicate g.nodes v most 0 lt, below))
-          ];
-        };
+            subst (λ (w : ℕ). label_of labels w ≤ cost_along limit g ks) at (omega (arith, first_source g.nodes u most inside));
+        attained = first_attained g (parts 0) limit u most inside;
       });
       latest = All-nil (λ (c : Change). c.stamp ≤ 0);
       source = record {
         alone = λ v lt below. elim (cases_eq v u) [
           | inl at ↦ at
-          | inr other ↦ absurd (omega (arith, get_or-set_other (replicate g.nodes most) u v 0 0 other, get_or-replicate g.nodes v most 0 lt, below))
+          | inr other ↦ absurd (omega (arith, first_other g.nodes u v most lt other, below))
         ];
       };
       led = λ m i le lt early. absurd (omega arith);

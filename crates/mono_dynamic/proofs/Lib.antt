@@ -14,5 +14,7 @@ pub mod RowLists
 pub mod RowsUndone
 pub mod CostsRestored
 pub mod SearchTrees
+pub mod Lightest
 pub mod RowTables
 pub mod Lacking
+pub mod WaysRows

@@ -5,14 +5,13 @@ use Rattle.std.specs.Option.{is_some}
 use Rattle.std.proofs.lemmas.Bool.{cases_lt, cases_eq, cases_Bool, both_ways, false_from_ne_true}
 use Rattle.std.proofs.lemmas.List.{get_or_append_left, get_or_push}
 use Rattle.std.proofs.lemmas.List.Elements.{All-cons, All-nil, All-push}
-use Rattle.mono_graph.specs.Digraph.{Digraph, edge_at, present, has, leaving, IsSubpart}
+use Rattle.mono_graph.specs.Digraph.{Digraph, edge_at, present, has, leaving}
 use Rattle.mono_graph.specs.Walks.{is_walk}
-use Rattle.mono_graph.proofs.Subparts.{is_walk-larger}
 use Rattle.mono_dynamic.specs.declared.arrival.Arrival.{Arrival}
 use Rattle.mono_dynamic.specs.Arrivals.{no_arrival, arrival_at, at_source, is_reached, IsTree}
 use Rattle.mono_dynamic.specs.Reached.{Reached, AreOrdered, IsArrivalOf, IsSpread, AreFollowed}
 use Rattle.mono_dynamic.specs.Rows.{alone}
-use Rattle.mono_dynamic.specs.SearchTrees.{RestsOn, LeadsOn, AreNeeded, IsSearchTree, IsSearching, IsWay, IsJoined, IsHung, HasWay}
+use Rattle.mono_dynamic.specs.SearchTrees.{RestsOn, LeadsOn, AreNeeded, IsSearchTree, IsSearching, IsWay, IsJoined, IsAttached, HasWay}
 use Rattle.mono_dynamic.proofs.Lists.{index_of}
 use Rattle.mono_dynamic.proofs.Listed.{reached_here, arrival_kept, arrival_new}
 use Rattle.mono_dynamic.proofs.Followed.{tree_push, reached_old, reached_new, reached_cases, spread_head}
@@ -46,28 +45,6 @@ tree_stays g P Q u xs edges t = record {
     to = l.to;
   };
 }
-
-pub search_tree_stays : (g : Digraph) (P Q : List Bool) (u : ℕ) (targets : List ℕ) (xs : List Arrival) → IsSubpart Q P → ((k : ℕ) → RestsOn xs k → IsTrue (present Q k)) → IsSearchTree g P u targets xs → IsSearchTree g Q u targets xs
-search_tree_stays g P Q u targets xs sub edges s =
-    let t = tree_stays g P Q u xs edges s.tree in
-    record {
-      tree = t;
-      exact = λ v asked. (
-        λ there. reached_walk g Q u v xs t there,
-        λ walk. (s.exact v asked).1 (walk.0, is_walk-larger g Q P sub u v walk.0 walk.1),
-      );
-      needed = s.needed;
-    }
-
--- where it lacks none of the nodes that it was searched for, it stays in each greater part too
-pub whole_tree_stays : (g : Digraph) (P Q : List Bool) (u : ℕ) (targets : List ℕ) (xs : List Arrival) → IsSubpart P Q → ((v : ℕ) → IsTrue (has targets v) → IsTrue (is_reached xs v)) → IsSearchTree g P u targets xs → IsSearchTree g Q u targets xs
-whole_tree_stays g P Q u targets xs sub all s =
-    let t = tree_stays g P Q u xs (λ k r. sub.keeps k (subst (λ (j : ℕ). IsTrue (present P j)) r.3 (s.tree.led r.0 r.1 r.2).present)) s.tree in
-    record {
-      tree = t;
-      exact = λ v asked. (λ there. reached_walk g Q u v xs t there, λ _. all v asked);
-      needed = s.needed;
-    }
 
 -- ---- a search
 
@@ -205,23 +182,23 @@ adding_start xs way left last r w j stamps e = record {
   needed = λ targets n i pos lt. inl (n.each i pos lt);
 }
 
--- what is hung on the tree
-abbrev pub hung : List Arrival → ℕ → ℕ → Arrival
-hung xs p at = record { node = (arrival_at xs p).node; place = (arrival_at xs p).place; before = at; stamp = 0 }
+-- what is attached to the tree
+abbrev pub attached : List Arrival → ℕ → ℕ → Arrival
+attached xs p at = record { node = (arrival_at xs p).node; place = (arrival_at xs p).place; before = at; stamp = 0 }
 
-hung_tree : (xs : List Arrival) (p : ℕ) (old new : Reached) → IsHung xs p old new → 0 < p → p < length xs → (g : Digraph) (P : List Bool) (u : ℕ) → IsTree g P u xs → IsTree g P u old.arrivals → IsTree g P u new.arrivals
-hung_tree xs p old new h pos lt g P u t o =
+attached_tree : (xs : List Arrival) (p : ℕ) (old new : Reached) → IsAttached xs p old new → 0 < p → p < length xs → (g : Digraph) (P : List Bool) (u : ℕ) → IsTree g P u xs → IsTree g P u old.arrivals → IsTree g P u new.arrivals
+attached_tree xs p old new h pos lt g P u t o =
     let l = t.led p pos lt in
     subst (λ (r : Reached). IsTree g P u r.arrivals) (sym h.is)
-    (tree_push g P u old.arrivals (hung xs p h.at) o (record { before = h.held; known = l.known; present = l.present; from = l.from ∙ sym h.from; to = l.to }))
+    (tree_push g P u old.arrivals (attached xs p h.at) o (record { before = h.held; known = l.known; present = l.present; from = l.from ∙ sym h.from; to = l.to }))
 
-hung_needed : (xs : List Arrival) (p q : ℕ) (old new : Reached) (targets : List ℕ) → IsHung xs p old new → (arrival_at xs p).before ≡ q
+attached_needed : (xs : List Arrival) (p q : ℕ) (old new : Reached) (targets : List ℕ) → IsAttached xs p old new → (arrival_at xs p).before ≡ q
     → ((i : ℕ) → 0 < i → i < length old.arrivals → (IsTrue (has targets (arrival_at old.arrivals i).node) ⊎ LeadsOn old.arrivals i) ⊎ ((arrival_at old.arrivals i).node ≡ (arrival_at xs q).node))
     → (i : ℕ) → 0 < i → i < length new.arrivals → (IsTrue (has targets (arrival_at new.arrivals i).node) ⊎ LeadsOn new.arrivals i) ⊎ ((arrival_at new.arrivals i).node ≡ (arrival_at xs p).node)
-hung_needed xs p q old new targets h before n = subst (λ (r : Reached). (i : ℕ) → 0 < i → i < length r.arrivals → (IsTrue (has targets (arrival_at r.arrivals i).node) ⊎ LeadsOn r.arrivals i) ⊎ ((arrival_at r.arrivals i).node ≡ (arrival_at xs p).node)) (sym h.is) each
+attached_needed xs p q old new targets h before n = subst (λ (r : Reached). (i : ℕ) → 0 < i → i < length r.arrivals → (IsTrue (has targets (arrival_at r.arrivals i).node) ⊎ LeadsOn r.arrivals i) ⊎ ((arrival_at r.arrivals i).node ≡ (arrival_at xs p).node)) (sym h.is) each
   where
     a : Arrival
-    a = hung xs p h.at
+    a = attached xs p h.at
 
     ys : List Arrival
     ys = old.arrivals ++ a ∷ []
@@ -250,7 +227,7 @@ hung_needed xs p q old new targets h before n = subst (λ (r : Reached). (i : �
           inr (ap (λ (x : Arrival). x.node) (get_or_push old.arrivals a no_arrival i e))
     ]
 
-pub adding_more : (xs : List Arrival) (way : List ℕ) (left last : ℕ) (old now new : Reached) → IsWay xs last way → IsAdding xs way (suc left) old now → IsHung xs (get_or way left 0) now new → IsAdding xs way left old new
+pub adding_more : (xs : List Arrival) (way : List ℕ) (left last : ℕ) (old now new : Reached) → IsWay xs last way → IsAdding xs way (suc left) old now → IsAttached xs (get_or way left 0) now new → IsAdding xs way left old new
 adding_more xs way left last old now new w d h =
     let low : suc left < length way = d.held in
     let led = w.led left low in
@@ -260,20 +237,20 @@ adding_more xs way left last old now new w d h =
     record {
       nodes = ap (λ (r : Reached). r.nodes) h.is ∙ d.nodes;
       source = ap (λ (r : Reached). r.source) h.is ∙ d.source;
-      stamps = subst (λ (r : Reached). All (λ (a : Arrival). a.stamp ≤ 0) r.arrivals) (sym h.is) (All-push (λ (a : Arrival). a.stamp ≤ 0) now.arrivals (hung xs p h.at) d.stamps (omega arith));
-      tree = λ g P u t o. hung_tree xs p now new h pos lt g P u t (d.tree g P u t o);
-      more = λ v there. subst (λ (r : Reached). IsTrue (is_reached r.arrivals v)) (sym h.is) (reached_old now.arrivals (hung xs p h.at) v (d.more v there));
+      stamps = subst (λ (r : Reached). All (λ (a : Arrival). a.stamp ≤ 0) r.arrivals) (sym h.is) (All-push (λ (a : Arrival). a.stamp ≤ 0) now.arrivals (attached xs p h.at) d.stamps (omega arith));
+      tree = λ g P u t o. attached_tree xs p now new h pos lt g P u t (d.tree g P u t o);
+      more = λ v there. subst (λ (r : Reached). IsTrue (is_reached r.arrivals v)) (sym h.is) (reached_old now.arrivals (attached xs p h.at) v (d.more v there));
       held = omega arith;
-      here = subst (λ (r : Reached). IsTrue (is_reached r.arrivals (arrival_at xs p).node)) (sym h.is) (reached_new now.arrivals (hung xs p h.at));
+      here = subst (λ (r : Reached). IsTrue (is_reached r.arrivals (arrival_at xs p).node)) (sym h.is) (reached_new now.arrivals (attached xs p h.at));
       fresh = λ i less. false_from_ne_true (is_reached new.arrivals (arrival_at xs (get_or way i 0)).node) (λ there.
-          elim (reached_cases now.arrivals (hung xs p h.at) (arrival_at xs (get_or way i 0)).node (subst (λ (r : Reached). IsTrue (is_reached r.arrivals (arrival_at xs (get_or way i 0)).node)) h.is there)) [
+          elim (reached_cases now.arrivals (attached xs p h.at) (arrival_at xs (get_or way i 0)).node (subst (λ (r : Reached). IsTrue (is_reached r.arrivals (arrival_at xs (get_or way i 0)).node)) h.is there)) [
             | inl before ↦ both_ways (is_reached now.arrivals (arrival_at xs (get_or way i 0)).node) (d.fresh i (omega arith)) before
             | inr same ↦
                 let e : p ≡ get_or way i 0 = h.only (get_or way i 0) (w.known i (omega arith)) (sym same) in
                 let falls : p < get_or way i 0 = way_falls xs last way w i left less (omega arith) in
                 absurd (omega arith)
           ]);
-      needed = λ targets n. hung_needed xs p (get_or way (suc left) 0) now new targets h led.1 (d.needed targets n);
+      needed = λ targets n. attached_needed xs p (get_or way (suc left) 0) now new targets h led.1 (d.needed targets n);
     }
 
 pub added : (xs : List Arrival) (way : List ℕ) (left : ℕ) (old new : Reached) → left ≤ 0 → IsAdding xs way left old new → HasWay xs (arrival_at xs (get_or way 0 0)).node old new

@@ -6,5 +6,6 @@ pub mod BySource
 pub mod Rows
 pub mod LeastRows
 pub mod SearchTrees
+pub mod Ways
 pub mod Sources
 pub mod Targets

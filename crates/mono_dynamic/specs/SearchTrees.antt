@@ -49,7 +49,7 @@ pub record IsJoined (xs tree : List Arrival) (way : List ℕ) : Type 0 where
   pub new : (i : ℕ) → suc i < length way → is_reached tree (arrival_at xs (slice_index_or way i 0)).node ≡ false
 
 -- the node of the arrival at p was added to the tree, by way of the arrival before
-pub record IsHung (xs : List Arrival) (p : ℕ) (old new : Reached) : Type 0 where
+pub record IsAttached (xs : List Arrival) (p : ℕ) (old new : Reached) : Type 0 where
   pub at : ℕ
   pub held : at < length old.arrivals
   pub from : (arrival_at old.arrivals at).node ≡ (arrival_at xs (arrival_at xs p).before).node

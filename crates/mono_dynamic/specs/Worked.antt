@@ -1,8 +1,13 @@
--- Arrivals and growing parts for the worked rows.
-use Rattle.std.specs.Prelude.{ℕ, zero, suc, Bool, List}
+-- Arrivals, targets, and parts that grow or shrink for the worked rows.
+use Rattle.std.specs.Prelude.{ℕ, zero, suc, Bool, pos, List, [], ◌∷◌, Option}
+use Rattle.mono_graph.specs.declared.limit.Limit.TheVariants as limit
 use Rattle.mono_graph.specs.Worked.{both, first_alone, last_alone, neither}
 use Rattle.mono_dynamic.specs.declared.arrival.Arrival.{Arrival}
 use Rattle.mono_dynamic.specs.declared.change.Change.{Change}
+use Rattle.mono_dynamic.specs.declared.walk_target.WalkTarget.{WalkTarget}
+use Rattle.mono_dynamic.specs.Arrivals.{at_source}
+use Rattle.mono_dynamic.specs.Targets.{Targets}
+use Rattle.mono_dynamic.specs.Ways.{Ways}
 
 abbrev pub arrival : ℕ → ℕ → ℕ → ℕ → Arrival
 arrival v k before stamp = record { node = v; place = k; before = before; stamp = stamp }
@@ -26,3 +31,23 @@ last_first (suc (suc n)) = both
 -- a change by an edge that leaves the source
 abbrev pub change : ℕ → ℕ → ℕ → ℕ → ℕ → ℕ → Change
 change v k previous old l stamp = record { node = v; place = k; before = 0; previous = previous; old = old; label = l; stamp = stamp }
+
+-- both of two edges, until the first of them goes with the first step
+abbrev pub first_goes : ℕ → List Bool
+first_goes zero = both
+first_goes (suc n) = last_alone
+
+-- node 1, by walks that weigh at most so much
+abbrev pub within_weight : ℕ → WalkTarget
+within_weight most = record { node = 1; limit = limit.Weight (pos most) }
+
+-- of a graph with two nodes the first alone, or the second by the edge at place k. The second one's label is given
+abbrev pub without_way : ℕ → Ways
+without_way label = record { limit = limit.Weight (pos 9); cap = 10; tree = record { nodes = 2; source = 0; arrivals = at_source 0 ∷ [] }; labels = 0 ∷ label ∷ [] }
+
+abbrev pub with_way : ℕ → ℕ → Ways
+with_way k label = record { limit = limit.Weight (pos 9); cap = 10; tree = record { nodes = 2; source = 0; arrivals = at_source 0 ∷ arrival 1 k 0 0 ∷ [] }; labels = 0 ∷ label ∷ [] }
+
+-- what is known of one target, within a weight of 3
+abbrev pub known_by : Ways → Option ℕ → Option ℕ → Targets
+known_by w since lost = record { ways = w; targets = within_weight 3 ∷ []; since = since; lost = lost }

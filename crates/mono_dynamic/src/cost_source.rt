@@ -18,7 +18,7 @@ pub struct CostSource {
 }
 
 /// The number of what a limit measures, from 0 to 2.
-fn measure_of(limit: Limit) -> usize
+pub(crate) fn measure_of(limit: Limit) -> usize
     ensures measure { result ≡ measure_by limit }
     ensures small { result < 3 }
 {

@@ -66,7 +66,8 @@ fn undo_changes_to(
 fn walk_back(alloc: Global, changes: &[Change], last: usize) -> Result<Vec<u32>, AllocError>
     requires before { (i : ℕ) → i < length changes.now → (change_at changes.now i).before ≤ i }
     requires last { last ≤ length changes.now }
-    ensures { IfOk result (λ walk. (g : Digraph) (P : List Bool) (limit : Limit) (u : ℕ) → ((i : ℕ) → i < last → IsLed g P limit u changes.now i) → IsTrue (is_walk g P u (node_by u changes.now last) walk.items) × (cost_along limit g walk.items ≡ label_by changes.now last)) }
+    ensures { IfOk result (λ walk. (g : Digraph) (P : List Bool) (limit : Limit) (u : ℕ) → ((i : ℕ) → i < last → IsLed g P limit u changes.now i)
+        → IsTrue (is_walk g P u (node_by u changes.now last) walk.items) × (cost_along limit g walk.items ≡ label_by changes.now last)) }
 {
     let mut walk = Vec::new(alloc);
     let mut at = last;
@@ -145,7 +146,8 @@ impl CostTable {
         requires before { change.before ≤ length self.old.changes }
         requires previous { IsLast self.old.changes (length self.old.changes) change.node change.old change.previous }
         requires stamps { All (λ c. c.stamp ≤ change.stamp) self.old.changes }
-        ensures lowered { OnOk result (self.new ≡ record self.old { labels = slice_set self.old.labels change.node change.label; changes = self.old.changes ++ change ∷ [] }) }
+        ensures lowered { OnOk result (self.new
+            ≡ record self.old { labels = slice_set self.old.labels change.node change.label; changes = self.old.changes ++ change ∷ [] }) }
         ensures unchanged { OnErr result (self.new ≡ self.old) }
     {
         self.changes.push(change)?;
@@ -154,10 +156,12 @@ impl CostTable {
         Ok(())
     }
 
-    /// The changes, in order.
+    /// The changes, in order. A node's last one gave it its label.
     pub fn changes(&self) -> &[Change]
         ensures changes { result.now ≡ self.now.changes }
         ensures known { All (λ c. c.node < length self.now.labels) result.now }
+        ensures last { (v : ℕ) → v < length self.now.labels
+            → (last : ℕ) × IsLast self.now.changes (length self.now.changes) v (label_of self.now.labels v) last }
     {
         &self.changes
     }
@@ -217,7 +221,9 @@ impl CostTable {
     pub fn walk_to(&self, alloc: Global, node: u32, kept: u32) -> Result<Vec<u32>, AllocError>
         requires node { node < length self.now.labels }
         requires below { label_of (labels_after kept self.now) node < self.now.cap }
-        ensures { IfOk result (λ walk. (g : Digraph) (parts : ℕ → List Bool) (n u : ℕ) → kept ≤ n → AreLeastAlong g parts n u self.now → IsTrue (is_walk g (parts kept) u node walk.items) × (cost_along self.now.limit g walk.items ≡ label_of (labels_after kept self.now) node)) }
+        ensures { IfOk result (λ walk. (g : Digraph) (parts : ℕ → List Bool) (n u : ℕ) → kept ≤ n → AreLeastAlong g parts n u self.now
+            → IsTrue (is_walk g (parts kept) u node walk.items)
+            × (cost_along self.now.limit g walk.items ≡ label_of (labels_after kept self.now) node)) }
     {
         let given = self.given_after(node, kept);
         let walk = walk_back(alloc, &self.changes, given.last)?;

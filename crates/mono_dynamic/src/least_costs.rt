@@ -5,11 +5,12 @@
 //! step, so going back puts it there again, the last change first. Each change names its edge and the change that gave the
 //! start of the edge its label, so a walk that costs what the label says is read off by going back over them.
 
-ghost use Rattle.std.specs.Prelude.{◌≡◌, ◌+◌, ◌<◌, ◌≤◌, ◌∷◌, [], ℕ, Bool, List, All, IfOk, IsTrue, OnOk, OnErr, length, replicate, slice_set};
-ghost use Rattle.mono_graph.specs.Digraph.{Digraph, IsPartOf};
+ghost use Rattle.std.specs.Prelude.{◌≡◌, ◌+◌, ◌<◌, ◌≤◌, ◌==◌, ◌&&◌, ◌||◌, ◌⊎◌, ◌∷◌, [], ℕ, Bool, List, All, IfOk, IsTrue, OnOk, OnErr, length, replicate, slice_set};
+ghost use Rattle.mono_graph.specs.Digraph.{Digraph, edge_at, present, IsPartOf};
 ghost use Rattle.mono_graph.specs.Walks.{is_walk, cost_along};
 ghost use Rattle.mono_dynamic.specs.Arrivals.{IsGrown, GrowsAfter};
 ghost use Rattle.mono_dynamic.specs.Costs.{label_of, labels_after, made_after, made_by, AreLeast, AreLeastAlong, IsLater};
+ghost use Rattle.mono_dynamic.specs.Ways.{gives_label as gives_label_by, is_lightest as is_lightest_by, AreCostsFrom, AreLightest};
 
 use crate::change::Change;
 use crate::cost_source::CostSource;
@@ -18,7 +19,7 @@ use crate::relax::relax_from;
 use crate::row::Row;
 use crate::waiting::Waiting;
 use mono_base::limits::MAX_BOUND;
-use mono_graph::{Graph, Limit, Part};
+use mono_graph::{Edge, Graph, Limit, Part};
 use std::alloc::{AllocError, Global};
 use std::collections::BinaryHeap;
 use std::marker::Model;
@@ -85,7 +86,9 @@ impl LeastCosts {
     pub fn walk_to(&self, alloc: Global, node: u32, kept: u32) -> Result<Vec<u32>, AllocError>
         requires node { node < length self.now.labels }
         requires below { label_of (labels_after kept self.now) node < self.now.cap }
-        ensures { IfOk result (λ walk. (g : Digraph) (parts : ℕ → List Bool) (n u : ℕ) → kept ≤ n → AreLeastAlong g parts n u self.now → IsTrue (is_walk g (parts kept) u node walk.items) × (cost_along self.now.limit g walk.items ≡ label_of (labels_after kept self.now) node)) }
+        ensures { IfOk result (λ walk. (g : Digraph) (parts : ℕ → List Bool) (n u : ℕ) → kept ≤ n → AreLeastAlong g parts n u self.now
+            → IsTrue (is_walk g (parts kept) u node walk.items)
+            × (cost_along self.now.limit g walk.items ≡ label_of (labels_after kept self.now) node)) }
     {
         self.table.walk_to(alloc, node, kept)
     }
@@ -125,8 +128,10 @@ impl LeastCosts {
         ensures unchanged { OnErr result (self.new ≡ self.old) }
         ensures stamps { All (λ c. c.stamp ≤ stamp) self.new.changes }
         ensures earlier { (m : ℕ) → m < stamp → labels_after m self.new ≡ labels_after m self.old }
-        ensures least { OnOk result ((u : ℕ) (P : List Bool) → AreLeast graph.now P self.old.limit u self.old.cap self.old.labels → IsGrown P part.now places.now → AreLeast graph.now part.now self.old.limit u self.old.cap self.new.labels) }
-        ensures along { OnOk result ((parts : ℕ → List Bool) (n u : ℕ) → AreLeastAlong graph.now parts n u self.old → GrowsAfter parts n stamp part.now places.now → AreLeastAlong graph.now parts stamp u self.new) }
+        ensures least { OnOk result ((u : ℕ) (P : List Bool) → AreLeast graph.now P self.old.limit u self.old.cap self.old.labels
+            → IsGrown P part.now places.now → AreLeast graph.now part.now self.old.limit u self.old.cap self.new.labels) }
+        ensures along { OnOk result ((parts : ℕ → List Bool) (n u : ℕ) → AreLeastAlong graph.now parts n u self.old
+            → GrowsAfter parts n stamp part.now places.now → AreLeastAlong graph.now parts stamp u self.new) }
     {
         // The edges of a graph lead between its nodes.
         let _ = graph.nodes();
@@ -144,10 +149,122 @@ impl LeastCosts {
     /// Goes back to the labels after so many steps. It costs the changes that it takes back.
     pub fn undo_to(&mut self, kept: u32)
         ensures restored { self.new ≡ record self.old { labels = labels_after kept self.old; changes = made_by kept self.old.changes } }
-        ensures along { (g : Digraph) (parts : ℕ → List Bool) (n u : ℕ) → kept ≤ n → AreLeastAlong g parts n u self.old → AreLeastAlong g parts kept u self.new }
+        ensures along { (g : Digraph) (parts : ℕ → List Bool) (n u : ℕ) → kept ≤ n → AreLeastAlong g parts n u self.old
+            → AreLeastAlong g parts kept u self.new }
     {
         let count = self.table.count_by(kept);
         self.table.undo_to(count);
+    }
+}
+
+impl LeastCosts {
+    /// Forgets what was found, and finds the least costs in a part anew. Where memory is missing, some labels may be too great.
+    ///
+    /// It costs what it forgets, the nodes whose labels fall and the edges that leave them.
+    pub(crate) fn search(
+        &mut self,
+        graph: &Graph,
+        part: &Part,
+        source: u32,
+    ) -> Result<(), AllocError>
+        requires from { AreCostsFrom graph.now.nodes source self.old }
+        requires part { IsPartOf part.now graph.now }
+        ensures from { AreCostsFrom graph.now.nodes source self.new }
+        ensures limit { self.new.limit ≡ self.old.limit }
+        ensures cap { self.new.cap ≡ self.old.cap }
+        ensures least { OnOk result (AreLeast graph.now part.now self.old.limit source self.old.cap self.new.labels) }
+    {
+        // The edges of a graph lead between its nodes.
+        let _ = graph.nodes();
+        self.table.undo_to(0);
+        let table = &mut self.table;
+        relax_from(
+            graph,
+            part,
+            graph.leaving(source),
+            0,
+            table,
+            &mut self.queue,
+        )?;
+        Ok(())
+    }
+
+    /// Whether an edge gives the node to which it leads its label.
+    fn gives_label(&self, edge: Edge) -> bool
+        requires from { edge.from < length self.now.labels }
+        requires to { edge.to < length self.now.labels }
+        ensures { result ≡ gives_label_by self.now.limit self.now.labels edge }
+    {
+        let start = self.table.label(edge.from);
+        let end = self.table.label(edge.to);
+        end >= start && end - start == self.table.cost_of(edge)
+    }
+
+    /// Whether the edge at a place is present, and gives the node to which it leads its label.
+    fn is_lightest(&self, graph: &Graph, part: &Part, place: u32) -> bool
+        requires size { length self.now.labels ≡ graph.now.nodes }
+        requires part { IsPartOf part.now graph.now }
+        requires place { place < length graph.now.edges }
+        ensures { result ≡ is_lightest_by graph.now part.now self.now.limit self.now.labels place }
+    {
+        part.has(place) && self.gives_label(graph.edge(place))
+    }
+
+    /// Puts those edges into a part that leave the node, are present, and give the nodes to which they lead their labels.
+    fn put_leaving(&self, graph: &Graph, part: &Part, node: u32, light: &mut Part)
+        requires size { length self.now.labels ≡ graph.now.nodes }
+        requires part { IsPartOf part.now graph.now }
+        requires node { node < graph.now.nodes }
+        requires light { IsPartOf light.old graph.now }
+        ensures light { IsPartOf light.new graph.now }
+        ensures more { (k : ℕ) → IsTrue (present light.old k) → IsTrue (present light.new k) }
+        ensures only { (k : ℕ) → IsTrue (present light.new k)
+            → IsTrue (present light.old k) ⊎ IsTrue (is_lightest_by graph.now part.now self.now.limit self.now.labels k) }
+        ensures put { (k : ℕ) → k < length graph.now.edges → (edge_at graph.now k).from ≡ node
+            → IsTrue (is_lightest_by graph.now part.now self.now.limit self.now.labels k) → IsTrue (present light.new k) }
+    {
+        for place in graph.leaving(node) {
+            put_if(light, *place, self.is_lightest(graph, part, *place));
+        }
+    }
+
+    /// The part of the edges that give the nodes to which they lead their labels: walks of them from the source cost the least.
+    ///
+    /// It costs the nodes that have labels and the edges that leave them, beside room for the part.
+    pub(crate) fn lightest_part(
+        &self,
+        alloc: Global,
+        graph: &Graph,
+        part: &Part,
+        source: u32,
+    ) -> Result<Part, AllocError>
+        requires from { AreCostsFrom graph.now.nodes source self.now }
+        requires part { IsPartOf part.now graph.now }
+        ensures { IfOk result (AreLightest graph.now part.now self.now.limit self.now.cap self.now.labels) }
+    {
+        // The edges of a graph lead between its nodes.
+        let _ = graph.nodes();
+        let mut light = Part::none(alloc, graph.edge_count())?;
+        self.put_leaving(graph, part, source, &mut light);
+        for change in self.table.changes() {
+            if change.label != self.label(change.node) {
+                // The label fell once more.
+                continue;
+            }
+            self.put_leaving(graph, part, change.node, &mut light);
+        }
+        Ok(light)
+    }
+}
+
+/// Puts the place into the part where that is asked for.
+fn put_if(part: &mut Part, place: u32, asked: bool)
+    requires { place < length part.old }
+    ensures size { length part.new ≡ length part.old }
+    ensures places { (k : ℕ) → present part.new k ≡ ((k == place && asked) || present part.old k) }
+{
+    if asked {
+        part.put(place);
     }
 }
 

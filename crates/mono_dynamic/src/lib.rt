@@ -36,6 +36,8 @@ mod targets_by_source;
 mod tree_search;
 /// Nodes that wait.
 mod waiting;
+/// To where walks are asked for.
+mod walk_target;
 /// What the words of contracts make of small graphs.
 pub mod worked;
 
@@ -52,3 +54,4 @@ pub use search_tree::SearchTree;
 pub use sources::Sources;
 pub use targets_by_source::TargetsBySource;
 pub use tree_search::TreeSearch;
+pub use walk_target::WalkTarget;

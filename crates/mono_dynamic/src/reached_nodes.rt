@@ -126,7 +126,10 @@ impl ReachedNodes {
         requires node { arrival.node < self.old.nodes }
         requires before { arrival.before < length self.old.arrivals }
         requires stamps { All (λ a. a.stamp ≤ arrival.stamp) self.old.arrivals }
-        ensures { self.new ≡ record self.old { arrivals = (if is_reached self.old.arrivals arrival.node then self.old.arrivals else self.old.arrivals ++ arrival ∷ []) } }
+        ensures { self.new ≡ record self.old {
+          arrivals = (if is_reached self.old.arrivals arrival.node then self.old.arrivals else self.old.arrivals
+              ++ arrival ∷ []);
+        } }
     {
         match find(&self.positions, &self.arrivals, arrival.node) {
             Some(_) => {}
@@ -237,8 +240,10 @@ impl ReachedNodes {
         ensures source { self.new.source ≡ self.old.source }
         ensures stamps { All (λ a. a.stamp ≤ stamp) self.new.arrivals }
         ensures earlier { (m : ℕ) → m < stamp → within m self.new.arrivals ≡ within m self.old.arrivals }
-        ensures reached { (P : List Bool) → AreReached graph.now P self.old.source self.old.arrivals → IsGrown P part.now places.now → AreReached graph.now part.now self.old.source self.new.arrivals }
-        ensures along { (parts : ℕ → List Bool) (n : ℕ) → AreReachedAlong graph.now parts n self.old.source self.old.arrivals → GrowsAfter parts n stamp part.now places.now → AreReachedAlong graph.now parts stamp self.old.source self.new.arrivals }
+        ensures reached { (P : List Bool) → AreReached graph.now P self.old.source self.old.arrivals → IsGrown P part.now places.now
+            → AreReached graph.now part.now self.old.source self.new.arrivals }
+        ensures along { (parts : ℕ → List Bool) (n : ℕ) → AreReachedAlong graph.now parts n self.old.source self.old.arrivals
+            → GrowsAfter parts n stamp part.now places.now → AreReachedAlong graph.now parts stamp self.old.source self.new.arrivals }
     {
         let mut head = self.count();
         self.follow(graph, part, places, stamp);
@@ -252,7 +257,8 @@ impl ReachedNodes {
     /// Goes back to what was reached after so many steps. It costs what it drops.
     pub fn undo_to(&mut self, kept: u32)
         ensures arrivals { self.new ≡ record self.old { arrivals = within kept self.old.arrivals } }
-        ensures along { (g : Digraph) (parts : ℕ → List Bool) (n : ℕ) → kept ≤ n → AreReachedAlong g parts n self.old.source self.old.arrivals → AreReachedAlong g parts kept self.old.source self.new.arrivals }
+        ensures along { (g : Digraph) (parts : ℕ → List Bool) (n : ℕ) → kept ≤ n → AreReachedAlong g parts n self.old.source self.old.arrivals
+            → AreReachedAlong g parts kept self.old.source self.new.arrivals }
     {
         drop_later(&mut self.arrivals, kept);
     }
@@ -289,7 +295,8 @@ impl ReachedNodes {
     pub fn walk_to(&self, alloc: Global, node: u32) -> Result<Vec<u32>, AllocError>
         requires node { node < self.now.nodes }
         requires reached { IsTrue (is_reached self.now.arrivals node) }
-        ensures { IfOk result (λ walk. (g : Digraph) (P : List Bool) (m : ℕ) → IsTree g P self.now.source (within m self.now.arrivals) → IsTrue (is_reached (within m self.now.arrivals) node) → IsTrue (is_walk g P self.now.source node walk.items)) }
+        ensures { IfOk result (λ walk. (g : Digraph) (P : List Bool) (m : ℕ) → IsTree g P self.now.source (within m self.now.arrivals)
+            → IsTrue (is_reached (within m self.now.arrivals) node) → IsTrue (is_walk g P self.now.source node walk.items)) }
     {
         match find(&self.positions, &self.arrivals, node) {
             Some(last) => {
@@ -345,7 +352,8 @@ fn walk_back(
 ) -> Result<Vec<u32>, AllocError>
     requires ordered { AreOrdered source arrivals.now }
     requires last { last < length arrivals.now }
-    ensures { IfOk result (λ walk. (g : Digraph) (P : List Bool) (m : ℕ) → IsTree g P source (within m arrivals.now) → last < length (within m arrivals.now) → IsTrue (is_walk g P source (arrival_at arrivals.now last).node walk.items)) }
+    ensures { IfOk result (λ walk. (g : Digraph) (P : List Bool) (m : ℕ) → IsTree g P source (within m arrivals.now)
+        → last < length (within m arrivals.now) → IsTrue (is_walk g P source (arrival_at arrivals.now last).node walk.items)) }
 {
     let mut walk = Vec::new(alloc);
     let mut at = last;

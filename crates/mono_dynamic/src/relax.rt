@@ -30,7 +30,9 @@ fn relax(
     requires place { place < length graph.now.edges }
     requires stamps { All (λ c. c.stamp ≤ stamp) table.old.changes }
     ensures later { IsLater stamp table.old table.new }
-    ensures relaxed { IfOk result (λ _. (remaining : List ℕ) → AreRelaxed graph.now part.now (place ∷ remaining) remaining table.old table.new (heap_items queue.old) (heap_items queue.old) (heap_items queue.new)) }
+    ensures relaxed { IfOk result (λ _. (remaining : List ℕ)
+        → AreRelaxed graph.now part.now (place
+        ∷ remaining) remaining table.old table.new (heap_items queue.old) (heap_items queue.old) (heap_items queue.new)) }
 {
     if !part.has(place) {
         return Ok(());
@@ -73,7 +75,8 @@ fn relax_all(
     requires places { All (λ k. k < length graph.now.edges) places.now }
     requires stamps { All (λ c. c.stamp ≤ stamp) table.old.changes }
     ensures later { IsLater stamp table.old table.new }
-    ensures relaxed { IfOk result (λ _. AreRelaxed graph.now part.now places.now [] table.old table.new (heap_items queue.old) (heap_items queue.old) (heap_items queue.new)) }
+    ensures relaxed { IfOk result (λ _. AreRelaxed graph.now part.now places.now [] table.old table.new (heap_items queue.old) (heap_items queue.old)
+        (heap_items queue.new)) }
 {
     for place in places {
         relax(graph, part, *place, stamp, table, queue)?;
@@ -95,7 +98,8 @@ fn expand(
     requires node { next.node < graph.now.nodes }
     requires stamps { All (λ c. c.stamp ≤ stamp) table.old.changes }
     ensures later { IsLater stamp table.old table.new }
-    ensures relaxed { IfOk result (λ _. AreRelaxed graph.now part.now [] [] table.old table.new (next ∷ heap_items queue.old) (heap_items queue.old) (heap_items queue.new)) }
+    ensures relaxed { IfOk result (λ _. AreRelaxed graph.now part.now [] [] table.old table.new (next
+        ∷ heap_items queue.old) (heap_items queue.old) (heap_items queue.new)) }
 {
     if next.left != table.left(next.node) {
         return Ok(());

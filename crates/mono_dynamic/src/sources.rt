@@ -51,6 +51,7 @@ impl<S: RowSource + Drop> Sources<S> {
         requires known { All (S.is_known nodes) asked.now }
         requires few { length asked.now < 2 ^ 32 }
         ensures known { IfOk result (λ s. All (S.is_known nodes) s.rows.items) }
+        ensures few { IfOk result (λ s. length s.rows.items ≤ length asked.now) }
         ensures apart { IfOk result (λ s. AreApart S.slot s.rows.items) }
         ensures rows { IfOk result (λ s. HaveRows S.slot S.amount asked.now (length asked.now) s.row_of.items s.rows.items) }
     {

@@ -1,21 +1,26 @@
-//! Which of some nodes are reached from each of several sources, in one part that loses edges and gets the last of them back.
+//! To which targets walks lead from each of several sources, in one part that loses edges and gets the last of them back.
 
-ghost use Rattle.std.specs.Prelude.{◌≡◌, ◌+◌, ◌<◌, ◌≤◌, ◌++◌, ◌∷◌, [], ℕ, Bool, List, None, All, IfOk, IsTrue, OnErr, OnOk, length, map, slice_set};
+ghost use Rattle.std.specs.Prelude.{◌≡◌, ◌+◌, ◌<◌, ◌≤◌, ◌++◌, ◌∷◌, [], ℕ, Bool, List, false, None, All, IfOk, IsTrue, OnErr, OnOk, length, map, slice_set};
 ghost use Rattle.std.specs.List.{AllZip};
 ghost use Rattle.mono_graph.specs.Digraph.{IsPartOf};
-ghost use Rattle.mono_dynamic.specs.Targets.{Targets, is_lacking, is_settled, targets_at, unsearched, IsOneChanged, IsSearchedRow, IsShrunkRow, IsUndoneRow};
+ghost use Rattle.mono_dynamic.specs.declared.walk_target.WalkTarget.{WalkTarget};
+ghost use Rattle.mono_dynamic.specs.LeastRows.{IsCostSource};
+ghost use Rattle.mono_dynamic.specs.Ways.{IsTargetOf};
+ghost use Rattle.mono_dynamic.specs.Targets.{Targets, is_lacking, is_settled, targets_at, unsearched, IsOneChanged, IsSearchedRow, IsSettledBy, IsShrunkRow, IsUndoneRow};
 
+use crate::cost_source::CostSource;
 use crate::reached_targets::ReachedTargets;
 use crate::tree_search::TreeSearch;
+use crate::walk_target::WalkTarget;
 use mono_base::limits::MAX_NODES;
 use mono_graph::{Graph, Part};
 use std::alloc::{AllocError, Global};
 use std::marker::Model;
 
-/// Which targets of each of several sources are reached.
+/// To which targets of each of several sources walks lead.
 ///
-/// Contracts see the number of nodes and the rows, one for each source, in the order in which the sources were given. Only
-/// `new` and `add_target` take memory.
+/// Contracts see the number of nodes and the rows, one for each source, in the order in which the sources were given. `new`,
+/// `add_target` and `search` take memory.
 #[derive(Drop)]
 pub struct TargetsBySource {
     rows: Vec<ReachedTargets>,
@@ -30,13 +35,17 @@ impl Model for TargetsBySource {
 
     ghost view = { λ s. record { nodes = s.room; rows = s.rows.items } };
 
-    ghost invariant = { λ s. (i : ℕ) → i < length s.rows.items → (targets_at s.rows.items i).tree.nodes ≡ s.room };
+    ghost invariant = { λ s. (i : ℕ) → i < length s.rows.items → (targets_at s.rows.items i).ways.tree.nodes ≡ s.room };
 }
 
 /// A row for each source.
-fn rows_of(alloc: Global, nodes: u32, sources: &[u32]) -> Result<Vec<ReachedTargets>, AllocError>
+fn rows_of(
+    alloc: Global,
+    nodes: u32,
+    sources: &[CostSource],
+) -> Result<Vec<ReachedTargets>, AllocError>
     requires few { nodes ≤ MAX_NODES }
-    requires sources { All (λ u. u < nodes) sources.now }
+    requires sources { All (IsCostSource nodes) sources.now }
     ensures { IfOk result (λ rows. rows.items ≡ map (unsearched nodes) sources.now) }
 {
     let mut rows = Vec::new(alloc);
@@ -48,20 +57,24 @@ fn rows_of(alloc: Global, nodes: u32, sources: &[u32]) -> Result<Vec<ReachedTarg
 }
 
 /// The row has one more target.
-fn add_to(rows: &mut Vec<ReachedTargets>, row: usize, node: u32) -> Result<(), AllocError>
+fn add_to(rows: &mut Vec<ReachedTargets>, row: usize, target: WalkTarget) -> Result<(), AllocError>
     requires row { row < length rows.old.items }
-    requires node { node < (targets_at rows.old.items row).tree.nodes }
-    ensures added { OnOk result (rows.new.items ≡ slice_set rows.old.items row (record (targets_at rows.old.items row) { targets = (targets_at rows.old.items row).targets ++ node ∷ []; since = None })) }
+    requires target { IsTargetOf (targets_at rows.old.items row).ways target }
+    ensures added { OnOk result (rows.new.items
+        ≡ slice_set rows.old.items row (record (targets_at rows.old.items row) {
+          targets = (targets_at rows.old.items row).targets ++ target ∷ [];
+          since = None;
+        })) }
     ensures unchanged { OnErr result (rows.new.items ≡ rows.old.items) }
 {
     let row = &mut rows[row];
-    row.add_target(node)?;
+    row.add_target(target)?;
     Ok(())
 }
 
 /// The edges at these places go, with the step of this number.
 fn shrink_each(rows: &mut Vec<ReachedTargets>, graph: &Graph, places: &[u32], number: u32)
-    requires size { (i : ℕ) → i < length rows.old.items → (targets_at rows.old.items i).tree.nodes ≡ graph.now.nodes }
+    requires size { (i : ℕ) → i < length rows.old.items → (targets_at rows.old.items i).ways.tree.nodes ≡ graph.now.nodes }
     requires places { All (λ k. k < length graph.now.edges) places.now }
     ensures { AllZip (IsShrunkRow graph.now places.now number) rows.old.items rows.new.items }
 {
@@ -83,30 +96,34 @@ fn undo_each(rows: &mut Vec<ReachedTargets>, kept: u32)
 
 /// Searches for a row.
 fn search_row(
+    alloc: Global,
     rows: &mut Vec<ReachedTargets>,
     room: &mut TreeSearch,
     row: usize,
     graph: &Graph,
     part: &Part,
     number: u32,
-) -> bool
+) -> Result<bool, AllocError>
     requires row { row < length rows.old.items }
-    requires size { (targets_at rows.old.items row).tree.nodes ≡ graph.now.nodes }
+    requires size { (targets_at rows.old.items row).ways.tree.nodes ≡ graph.now.nodes }
     requires room { room.old ≡ graph.now.nodes }
     requires part { IsPartOf part.now graph.now }
     ensures room { room.new ≡ room.old }
-    ensures searched { IsOneChanged (IsSearchedRow graph.now part.now number result) rows.old.items rows.new.items row }
+    ensures searched { IsOneChanged (IsSearchedRow graph.now part.now number) rows.old.items rows.new.items row }
+    ensures settled { IfOk result (λ whole. IsSettledBy whole (targets_at rows.old.items row) (targets_at rows.new.items row)) }
+    ensures forgotten { OnErr result ((t : WalkTarget) → is_lacking (targets_at rows.new.items row) t ≡ false) }
 {
     let row = &mut rows[row];
-    row.search(room, graph, part, number)
+    let whole = row.search(alloc, room, graph, part, number)?;
+    Ok(whole)
 }
 
 impl TargetsBySource {
     /// No row has a target yet. The graph has this many nodes, from 1 to [`MAX_NODES`].
-    pub fn new(alloc: Global, nodes: u32, sources: &[u32]) -> Result<Self, AllocError>
+    pub fn new(alloc: Global, nodes: u32, sources: &[CostSource]) -> Result<Self, AllocError>
         requires some { 1 ≤ nodes }
         requires few { nodes ≤ MAX_NODES }
-        requires sources { All (λ u. u < nodes) sources.now }
+        requires sources { All (IsCostSource nodes) sources.now }
         ensures { IfOk result (λ s. s ≡ record { nodes = nodes; rows = map (unsearched nodes) sources.now }) }
     {
         let rows = rows_of(alloc, nodes, sources)?;
@@ -119,30 +136,34 @@ impl TargetsBySource {
     /// How many rows there are.
     pub fn count(&self) -> usize
         ensures count { result ≡ length self.now.rows }
-        ensures sized { (i : ℕ) → i < length self.now.rows → (targets_at self.now.rows i).tree.nodes ≡ self.now.nodes }
+        ensures sized { (i : ℕ) → i < length self.now.rows → (targets_at self.now.rows i).ways.tree.nodes ≡ self.now.nodes }
     {
         self.rows.len()
     }
 
-    /// The node is a target of a row too. What was known there is forgotten.
-    pub fn add_target(&mut self, row: usize, node: u32) -> Result<(), AllocError>
+    /// This is a target of a row too. What was known there is forgotten.
+    pub fn add_target(&mut self, row: usize, target: WalkTarget) -> Result<(), AllocError>
         requires row { row < length self.old.rows }
-        requires node { node < self.old.nodes }
-        ensures added { OnOk result (self.new ≡ record self.old { rows = slice_set self.old.rows row (record (targets_at self.old.rows row) { targets = (targets_at self.old.rows row).targets ++ node ∷ []; since = None }) }) }
+        requires target { IsTargetOf (targets_at self.old.rows row).ways target }
+        ensures added { OnOk result (self.new
+            ≡ record self.old {
+              rows = slice_set self.old.rows row
+                  (record (targets_at self.old.rows row) { targets = (targets_at self.old.rows row).targets ++ target ∷ []; since = None });
+            }) }
         ensures unchanged { OnErr result (self.new ≡ self.old) }
     {
-        add_to(&mut self.rows, row, node)?;
+        add_to(&mut self.rows, row, target)?;
         Ok(())
     }
 
-    /// Whether the node is known to be out of reach from a row's source.
-    pub fn is_lacking(&self, row: usize, node: u32) -> bool
+    /// Whether it is known that no walk leads from a row's source to the target within its bound.
+    pub fn is_lacking(&self, row: usize, target: WalkTarget) -> bool
         requires row { row < length self.now.rows }
-        requires node { node < self.now.nodes }
-        ensures { result ≡ is_lacking (targets_at self.now.rows row) node }
+        requires node { target.node < self.now.nodes }
+        ensures { result ≡ is_lacking (targets_at self.now.rows row) target }
     {
         let row = &self.rows[row];
-        row.is_lacking(node)
+        row.is_lacking(target)
     }
 
     /// Whether it is known of each target of a row whether it is reached.
@@ -172,14 +193,26 @@ impl TargetsBySource {
         undo_each(&mut self.rows, kept);
     }
 
-    /// Searches the part, which is that after so many steps, for a row. Whether it has reached all targets of the row.
-    pub fn search(&mut self, row: usize, graph: &Graph, part: &Part, number: u32) -> bool
+    /// Searches the part, which is that after so many steps, for a row. Whether all targets of the row are reached. Where memory
+    /// is missing, nothing is known of them.
+    pub fn search(
+        &mut self,
+        alloc: Global,
+        row: usize,
+        graph: &Graph,
+        part: &Part,
+        number: u32,
+    ) -> Result<bool, AllocError>
         requires row { row < length self.old.rows }
         requires nodes { self.old.nodes ≡ graph.now.nodes }
         requires part { IsPartOf part.now graph.now }
         ensures nodes { self.new.nodes ≡ self.old.nodes }
-        ensures searched { IsOneChanged (IsSearchedRow graph.now part.now number result) self.old.rows self.new.rows row }
+        ensures searched { IsOneChanged (IsSearchedRow graph.now part.now number) self.old.rows self.new.rows row }
+        ensures settled { IfOk result (λ whole. IsSettledBy whole (targets_at self.old.rows row) (targets_at self.new.rows row)) }
+        ensures forgotten { OnErr result ((t : WalkTarget) → is_lacking (targets_at self.new.rows row) t ≡ false) }
     {
-        search_row(&mut self.rows, &mut self.room, row, graph, part, number)
+        let rows = &mut self.rows;
+        let whole = search_row(alloc, rows, &mut self.room, row, graph, part, number)?;
+        Ok(whole)
     }
 }

@@ -8,7 +8,7 @@ ghost use Rattle.std.specs.Prelude.{◌≡◌, ◌-◌, ◌<◌, ◌≤◌, ◌�
 ghost use Rattle.mono_graph.specs.Digraph.{IsPartOf};
 ghost use Rattle.mono_dynamic.specs.Arrivals.{arrival_at, is_reached};
 ghost use Rattle.mono_dynamic.specs.Rows.{alone};
-ghost use Rattle.mono_dynamic.specs.SearchTrees.{IsSearching, IsSearchTree, IsWay, IsJoined, IsHung, HasWay};
+ghost use Rattle.mono_dynamic.specs.SearchTrees.{IsSearching, IsSearchTree, IsWay, IsJoined, IsAttached, HasWay};
 
 use crate::arrival::Arrival;
 use crate::reached_nodes::ReachedNodes;
@@ -91,14 +91,14 @@ fn way_back(found: &ReachedNodes, tree: &ReachedNodes, last: u32, way: &mut Vec<
 }
 
 /// Adds the node of an arrival to the tree, which has the node from where it was reached.
-fn hang(found: &ReachedNodes, tree: &mut ReachedNodes, position: u32)
+fn attach(found: &ReachedNodes, tree: &mut ReachedNodes, position: u32)
     requires nodes { found.now.nodes ≡ tree.old.nodes }
     requires position { position < length found.now.arrivals }
     requires behind { 0 < position }
     requires from { IsTrue (is_reached tree.old.arrivals (arrival_at found.now.arrivals (arrival_at found.now.arrivals position).before).node) }
     requires new { is_reached tree.old.arrivals (arrival_at found.now.arrivals position).node ≡ false }
     requires stamps { All (λ a. a.stamp ≤ 0) tree.old.arrivals }
-    ensures { IsHung found.now.arrivals position tree.old tree.new }
+    ensures { IsAttached found.now.arrivals position tree.old tree.new }
 {
     let arrival = found.arrival(position as usize);
     match tree.arrival_of(found.node_at(arrival.before as usize)) {
@@ -123,7 +123,7 @@ fn add_way(found: &ReachedNodes, tree: &mut ReachedNodes, way: &[u32])
     let mut left = way.len() - 1;
     while left > 0 {
         left -= 1;
-        hang(found, tree, way[left]);
+        attach(found, tree, way[left]);
     }
 }
 

@@ -5,7 +5,9 @@ ghost use Rattle.mono_graph.specs.Worked.{pipe, parallel, round_trip, looped, bo
 ghost use Rattle.mono_dynamic.specs.Arrivals.{at_source, is_reached, is_by, within, AreReached, AreReachedAlong};
 ghost use Rattle.mono_dynamic.specs.Costs.{AreLeast, AreLeastAlong, labels_after};
 ghost use Rattle.mono_dynamic.specs.SearchTrees.{IsSearchTree, RestsOn};
-ghost use Rattle.mono_dynamic.specs.Worked.{arrival, one_by_one, at_once, change, last_first};
+ghost use Rattle.mono_dynamic.specs.Targets.{is_lacking, is_settled, AreTold};
+ghost use Rattle.mono_dynamic.specs.Ways.{AreWaysTo, IsTargetOf};
+ghost use Rattle.mono_dynamic.specs.Worked.{arrival, one_by_one, at_once, change, first_goes, known_by, last_first, with_way, within_weight, without_way};
 
 use mono_graph::Limit;
 
@@ -71,6 +73,49 @@ pub fn edges_of_ways()
     ensures of_source { RestsOn (at_source 0 ∷ arrival 1 3 0 0 ∷ []) 0 → ⊥ }
 {}
 
+/// Walks are kept to a target where one is within its bound, also where it is just that, and then nothing else.
+pub fn ways_within_bounds()
+    ensures below { AreWaysTo (parallel 1 4) both (within_weight 3 ∷ []) (with_way 0 1) }
+    ensures at { AreWaysTo (parallel 1 4) both (within_weight 1 ∷ []) (with_way 0 1) }
+    ensures beyond { AreWaysTo (parallel 1 4) both (within_weight 0 ∷ []) (without_way 1) }
+    ensures kept_beyond { AreWaysTo (parallel 1 4) both (within_weight 0 ∷ []) (with_way 0 1) → ⊥ }
+    ensures lacking_at { AreWaysTo (parallel 1 4) both (within_weight 1 ∷ []) (without_way 1) → ⊥ }
+    ensures dearer { AreWaysTo (parallel 1 4) both (within_weight 3 ∷ []) (with_way 1 1) → ⊥ }
+    ensures by_absent { AreWaysTo (parallel 1 4) last_alone (within_weight 3 ∷ []) (with_way 0 1) → ⊥ }
+    ensures nothing_asked { AreWaysTo (parallel 1 4) both [] (with_way 0 1) → ⊥ }
+{}
+
+/// What is told of a target that is reached until the cheaper of two parallel edges goes, and then is out of reach.
+pub fn targets_told()
+    ensures until_it_goes { AreTold (parallel 1 4) first_goes 1 (known_by (with_way 0 1) (Some 0) (Some 1)) }
+    ensures out_of_reach { AreTold (parallel 1 4) first_goes 1 (known_by (without_way 4) (Some 1) None) }
+    ensures nothing { AreTold (parallel 1 4) first_goes 1 (known_by (without_way 4) None None) }
+    ensures unseen { AreTold (parallel 1 4) first_goes 1 (known_by (with_way 0 1) (Some 0) None) → ⊥ }
+    ensures too_early { AreTold (parallel 1 4) first_goes 1 (known_by (without_way 4) (Some 0) None) → ⊥ }
+    ensures of_later_steps { AreTold (parallel 1 4) first_goes 0 (known_by (without_way 4) (Some 1) None) → ⊥ }
+    ensures lost_later { AreTold (parallel 1 4) first_goes 0 (known_by (with_way 0 1) (Some 0) (Some 1)) → ⊥ }
+    ensures mispriced { AreTold (parallel 1 4) first_goes 0 (known_by (with_way 1 1) (Some 0) None) → ⊥ }
+{}
+
+/// A target is lacking where it is known that its node isn't reached within its bound, and all is known while no edge went.
+pub fn targets_known()
+    ensures there { is_lacking (known_by (with_way 0 1) (Some 0) None) (within_weight 1) ≡ false }
+    ensures beyond { is_lacking (known_by (with_way 0 1) (Some 0) None) (within_weight 0) ≡ true }
+    ensures elsewhere { is_lacking (known_by (without_way 1) (Some 0) None) (within_weight 1) ≡ true }
+    ensures forgotten { is_lacking (known_by (without_way 1) None None) (within_weight 1) ≡ false }
+    ensures settled { is_settled (known_by (with_way 0 1) (Some 0) None) ≡ true }
+    ensures lost { is_settled (known_by (with_way 0 1) (Some 0) (Some 1)) ≡ false }
+    ensures unsearched { is_settled (known_by (without_way 1) None None) ≡ false }
+{}
+
+/// A target can be asked for where its node is one, it measures the same, and its bound is below the cap.
+pub fn targets_that_can_be_asked()
+    ensures asked { IsTargetOf (without_way 4) (within_weight 9) }
+    ensures at_cap { IsTargetOf (without_way 4) (within_weight 10) → ⊥ }
+    ensures by_steps { IsTargetOf (without_way 4) (record { node = 1; limit = Limit.Steps (pos 9) }) → ⊥ }
+    ensures no_node { IsTargetOf (without_way 4) (record { node = 2; limit = Limit.Weight (pos 9) }) → ⊥ }
+{}
+
 /// Of two parallel edges the cheaper one counts, where it is present; what costs more than the cap counts as the cap.
 pub fn least_costs_over_parallel_edges()
     ensures both { AreLeast (parallel 1 4) both (Limit.Weight (pos 9)) 0 10 (0 ∷ 1 ∷ []) }
@@ -86,10 +131,43 @@ pub fn least_costs_over_parallel_edges()
 
 /// Where the dearer of two parallel edges comes first, the label falls twice, and going back raises it twice.
 pub fn least_costs_step_by_step()
-    ensures falls { AreLeastAlong (parallel 1 4) last_first 2 0 (record { limit = Limit.Weight (pos 9); cap = 10; labels = 0 ∷ 1 ∷ []; changes = change 1 1 0 10 4 1 ∷ change 1 0 1 4 1 2 ∷ [] }) }
-    ensures too_late { AreLeastAlong (parallel 1 4) last_first 2 0 (record { limit = Limit.Weight (pos 9); cap = 10; labels = 0 ∷ 1 ∷ []; changes = change 1 1 0 10 4 2 ∷ change 1 0 1 4 1 2 ∷ [] }) → ⊥ }
-    ensures by_another_edge { AreLeastAlong (parallel 1 4) last_first 2 0 (record { limit = Limit.Weight (pos 9); cap = 10; labels = 0 ∷ 1 ∷ []; changes = change 1 0 0 10 4 1 ∷ change 1 0 1 4 1 2 ∷ [] }) → ⊥ }
-    ensures after_none { labels_after 0 (record { limit = Limit.Weight (pos 9); cap = 10; labels = 0 ∷ 1 ∷ []; changes = change 1 1 0 10 4 1 ∷ change 1 0 1 4 1 2 ∷ [] }) ≡ 0 ∷ 10 ∷ [] }
-    ensures after_one { labels_after 1 (record { limit = Limit.Weight (pos 9); cap = 10; labels = 0 ∷ 1 ∷ []; changes = change 1 1 0 10 4 1 ∷ change 1 0 1 4 1 2 ∷ [] }) ≡ 0 ∷ 4 ∷ [] }
-    ensures after_both { labels_after 2 (record { limit = Limit.Weight (pos 9); cap = 10; labels = 0 ∷ 1 ∷ []; changes = change 1 1 0 10 4 1 ∷ change 1 0 1 4 1 2 ∷ [] }) ≡ 0 ∷ 1 ∷ [] }
+    ensures falls { AreLeastAlong (parallel 1 4) last_first 2 0 (record {
+      limit = Limit.Weight (pos 9);
+      cap = 10;
+      labels = 0 ∷ 1 ∷ [];
+      changes = change 1 1 0 10 4 1 ∷ change 1 0 1 4 1 2 ∷ [];
+    }) }
+    ensures too_late { AreLeastAlong (parallel 1 4) last_first 2 0 (record {
+      limit = Limit.Weight (pos 9);
+      cap = 10;
+      labels = 0 ∷ 1 ∷ [];
+      changes = change 1 1 0 10 4 2 ∷ change 1 0 1 4 1 2 ∷ [];
+    }) → ⊥ }
+    ensures by_another_edge { AreLeastAlong (parallel 1 4) last_first 2 0 (record {
+      limit = Limit.Weight (pos 9);
+      cap = 10;
+      labels = 0 ∷ 1 ∷ [];
+      changes = change 1 0 0 10 4 1 ∷ change 1 0 1 4 1 2 ∷ [];
+    }) → ⊥ }
+    ensures after_none { labels_after 0 (record {
+      limit = Limit.Weight (pos 9);
+      cap = 10;
+      labels = 0 ∷ 1 ∷ [];
+      changes = change 1 1 0 10 4 1
+          ∷ change 1 0 1 4 1 2 ∷ [];
+    }) ≡ 0 ∷ 10 ∷ [] }
+    ensures after_one { labels_after 1 (record {
+      limit = Limit.Weight (pos 9);
+      cap = 10;
+      labels = 0 ∷ 1 ∷ [];
+      changes = change 1 1 0 10 4 1
+          ∷ change 1 0 1 4 1 2 ∷ [];
+    }) ≡ 0 ∷ 4 ∷ [] }
+    ensures after_both { labels_after 2 (record {
+      limit = Limit.Weight (pos 9);
+      cap = 10;
+      labels = 0 ∷ 1 ∷ [];
+      changes = change 1 1 0 10 4 1
+          ∷ change 1 0 1 4 1 2 ∷ [];
+    }) ≡ 0 ∷ 1 ∷ [] }
 {}

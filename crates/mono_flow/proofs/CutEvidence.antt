@@ -18,7 +18,7 @@ use Rattle.mono_theory.specs.declared.evidence.Evidence.{Evidence}
 use Rattle.mono_theory.specs.Evidences.{all_but, IsEvidence}
 use Rattle.mono_theory.specs.Resting.{absent_out}
 use Rattle.mono_theory.proofs.EvidenceDecides.{not_in_all_but}
-use Rattle.mono_theory.proofs.Pigeons.{all_has}
+use Rattle.mono_graph.proofs.Pigeons.{all_has}
 use Rattle.mono_theory.proofs.RestingOnAbsent.{leaving_are_absent}
 use Rattle.mono_theory.proofs.WalksAsEvidence.{all_by, nodes-known}
 use Rattle.mono_flow.specs.Flowing.{AreNeeded, IsCutEvidence}

@@ -17,7 +17,7 @@ use Rattle.mono_theory.specs.Sound.{IsSound, RestsOn, atom_at, evidence_at}
 use Rattle.mono_theory.specs.Stages.{stage_at, undone}
 use Rattle.mono_theory.specs.Supports.{AreCovered, IsKeptBy, IsSide, SideView, gone_back}
 use Rattle.mono_theory.specs.Theories.{Facts}
-use Rattle.mono_theory.proofs.Pigeons.{all_has}
+use Rattle.mono_graph.proofs.Pigeons.{all_has}
 use Rattle.mono_flow.specs.Flowing.{is_flow_predicate}
 use Rattle.mono_flow.specs.KeptFlows.{LosesFlow, amounts_in, carried_at, over_flow, showing, supporting, under_flow}
 

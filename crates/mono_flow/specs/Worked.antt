@@ -14,7 +14,7 @@ standing amounts = record {
   possible = true;
   supports = Some (record { witness = by.Flow amounts; edges = 0 ∷ [] }) ∷ [];
   shown = [];
-  watchers = (0 ∷ []) ∷ [];
+  watchers = (record { atom = 0; place = 0 } ∷ []) ∷ [];
   stages = stage.Supported ∷ [];
   thorough = true;
 }

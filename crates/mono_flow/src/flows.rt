@@ -44,10 +44,20 @@ pub trait HasFlows {
         requires owned { IsSome (atom_of (facts self.now).atoms atom) }
         requires place { place < length (facts self.now).graph.edges }
         ensures value { result ≡ flows_of self.now atom place }
-        ensures under { MatchOption (atom_of (facts self.now).atoms atom) ⊥ (λ x. IsFlowFor (facts self.now).graph (under (facts self.now).graph (facts self.now).seen) x.predicate (λ k. (flows_of self.now atom k).under)) }
-        ensures over { MatchOption (atom_of (facts self.now).atoms atom) ⊥ (λ x. IsFlowFor (facts self.now).graph (over (facts self.now).graph (facts self.now).seen) x.predicate (λ k. (flows_of self.now atom k).over)) }
-        ensures decided_under { is_decided self.now → MatchOption (atom_of (facts self.now).atoms atom) ⊥ (λ x. IsDecidedBy (facts self.now).graph (under (facts self.now).graph (facts self.now).seen) x.predicate (λ k. (flows_of self.now atom k).under)) }
-        ensures decided_over { is_decided self.now → MatchOption (atom_of (facts self.now).atoms atom) ⊥ (λ x. IsDecidedBy (facts self.now).graph (over (facts self.now).graph (facts self.now).seen) x.predicate (λ k. (flows_of self.now atom k).over)) };
+        ensures under { MatchOption (atom_of (facts self.now).atoms atom) ⊥
+            (λ x. IsFlowFor (facts self.now).graph (under (facts self.now).graph (facts self.now).seen) x.predicate
+            (λ k. (flows_of self.now atom k).under)) }
+        ensures over { MatchOption (atom_of (facts self.now).atoms atom) ⊥
+            (λ x. IsFlowFor (facts self.now).graph (over (facts self.now).graph (facts self.now).seen) x.predicate
+            (λ k. (flows_of self.now atom k).over)) }
+        ensures decided_under { is_decided self.now
+            → MatchOption (atom_of (facts self.now).atoms atom) ⊥
+            (λ x. IsDecidedBy (facts self.now).graph (under (facts self.now).graph (facts self.now).seen) x.predicate
+            (λ k. (flows_of self.now atom k).under)) }
+        ensures decided_over { is_decided self.now
+            → MatchOption (atom_of (facts self.now).atoms atom) ⊥
+            (λ x. IsDecidedBy (facts self.now).graph (over (facts self.now).graph (facts self.now).seen) x.predicate
+            (λ k. (flows_of self.now atom k).over)) };
 }
 
 /// The amount of the edge with this number.

@@ -17,8 +17,11 @@ use std::alloc::AllocError;
 /// Where no atom waits, as after a question that was answered by Quiet, each atom's predicate holds with the surely present
 /// edges exactly where the value of its flow along them is at least the bound, and so with the possibly present ones.
 pub fn kept_flows_decide()
-    ensures under { (f : Facts) (s : SideView) → IsGraph f.graph → AreAtomsOf f.graph f.atoms → IsSideFor f false true s → NoneWaits s.stages → (a : ℕ) → a < length f.atoms → IsDecidedBy f.graph (under f.graph f.seen) (atom_at f.atoms a).predicate (carried_at f.graph (under_flow s a)) }
-    ensures over { (f : Facts) (s : SideView) → IsGraph f.graph → AreAtomsOf f.graph f.atoms → IsSideFor f true true s → NoneWaits s.stages → (a : ℕ) → a < length f.atoms → IsDecidedBy f.graph (over f.graph f.seen) (atom_at f.atoms a).predicate (carried_at f.graph (over_flow s a)) }
+    ensures under { (f : Facts) (s : SideView) → IsGraph f.graph → AreAtomsOf f.graph f.atoms → IsSideFor f false true s → NoneWaits s.stages
+        → (a : ℕ) → a < length f.atoms → IsDecidedBy f.graph (under f.graph f.seen) (atom_at f.atoms a).predicate
+        (carried_at f.graph (under_flow s a)) }
+    ensures over { (f : Facts) (s : SideView) → IsGraph f.graph → AreAtomsOf f.graph f.atoms → IsSideFor f true true s → NoneWaits s.stages → (a : ℕ)
+        → a < length f.atoms → IsDecidedBy f.graph (over f.graph f.seen) (atom_at f.atoms a).predicate (carried_at f.graph (over_flow s a)) }
 {}
 
 /// A literal that is seen changes no flow along the surely present edges, and one along the possibly present ones only where
@@ -26,7 +29,8 @@ pub fn kept_flows_decide()
 /// edges.
 pub fn kept_flows_stay()
     ensures assign_under { (g : Digraph) (l : ℤ) (s r : SideView) → IsKeptBy g false l s r → (a : ℕ) → under_flow r a ≡ under_flow s a }
-    ensures assign_over { (f : Facts) (l : ℤ) (s r : SideView) → AreCovered is_flow_predicate f.atoms → IsSide f true s → IsKeptBy f.graph true l s r → (a : ℕ) → a < length f.atoms → (over_flow r a ≡ over_flow s a) ⊎ LosesFlow f.graph l s a }
+    ensures assign_over { (f : Facts) (l : ℤ) (s r : SideView) → AreCovered is_flow_predicate f.atoms → IsSide f true s → IsKeptBy f.graph true l s r
+        → (a : ℕ) → a < length f.atoms → (over_flow r a ≡ over_flow s a) ⊎ LosesFlow f.graph l s a }
     ensures undo_over { (kept : ℕ) (s : SideView) (a : ℕ) → over_flow (gone_back kept s) a ≡ over_flow s a }
 {}
 

@@ -1,6 +1,6 @@
 //! Worked rows: the flows that a theory tells, along one edge of weight 5 from node 0 to node 1, and which of them are kept.
 
-ghost use Rattle.std.specs.Prelude.{◌≡◌, [], ◌∷◌, None, Some, false, pos, true};
+ghost use Rattle.std.specs.Prelude.{◌≡◌, [], ◌∷◌, false, pos, true};
 ghost use Rattle.mono_graph.specs.Worked.{amount, edge, single};
 ghost use Rattle.mono_problem.specs.declared.atom.Predicate.TheVariants as kind;
 ghost use Rattle.mono_steps.specs.WorkedLemmas.{minus};
@@ -41,11 +41,16 @@ pub fn flows_that_are_kept()
 /// The flow along the surely present edges is the one that is shown of the atom, and the one along the possibly present edges
 /// is its support, each while its stage says so. The atom is told by its number, and the edge by its place.
 pub fn flows_of_an_edge()
-    ensures both { flows_in (keeping (side_of (stage.Forcing 0) (amount 9 7 ∷ []) (amount 1 2 ∷ [])) (side_of stage.Supported (amount 1 3 ∷ []) (amount 9 7 ∷ []))) 4 0 ≡ record { under = 2; over = 3 } }
-    ensures exchanged { flows_in (keeping (side_of stage.Supported (amount 1 3 ∷ []) (amount 1 2 ∷ [])) (side_of (stage.Forcing 0) (amount 1 3 ∷ []) (amount 1 2 ∷ []))) 4 0 ≡ record { under = 0; over = 0 } }
-    ensures waiting { flows_in (keeping (side_of stage.Waits (amount 1 3 ∷ []) (amount 1 2 ∷ [])) (side_of stage.Waits (amount 1 3 ∷ []) (amount 1 2 ∷ []))) 4 0 ≡ record { under = 0; over = 0 } }
-    ensures other_edge { flows_in (keeping (side_of (stage.Forcing 0) [] (amount 0 2 ∷ [])) (side_of stage.Supported (amount 0 3 ∷ []) [])) 4 0 ≡ record { under = 0; over = 0 } }
-    ensures other_atom { flows_in (keeping (side_of (stage.Forcing 0) [] (amount 1 2 ∷ [])) (side_of stage.Supported (amount 1 3 ∷ []) [])) 0 0 ≡ record { under = 0; over = 0 } }
+    ensures both { flows_in (keeping (side_of (stage.Forcing 0) (amount 9 7 ∷ []) (amount 1 2 ∷ []))
+        (side_of stage.Supported (amount 1 3 ∷ []) (amount 9 7 ∷ []))) 4 0 ≡ record { under = 2; over = 3 } }
+    ensures exchanged { flows_in (keeping (side_of stage.Supported (amount 1 3 ∷ []) (amount 1 2 ∷ []))
+        (side_of (stage.Forcing 0) (amount 1 3 ∷ []) (amount 1 2 ∷ []))) 4 0 ≡ record { under = 0; over = 0 } }
+    ensures waiting { flows_in (keeping (side_of stage.Waits (amount 1 3 ∷ []) (amount 1 2 ∷ []))
+        (side_of stage.Waits (amount 1 3 ∷ []) (amount 1 2 ∷ []))) 4 0 ≡ record { under = 0; over = 0 } }
+    ensures other_edge { flows_in (keeping (side_of (stage.Forcing 0) [] (amount 0 2 ∷ [])) (side_of stage.Supported (amount 0 3 ∷ []) [])) 4 0
+        ≡ record { under = 0; over = 0 } }
+    ensures other_atom { flows_in (keeping (side_of (stage.Forcing 0) [] (amount 1 2 ∷ [])) (side_of stage.Supported (amount 1 3 ∷ []) [])) 0 0
+        ≡ record { under = 0; over = 0 } }
 {}
 
 /// What is kept decides where no atom waits, on either side.

@@ -37,7 +37,8 @@ fn weight_out_of(network: &Network, inside: &[bool], counted: &mut Vec<bool>, no
     requires counted { length counted.old.items ≡ network.now.graph.now.nodes }
     requires clear { (u : ℕ) → slice_index_or counted.old.items u false ≡ false }
     requires nodes { All (λ u. u < network.now.graph.now.nodes) nodes.now }
-    ensures exact { result ≡ sum_by (weight_out network.now.graph.now network.now.part.now inside.now) (filter (λ k. has nodes.now (edge_at network.now.graph.now k).from) (places network.now.graph.now)) }
+    ensures exact { result ≡ sum_by (weight_out network.now.graph.now network.now.part.now inside.now)
+        (filter (λ k. has nodes.now (edge_at network.now.graph.now k).from) (places network.now.graph.now)) }
     ensures len { length counted.new.items ≡ network.now.graph.now.nodes }
     ensures counted { (u : ℕ) → slice_index_or counted.new.items u false ≡ has nodes.now u }
     ensures bound { result < 2 ^ 120 }

@@ -198,7 +198,9 @@ fn grow(
     requires small { goal ≤ MAX_BOUND + 1 }
     ensures flow { OnOk result (IsFlow network.now flow.new) }
     ensures most { OnOk result (flow.new.value ≤ goal) }
-    ensures blocked { OnOk result (flow.new.value < goal → IsBlocked network.now.graph.now network.now.part.now (amount_of flow.new.amounts.items) network.now.source network.now.sink search.new.marks.items) }
+    ensures blocked { OnOk result (flow.new.value < goal
+        → IsBlocked network.now.graph.now network.now.part.now
+        (amount_of flow.new.amounts.items) network.now.source network.now.sink search.new.marks.items) }
     ensures search { IsSearch network.now.graph.now.nodes search.new }
     ensures levels { AreLevels network.now.graph.now.nodes levels.new }
 {
@@ -227,8 +229,10 @@ fn answer_of(
     requires most { flow.now.value ≤ goal }
     requires small { goal ≤ MAX_BOUND + 1 }
     requires marks { length marks.now ≡ network.now.graph.now.nodes }
-    requires blocked { flow.now.value < goal → IsBlocked network.now.graph.now network.now.part.now (amount_of flow.now.amounts.items) network.now.source network.now.sink marks.now }
-    requires amounts { amounts.now ≡ map (λ k. record { edge = k; amount = amount_of flow.now.amounts.items k }) (filter (λ k. nat_lt 0 (amount_of flow.now.amounts.items k)) (range_with_len 0 (length network.now.graph.now.edges))) }
+    requires blocked { flow.now.value < goal
+        → IsBlocked network.now.graph.now network.now.part.now (amount_of flow.now.amounts.items) network.now.source network.now.sink marks.now }
+    requires amounts { amounts.now ≡ map (λ k. record { edge = k; amount = amount_of flow.now.amounts.items k })
+        (filter (λ k. nat_lt 0 (amount_of flow.now.amounts.items k)) (range_with_len 0 (length network.now.graph.now.edges))) }
     requires places { All (λ a. a.edge < length network.now.graph.now.edges) amounts.now }
     ensures passes { IfOk result (Passes network.now.graph.now network.now.part.now network.now.source network.now.sink (pos goal)) }
     ensures known { IfOk result (IsKnown network.now.graph.now) }
@@ -257,7 +261,8 @@ fn outcome(
     requires most { flow.now.value ≤ goal }
     requires small { goal ≤ MAX_BOUND + 1 }
     requires marks { length marks.now ≡ network.now.graph.now.nodes }
-    requires blocked { flow.now.value < goal → IsBlocked network.now.graph.now network.now.part.now (amount_of flow.now.amounts.items) network.now.source network.now.sink marks.now }
+    requires blocked { flow.now.value < goal
+        → IsBlocked network.now.graph.now network.now.part.now (amount_of flow.now.amounts.items) network.now.source network.now.sink marks.now }
     requires kept { All (λ a. a.edge < length network.now.graph.now.edges) kept.old.items }
     ensures passes { IfOk result (λ found. Passes network.now.graph.now network.now.part.now network.now.source network.now.sink (pos goal) found.answer) }
     ensures known { IfOk result (λ found. IsKnown network.now.graph.now found.answer) }
@@ -265,7 +270,8 @@ fn outcome(
     ensures distinct { IfOk result (λ found. IsDistinct found.answer) }
     ensures exact { IfOk result (λ found. IsExact network.now.graph.now network.now.source (pos goal) found.answer) }
     ensures value { IfOk result (λ found. HasValue network.now.graph.now network.now.part.now network.now.source found.value found.answer) }
-    ensures flow { IfOk result (λ found. IsFlowOfValue network.now.graph.now network.now.part.now network.now.source network.now.sink found.value kept.new.items) }
+    ensures flow { IfOk result (λ found.
+        IsFlowOfValue network.now.graph.now network.now.part.now network.now.source network.now.sink found.value kept.new.items) }
     ensures kept { All (λ a. a.edge < length network.now.graph.now.edges) kept.new.items }
     ensures unchanged { OnErr result (kept.new.items ≡ kept.old.items) }
 {

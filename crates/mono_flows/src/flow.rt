@@ -40,7 +40,9 @@ impl Flow {
     /// The edges that carry something, by rising place, and what they carry.
     pub fn listed(&self, alloc: Global, network: &Network) -> Result<Vec<Amount>, AllocError>
         requires { IsFlow network.now self.now }
-        ensures amounts { IfOk result (λ listed. listed.items ≡ map (λ k. record { edge = k; amount = amount_of self.now.amounts.items k }) (filter (λ k. nat_lt 0 (amount_of self.now.amounts.items k)) (range_with_len 0 (length network.now.graph.now.edges)))) }
+        ensures amounts { IfOk result (λ listed. listed.items
+            ≡ map (λ k. record { edge = k; amount = amount_of self.now.amounts.items k })
+            (filter (λ k. nat_lt 0 (amount_of self.now.amounts.items k)) (range_with_len 0 (length network.now.graph.now.edges)))) }
         ensures known { IfOk result (λ listed. All (λ a. a.edge < length network.now.graph.now.edges) listed.items) }
     {
         positive_amounts(alloc, &self.amounts, network.graph.edge_count())
@@ -50,7 +52,8 @@ impl Flow {
     pub fn augment(&mut self, network: &Network, path: &[Visit], goal: u64)
         requires flow { IsFlow network.now self.old }
         requires apart { network.now.source ≢ network.now.sink }
-        requires path { IsAugmentingPath network.now.graph.now network.now.part.now (amount_of self.old.amounts.items) network.now.source network.now.sink (goal - self.old.value) path.now }
+        requires path { IsAugmentingPath network.now.graph.now network.now.part.now
+            (amount_of self.old.amounts.items) network.now.source network.now.sink (goal - self.old.value) path.now }
         requires small { goal ≤ MAX_BOUND + 1 }
         ensures flow { IsFlow network.now self.new }
         ensures more { self.old.value < self.new.value }

@@ -14,16 +14,22 @@ ghost use Rattle.mono_flows.specs.declared.found.FlowOrCut.{FlowOrCut};
 /// as an end, which is balanced therefore. So a test of the listed edges and their ends is a test of the whole graph.
 pub fn unnamed_carries_nothing()
     ensures edge { (amounts : List Amount) (k : ℕ) → has (edges_of amounts) k ≡ false → amount_at amounts k ≡ 0 }
-    ensures node { (g : Digraph) (amounts : List Amount) (u : ℕ) → All (λ a. (edge_at g a.edge).from ≢ u) amounts → All (λ a. (edge_at g a.edge).to ≢ u) amounts → inflow g (amount_at amounts) u ≡ outflow g (amount_at amounts) u }
+    ensures node { (g : Digraph) (amounts : List Amount) (u : ℕ) → All (λ a. (edge_at g a.edge).from ≢ u) amounts
+        → All (λ a. (edge_at g a.edge).to ≢ u) amounts → inflow g (amount_at amounts) u ≡ outflow g (amount_at amounts) u }
 {}
 
 /// A flow reaches its bound where a set has the source and lacks the sink, the present edges that leave it are full, and
 /// the edges that enter it carry nothing: its value is what the present edges that leave the set weigh.
 pub fn full_cut_is_the_value()
-    ensures { (g : Digraph) (P : List Bool) (s t : ℕ) (flow : ℕ → ℕ) (set : List ℕ) → HasEnds g → s < g.nodes → IsTrue (is_flow g P s t flow) → IsTrue (has set s) → IsTrue (not (has set t)) → ((k : ℕ) → k < length g.edges → IsTrue (present P k && leads_out set (edge_at g k)) → flow k ≡ (edge_at g k).weight) → ((k : ℕ) → k < length g.edges → IsTrue (has set (edge_at g k).to && not (has set (edge_at g k).from)) → flow k ≡ 0) → value_of g s flow ≡ pos (weight_of g (present_by (leads_out set) g P)) }
+    ensures { (g : Digraph) (P : List Bool) (s t : ℕ) (flow : ℕ → ℕ) (set : List ℕ) → HasEnds g → s < g.nodes → IsTrue (is_flow g P s t flow)
+        → IsTrue (has set s) → IsTrue (not (has set t))
+        → ((k : ℕ) → k < length g.edges → IsTrue (present P k && leads_out set (edge_at g k)) → flow k ≡ (edge_at g k).weight)
+        → ((k : ℕ) → k < length g.edges → IsTrue (has set (edge_at g k).to && not (has set (edge_at g k).from)) → flow k ≡ 0)
+        → value_of g s flow ≡ pos (weight_of g (present_by (leads_out set) g P)) }
 {}
 
 /// What a search found decides whether there is a flow of at least `least`: it is a flow exactly where there is one.
 pub fn found_flow_decides()
-    ensures { (g : Digraph) (P : List Bool) (s t : ℕ) (least : ℤ) (found : FlowOrCut) → HasEnds g → s < g.nodes → Passes g P s t least found → IsTrue (is_flow_found found) ↔ ((amounts : List Amount) × IsTrue (is_flow_of g P s t least amounts)) }
+    ensures { (g : Digraph) (P : List Bool) (s t : ℕ) (least : ℤ) (found : FlowOrCut) → HasEnds g → s < g.nodes → Passes g P s t least found
+        → IsTrue (is_flow_found found) ↔ ((amounts : List Amount) × IsTrue (is_flow_of g P s t least amounts)) }
 {}

@@ -97,7 +97,13 @@ impl LevelGraph {
         requires levels { AreLevels network.now.graph.now.nodes self.now }
         requires node { last.node < network.now.graph.now.nodes }
         requires known { edge.place < length network.now.graph.now.edges }
-        ensures visit { IfSome result (λ v. v ≡ record { node = end_of (edge_at network.now.graph.now edge.place) edge.back; edge = edge; before = at; residual = min (residual_at network.now.graph.now network.now.part.now (amount_of amounts.now) edge.place edge.back) last.residual }) }
+        ensures visit { IfSome result (λ v. v
+            ≡ record {
+              node = end_of (edge_at network.now.graph.now edge.place) edge.back;
+              edge = edge;
+              before = at;
+              residual = min (residual_at network.now.graph.now network.now.part.now (amount_of amounts.now) edge.place edge.back) last.residual;
+            }) }
         ensures inside { IfSome result (λ v. v.node < network.now.graph.now.nodes) }
         ensures some { IfSome result (λ v. 0 < residual_at network.now.graph.now network.now.part.now (amount_of amounts.now) edge.place edge.back) }
         ensures level { IfSome result (λ v. slice_index_or self.now.levels.items v.node 0 ≡ slice_index_or self.now.levels.items last.node 0 + 1) }
@@ -137,7 +143,8 @@ impl LevelGraph {
         ensures end { IfSome result (λ v. end_of (edge_at network.now.graph.now v.edge.place) v.edge.back ≡ v.node) }
         ensures inside { IfSome result (λ v. v.node < network.now.graph.now.nodes) }
         ensures some { IfSome result (λ v. 0 < residual_at network.now.graph.now network.now.part.now (amount_of amounts.now) v.edge.place v.edge.back) }
-        ensures residual { IfSome result (λ v. v.residual ≡ min (residual_at network.now.graph.now network.now.part.now (amount_of amounts.now) v.edge.place v.edge.back) last.residual) }
+        ensures residual { IfSome result (λ v. v.residual
+            ≡ min (residual_at network.now.graph.now network.now.part.now (amount_of amounts.now) v.edge.place v.edge.back) last.residual) }
         ensures level { IfSome result (λ v. slice_index_or self.new.levels.items v.node 0 ≡ slice_index_or self.new.levels.items last.node 0 + 1) }
     {
         let node = last.node as usize;

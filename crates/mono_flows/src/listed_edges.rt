@@ -45,7 +45,8 @@ pub(crate) fn mark_edges(network: &Network, listed: &mut Vec<bool>, amounts: &[A
 pub(crate) fn unmark_edges(listed: &mut Vec<bool>, amounts: &[Amount])
     requires known { All (λ a. a.edge < length listed.old.items) amounts.now }
     ensures len { length listed.new.items ≡ length listed.old.items }
-    ensures clear { ((k : ℕ) → IsTrue (slice_index_or listed.old.items k false) → IsTrue (has (edges_of amounts.now) k)) → (k : ℕ) → slice_index_or listed.new.items k false ≡ false }
+    ensures clear { ((k : ℕ) → IsTrue (slice_index_or listed.old.items k false) → IsTrue (has (edges_of amounts.now) k)) → (k : ℕ)
+        → slice_index_or listed.new.items k false ≡ false }
 {
     for amount in amounts {
         listed[amount.edge as usize] = false;

@@ -33,7 +33,9 @@ pub(crate) fn positive_amounts(
     count: u32,
 ) -> Result<Vec<Amount>, AllocError>
     requires { length amounts.now ≡ count }
-    ensures { IfOk result (λ listed. listed.items ≡ map (λ k. record { edge = k; amount = amount_of amounts.now k }) (filter (λ k. nat_lt 0 (amount_of amounts.now k)) (range_with_len 0 count))) }
+    ensures { IfOk result (λ listed. listed.items
+        ≡ map (λ k. record { edge = k; amount = amount_of amounts.now k })
+        (filter (λ k. nat_lt 0 (amount_of amounts.now k)) (range_with_len 0 count))) }
 {
     let mut listed = Vec::new(alloc);
     for edge in 0..count {

@@ -76,7 +76,9 @@ impl NodeSums {
     pub fn are_balanced(&self, network: &Network, amounts: &[Amount]) -> bool
         requires sums { AreSums network.now.graph.now.nodes self.now }
         requires known { All (λ a. a.edge < length network.now.graph.now.edges) amounts.now }
-        ensures { result ≡ list_all (has_balanced_ends network.now.graph.now self.now.leaving.items self.now.entering.items network.now.source network.now.sink) amounts.now }
+        ensures { result
+            ≡ list_all (has_balanced_ends network.now.graph.now self.now.leaving.items self.now.entering.items network.now.source network.now.sink)
+            amounts.now }
     {
         for amount in amounts {
             let edge = network.graph.edge(amount.edge);

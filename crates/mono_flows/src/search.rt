@@ -66,11 +66,19 @@ impl Search {
         requires place { edge.place < length network.now.graph.now.edges }
         requires at { at < length self.now.visits.items }
         requires marks { length self.now.marks.items ≡ network.now.graph.now.nodes }
-        ensures visit { IfSome result (λ v. v ≡ record { node = end_of (edge_at network.now.graph.now edge.place) edge.back; edge = edge; before = at; residual = min (residual_at network.now.graph.now network.now.part.now (amount_of amounts.now) edge.place edge.back) (visit_at self.now.visits.items at).residual }) }
+        ensures visit { IfSome result (λ v. v
+            ≡ record {
+              node = end_of (edge_at network.now.graph.now edge.place) edge.back;
+              edge = edge;
+              before = at;
+              residual = min (residual_at network.now.graph.now network.now.part.now (amount_of amounts.now) edge.place edge.back)
+                  (visit_at self.now.visits.items at).residual;
+            }) }
         ensures residual { OnSome result (0 < residual_at network.now.graph.now network.now.part.now (amount_of amounts.now) edge.place edge.back) }
         ensures inside { OnSome result (end_of (edge_at network.now.graph.now edge.place) edge.back < network.now.graph.now.nodes) }
         ensures new { OnSome result (is_marked self.now.marks.items (end_of (edge_at network.now.graph.now edge.place) edge.back) ≡ false) }
-        ensures none { IfNone result (0 < residual_at network.now.graph.now network.now.part.now (amount_of amounts.now) edge.place edge.back → IsTrue (is_marked self.now.marks.items (end_of (edge_at network.now.graph.now edge.place) edge.back))) }
+        ensures none { IfNone result (0 < residual_at network.now.graph.now network.now.part.now (amount_of amounts.now) edge.place edge.back
+            → IsTrue (is_marked self.now.marks.items (end_of (edge_at network.now.graph.now edge.place) edge.back))) }
     {
         let residual = network.residual(amounts, edge);
         let node = network.end(edge);
@@ -95,7 +103,8 @@ impl Search {
         back: bool,
     ) -> Result<bool, AllocError>
         requires amounts { length amounts.now ≡ length network.now.graph.now.edges }
-        requires places { All (λ k. (k < length network.now.graph.now.edges) × (start_of (edge_at network.now.graph.now k) back ≡ (visit_at self.old.visits.items at).node)) places.now }
+        requires places { All (λ k. (k < length network.now.graph.now.edges)
+            × (start_of (edge_at network.now.graph.now k) back ≡ (visit_at self.old.visits.items at).node)) places.now }
         requires at { at < length self.old.visits.items }
         requires tree { IsSearchTree network.now.graph.now network.now.part.now (amount_of amounts.now) self.old.visits.items }
         requires marks { AreMarks network.now.graph.now self.old.marks.items self.old.visits.items }
@@ -103,10 +112,14 @@ impl Search {
         ensures tree { IfOk result (λ _. IsSearchTree network.now.graph.now network.now.part.now (amount_of amounts.now) self.new.visits.items) }
         ensures marks { IfOk result (λ _. AreMarks network.now.graph.now self.new.marks.items self.new.visits.items) }
         ensures extends { IfOk result (λ _. Extends self.old.marks.items self.new.marks.items self.old.visits.items self.new.visits.items) }
-        ensures covers { IfOk result (λ found. found ≡ false → (k : ℕ) → IsTrue (has places.now k) → 0 < residual_at network.now.graph.now network.now.part.now (amount_of amounts.now) k back → IsTrue (is_marked self.new.marks.items (end_of (edge_at network.now.graph.now k) back))) }
+        ensures covers { IfOk result (λ found. found ≡ false → (k : ℕ) → IsTrue (has places.now k)
+            → 0 < residual_at network.now.graph.now network.now.part.now (amount_of amounts.now) k back
+            → IsTrue (is_marked self.new.marks.items (end_of (edge_at network.now.graph.now k) back))) }
         ensures found { IfOk result (λ found. IsTrue found → (visit_at self.new.visits.items (length self.new.visits.items - 1)).node ≡ network.now.sink) }
-        ensures away { IfOk result (λ found. found ≡ false → is_marked self.old.marks.items network.now.sink ≡ false → is_marked self.new.marks.items network.now.sink ≡ false) }
-        ensures work { IfOk result (λ _. count_by (λ b. not b) self.new.marks.items + length self.new.visits.items ≤ count_by (λ b. not b) self.old.marks.items + length self.old.visits.items) }
+        ensures away { IfOk result (λ found. found ≡ false → is_marked self.old.marks.items network.now.sink ≡ false
+            → is_marked self.new.marks.items network.now.sink ≡ false) }
+        ensures work { IfOk result (λ _. count_by (λ b. not b) self.new.marks.items + length self.new.visits.items
+            ≤ count_by (λ b. not b) self.old.marks.items + length self.old.visits.items) }
     {
         for place in places {
             let edge = ResidualEdge {
@@ -139,10 +152,14 @@ impl Search {
         ensures tree { IfOk result (λ _. IsSearchTree network.now.graph.now network.now.part.now (amount_of amounts.now) self.new.visits.items) }
         ensures marks { IfOk result (λ _. AreMarks network.now.graph.now self.new.marks.items self.new.visits.items) }
         ensures extends { IfOk result (λ _. Extends self.old.marks.items self.new.marks.items self.old.visits.items self.new.visits.items) }
-        ensures covers { IfOk result (λ found. found ≡ false → IsExpanded network.now.graph.now network.now.part.now (amount_of amounts.now) (visit_at self.old.visits.items at).node self.new.marks.items) }
+        ensures covers { IfOk result (λ found. found ≡ false
+            → IsExpanded network.now.graph.now network.now.part.now (amount_of amounts.now)
+            (visit_at self.old.visits.items at).node self.new.marks.items) }
         ensures found { IfOk result (λ found. IsTrue found → (visit_at self.new.visits.items (length self.new.visits.items - 1)).node ≡ network.now.sink) }
-        ensures away { IfOk result (λ found. found ≡ false → is_marked self.old.marks.items network.now.sink ≡ false → is_marked self.new.marks.items network.now.sink ≡ false) }
-        ensures work { IfOk result (λ _. count_by (λ b. not b) self.new.marks.items + length self.new.visits.items ≤ count_by (λ b. not b) self.old.marks.items + length self.old.visits.items) }
+        ensures away { IfOk result (λ found. found ≡ false → is_marked self.old.marks.items network.now.sink ≡ false
+            → is_marked self.new.marks.items network.now.sink ≡ false) }
+        ensures work { IfOk result (λ _. count_by (λ b. not b) self.new.marks.items + length self.new.visits.items
+            ≤ count_by (λ b. not b) self.old.marks.items + length self.old.visits.items) }
     {
         let node = self.visits[at].node;
         let graph = network.graph;
@@ -165,9 +182,12 @@ impl Search {
         requires apart { network.now.source ≢ network.now.sink }
         requires most { 0 < most }
         ensures search { IsSearch network.now.graph.now.nodes self.new }
-        ensures found { IfOk result (λ found. IsTrue found → IsAugmentingPath network.now.graph.now network.now.part.now (amount_of amounts.now) network.now.source network.now.sink most self.new.visits.items) }
+        ensures found { IfOk result (λ found. IsTrue found
+            → IsAugmentingPath network.now.graph.now network.now.part.now
+            (amount_of amounts.now) network.now.source network.now.sink most self.new.visits.items) }
         ensures marks { IfOk result (λ found. AreMarks network.now.graph.now self.new.marks.items self.new.visits.items) }
-        ensures blocked { IfOk result (λ found. found ≡ false → IsBlocked network.now.graph.now network.now.part.now (amount_of amounts.now) network.now.source network.now.sink self.new.marks.items) }
+        ensures blocked { IfOk result (λ found. found ≡ false
+            → IsBlocked network.now.graph.now network.now.part.now (amount_of amounts.now) network.now.source network.now.sink self.new.marks.items) }
     {
         self.clear();
         self.visits.push(Visit::first(network.source, most))?;

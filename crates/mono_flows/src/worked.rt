@@ -14,7 +14,8 @@ use mono_base::limits::MAX_WITNESS_VALUE;
 /// A found flow passes where it is a flow of at least the value, and a found cut where it is a cut.
 pub fn found_passes()
     ensures flow { (amounts : Vec Amount Global) → amounts.items ≡ amount 0 1 ∷ amount 1 4 ∷ [] → Passes (parallel 1 4) both 0 1 (pos 5) (found.Flow amounts) }
-    ensures too_little { (amounts : Vec Amount Global) → amounts.items ≡ amount 0 1 ∷ amount 1 4 ∷ [] → Passes (parallel 1 4) both 0 1 (pos 6) (found.Flow amounts) → ⊥ }
+    ensures too_little { (amounts : Vec Amount Global) → amounts.items ≡ amount 0 1 ∷ amount 1 4 ∷ []
+        → Passes (parallel 1 4) both 0 1 (pos 6) (found.Flow amounts) → ⊥ }
     ensures cut { (nodes : Vec ℕ Global) → nodes.items ≡ 0 ∷ [] → Passes (parallel 1 4) both 0 1 (pos 6) (found.Cut nodes) }
     ensures no_cut { (nodes : Vec ℕ Global) → nodes.items ≡ 0 ∷ [] → Passes (parallel 1 4) both 0 1 (pos 5) (found.Cut nodes) → ⊥ }
 {}

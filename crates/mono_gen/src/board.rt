@@ -40,7 +40,9 @@ fn push_forward(
     requires size { size ≤ 100 }
     requires row { row < size }
     requires column { column < size }
-    ensures { OnOk result (edges.new.items ≡ (edges.old.items ++ edge_where (nat_lt (column + 1) size) (node size row column) (node size row (column + 1))) ++ edge_where (nat_lt (row + 1) size) (node size row column) (node size (row + 1) column)) }
+    ensures { OnOk result (edges.new.items ≡ (edges.old.items
+        ++ edge_where (nat_lt (column + 1) size) (node size row column) (node size row (column + 1)))
+        ++ edge_where (nat_lt (row + 1) size) (node size row column) (node size (row + 1) column)) }
 {
     let from = node(size, row, column);
     push_where(edges, column + 1 < size, from, node(size, row, column + 1))?;

@@ -16,10 +16,8 @@ pub fn one_problem()
 
 /// A text has a first fault or stands for a problem, and not both.
 pub fn fault_or_problem()
-    ensures either { (text : List ℕ) →
-        ((line : ℕ) × (f : GnfFault) × (first_fault text ≡ Some (line, f))) ⊎ ((p : Instance) × Stands text p) }
-    ensures not_both { (text : List ℕ) (p : Instance) (line : ℕ) (f : GnfFault) →
-        Stands text p → first_fault text ≡ Some (line, f) → ⊥ }
+    ensures either { (text : List ℕ) → ((line : ℕ) × (f : GnfFault) × (first_fault text ≡ Some (line, f))) ⊎ ((p : Instance) × Stands text p) }
+    ensures not_both { (text : List ℕ) (p : Instance) (line : ℕ) (f : GnfFault) → Stands text p → first_fault text ≡ Some (line, f) → ⊥ }
 {}
 
 /// Reading a text line after line finds its first fault, or makes the problem of its lines.

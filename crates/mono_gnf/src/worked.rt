@@ -75,12 +75,18 @@ pub fn worked_order()
 
 /// How many graphs, edges and predicates there may be. Graph 7 is new, graph 5 has 2 nodes.
 pub fn worked_counts()
-    ensures graphs { (before : List Statement) → length (graphs before) ≡ MAX_GRAPHS → nodes_named (graphs before) 7 ≡ None → statement_fault before (says.Graph 7 1) ≡ Some fault.TooMany }
-    ensures last_graph { (before : List Statement) → length (graphs before) + 1 ≡ MAX_GRAPHS → sum_by (λ g. g.1) (graphs before) ≡ 5000 → nodes_named (graphs before) 7 ≡ None → statement_fault before (says.Graph 7 1) ≡ None }
-    ensures edges { (before : List Statement) → length (edges before) ≡ MAX_EDGES → nodes_named (graphs before) 5 ≡ Some 2 → statement_fault before (says.Edge 5 0 1 1 0) ≡ Some fault.TooMany }
-    ensures last_edge { (before : List Statement) → length (edges before) + 1 ≡ MAX_EDGES → nodes_named (graphs before) 5 ≡ Some 2 → statement_fault before (says.Edge 5 0 1 1 0) ≡ None }
-    ensures predicates { (before : List Statement) → length (atoms before) ≡ MAX_ATOMS → nodes_named (graphs before) 5 ≡ Some 2 → statement_fault before (says.Atom 5 1 kind.Acyclic) ≡ Some fault.TooMany }
-    ensures last_predicate { (before : List Statement) → length (atoms before) + 1 ≡ MAX_ATOMS → nodes_named (graphs before) 5 ≡ Some 2 → statement_fault before (says.Atom 5 1 kind.Acyclic) ≡ None }
+    ensures graphs { (before : List Statement) → length (graphs before) ≡ MAX_GRAPHS → nodes_named (graphs before) 7 ≡ None
+        → statement_fault before (says.Graph 7 1) ≡ Some fault.TooMany }
+    ensures last_graph { (before : List Statement) → length (graphs before) + 1 ≡ MAX_GRAPHS → sum_by (λ g. g.1) (graphs before) ≡ 5000
+        → nodes_named (graphs before) 7 ≡ None → statement_fault before (says.Graph 7 1) ≡ None }
+    ensures edges { (before : List Statement) → length (edges before) ≡ MAX_EDGES → nodes_named (graphs before) 5 ≡ Some 2
+        → statement_fault before (says.Edge 5 0 1 1 0) ≡ Some fault.TooMany }
+    ensures last_edge { (before : List Statement) → length (edges before) + 1 ≡ MAX_EDGES → nodes_named (graphs before) 5 ≡ Some 2
+        → statement_fault before (says.Edge 5 0 1 1 0) ≡ None }
+    ensures predicates { (before : List Statement) → length (atoms before) ≡ MAX_ATOMS → nodes_named (graphs before) 5 ≡ Some 2
+        → statement_fault before (says.Atom 5 1 kind.Acyclic) ≡ Some fault.TooMany }
+    ensures last_predicate { (before : List Statement) → length (atoms before) + 1 ≡ MAX_ATOMS → nodes_named (graphs before) 5 ≡ Some 2
+        → statement_fault before (says.Atom 5 1 kind.Acyclic) ≡ None }
 {}
 
 /// How many clauses and literals there may be, those of the line itself among them.
@@ -100,13 +106,23 @@ pub fn worked_number_counts()
 pub fn worked_problems()
     ensures empty { Stands [] (record { vars = 0; graphs = []; atoms = []; clauses = [] }) }
     ensures blank { Stands (codes "\n \t\r\nc 1 x\n") (record { vars = 0; graphs = []; atoms = []; clauses = [] }) }
-    ensures clauses { Stands (codes "p cnf 4 9\n1 -2 0 0\n02\nc x\n2 -0\n")
-        (record { vars = 4; graphs = []; atoms = []; clauses = (pos 1 ∷ negsuc 1 ∷ []) ∷ [] ∷ (pos 2 ∷ pos 2 ∷ []) ∷ [] }) }
+    ensures clauses { Stands (codes "p cnf 4 9\n1 -2 0 0\n02\nc x\n2 -0\n") (record {
+      vars = 4;
+      graphs = [];
+      atoms = [];
+      clauses = (pos 1 ∷ negsuc 1 ∷ []) ∷ [] ∷ (pos 2 ∷ pos 2 ∷ []) ∷ [];
+    }) }
     ensures late_edge { Stands (codes "digraph int 3 9 7\nreach 7 0 2 5\nedge 7 0 2 1\ndigraph 1 0 3\nedge 3 0 0 6 0\nedge 7 2 1 1 9")
         (record {
           vars = 6;
-          graphs =
-              (7, record { nodes = 3; edges = record { number = 1; from = 0; to = 2; var = 1; weight = 1 } ∷ record { number = 3; from = 2; to = 1; var = 1; weight = 9 } ∷ [] })
+          graphs = (
+            7,
+            record {
+              nodes = 3;
+              edges = record { number = 1; from = 0; to = 2; var = 1; weight = 1 }
+                  ∷ record { number = 3; from = 2; to = 1; var = 1; weight = 9 } ∷ [];
+            },
+          )
               ∷ (3, record { nodes = 1; edges = record { number = 2; from = 0; to = 0; var = 6; weight = 0 } ∷ [] }) ∷ [];
           atoms = record { number = 1; graph = 0; var = 5; predicate = kind.Reach 0 2 } ∷ [];
           clauses = [];
@@ -115,8 +131,7 @@ pub fn worked_problems()
         (record {
           vars = 7;
           graphs = (0, record { nodes = 2; edges = [] }) ∷ [];
-          atoms =
-              record { number = 1; graph = 0; var = 1; predicate = kind.Steps 0 1 (pos 3) }
+          atoms = record { number = 1; graph = 0; var = 1; predicate = kind.Steps 0 1 (pos 3) }
               ∷ record { number = 2; graph = 0; var = 2; predicate = kind.Steps 0 1 (negsuc 0) }
               ∷ record { number = 3; graph = 0; var = 3; predicate = kind.Distance 1 0 (pos 3) }
               ∷ record { number = 4; graph = 0; var = 4; predicate = kind.Flow 0 1 (pos 5) }
@@ -125,17 +140,23 @@ pub fn worked_problems()
               ∷ record { number = 7; graph = 0; var = 7; predicate = kind.Tree (pos 6) } ∷ [];
           clauses = [];
         }) }
-    ensures acyclic { Stands (codes "digraph 1 0 5\ndigraph 2 0 3\nacyclic 3 4\nacyclic 5 2")
-        (record {
-          vars = 4;
-          graphs = (5, record { nodes = 1; edges = [] }) ∷ (3, record { nodes = 2; edges = [] }) ∷ [];
-          atoms = record { number = 1; graph = 1; var = 4; predicate = kind.Acyclic } ∷ record { number = 2; graph = 0; var = 2; predicate = kind.Acyclic } ∷ [];
-          clauses = [];
-        }) }
+    ensures acyclic { Stands (codes "digraph 1 0 5\ndigraph 2 0 3\nacyclic 3 4\nacyclic 5 2") (record {
+      vars = 4;
+      graphs = (5, record { nodes = 1; edges = [] }) ∷ (3, record { nodes = 2; edges = [] }) ∷ [];
+      atoms = record { number = 1; graph = 1; var = 4; predicate = kind.Acyclic }
+          ∷ record { number = 2; graph = 0; var = 2; predicate = kind.Acyclic } ∷ [];
+      clauses = [];
+    }) }
     ensures limits { Stands (codes "p gnf 1000000 4294967295\ndigraph 1000000 4294967295 4294967295\nedge 4294967295 999999 0 1000000 18446744073709551615\n-1000000 0")
         (record {
           vars = 1000000;
-          graphs = (4294967295, record { nodes = 1000000; edges = record { number = 1; from = 999999; to = 0; var = 1000000; weight = 18446744073709551615 } ∷ [] }) ∷ [];
+          graphs = (
+            4294967295,
+            record {
+              nodes = 1000000;
+              edges = record { number = 1; from = 999999; to = 0; var = 1000000; weight = 18446744073709551615 } ∷ [];
+            },
+          ) ∷ [];
           atoms = [];
           clauses = (negsuc 999999 ∷ []) ∷ [];
         }) }

@@ -1,6 +1,5 @@
 pub mod Places
 pub mod Ranges
-pub mod Lists
 pub mod EdgeNumbers
 pub mod GraphGrown
 pub mod NodeLists
@@ -17,3 +16,5 @@ pub mod RisingRanks
 pub mod Prefixes
 pub mod Seen
 pub mod WeightSums
+pub mod Pigeons
+pub mod Told

@@ -1,8 +1,9 @@
 -- Directed graphs, their parts and sets of nodes. Inside a graph an edge is named by its place in the list of edges, from 0.
 use Rattle.std.specs.Prelude.{ℕ, ◌<◌, ◌≤◌, ◌==◌, Bool, true, false, not, ◌&&◌, ◌||◌, IsTrue, List, [], ◌∷◌, ◌++◌, length, map, filter, Option, position, slice_index_or, sum_by, nat_lt, ◌≡◌, All}
-use Rattle.std.specs.List.{list_any, range_with_len}
+use Rattle.std.specs.List.{range_with_len}
 use Rattle.mono_base.specs.declared.limits.TheConstants.{MAX_EDGES, MAX_NODES, MAX_VARS, MAX_WEIGHT}
 use Rattle.mono_graph.specs.declared.edge.Edge.{Edge}
+pub use Rattle.mono_base.specs.Numbers.{has}
 
 -- a graph: its nodes are the numbers below `nodes`, and its edges are listed in order
 pub record Digraph : Type 0 where
@@ -102,10 +103,6 @@ abbrev pub present_by : (Edge → Bool) → Digraph → List Bool → List ℕ
 present_by test g P = filter (λ k. present P k && test (edge_at g k)) (places g)
 
 -- ---- sets and sums
-
--- a list read as a set of numbers
-abbrev pub has : List ℕ → ℕ → Bool
-has s u = list_any (λ v. v == u) s
 
 -- no number is in the list twice
 abbrev pub is_distinct : List ℕ → Bool

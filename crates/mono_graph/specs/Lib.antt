@@ -1,4 +1,3 @@
-pub mod Buckets
 pub mod Digraph
 pub mod Kept
 pub mod Walks

@@ -7,7 +7,8 @@
 ghost use Rattle.std.specs.Prelude.{◌≡◌, ◌<◌, ◌≤◌, ◌⊎◌, ◌↔◌, [], All, OnOk, OnErr, IfOk, IfSome, length, slice_index_or};
 ghost use Rattle.mono_graph.specs.Digraph.{IsGraph, with_edge, no_edge, edge_at, place_of, leaving as leaving_of, entering as entering_of, weight_of as weight_sum};
 
-use crate::{Buckets, Edge};
+use crate::Edge;
+use mono_base::Buckets;
 use mono_base::limits::{MAX_EDGES, MAX_NODES, MAX_VARS, MAX_WEIGHT};
 use std::alloc::{AllocError, Global};
 use std::marker::Model;

@@ -25,18 +25,21 @@ pub fn cut_means_no_walk()
 
 /// Where a labelling passes, no walk is within the limit.
 pub fn labelling_means_no_light_walk()
-    ensures { (g : Digraph) (P : List Bool) (u v : ℕ) (limit : Limit) (labels : List Label) (walk : List ℕ) → limit ≢ Limit.Free → IsTrue (is_labelling g P u v limit labels) → IsTrue (is_path g P u v limit walk) → ⊥ }
+    ensures { (g : Digraph) (P : List Bool) (u v : ℕ) (limit : Limit) (labels : List Label) (walk : List ℕ) → limit ≢ Limit.Free
+        → IsTrue (is_labelling g P u v limit labels) → IsTrue (is_path g P u v limit walk) → ⊥ }
 {}
 
 /// The value of a flow is at most what the present edges that leave a set weigh, where the set has the source and
 /// lacks the sink.
 pub fn flow_value_is_at_most_cut()
-    ensures { (g : Digraph) (P : List Bool) (s t : ℕ) (flow : ℕ → ℕ) (set : List ℕ) → HasEnds g → s < g.nodes → IsTrue (is_flow g P s t flow) → IsTrue (has set s) → IsTrue (not (has set t)) → value_of g s flow ≤ℤ pos (weight_of g (present_by (leads_out set) g P)) }
+    ensures { (g : Digraph) (P : List Bool) (s t : ℕ) (flow : ℕ → ℕ) (set : List ℕ) → HasEnds g → s < g.nodes → IsTrue (is_flow g P s t flow)
+        → IsTrue (has set s) → IsTrue (not (has set t)) → value_of g s flow ≤ℤ pos (weight_of g (present_by (leads_out set) g P)) }
 {}
 
 /// Where the edges that leave a set weigh less than the bound, no flow has a value as great as the bound.
 pub fn flow_cut_means_no_flow()
-    ensures { (g : Digraph) (P : List Bool) (s t : ℕ) (least : ℤ) (flow : ℕ → ℕ) (set : List ℕ) → HasEnds g → s < g.nodes → IsTrue (is_flow_cut g P s t least set) → IsTrue (is_flow g P s t flow && int_le least (value_of g s flow)) → ⊥ }
+    ensures { (g : Digraph) (P : List Bool) (s t : ℕ) (least : ℤ) (flow : ℕ → ℕ) (set : List ℕ) → HasEnds g → s < g.nodes
+        → IsTrue (is_flow_cut g P s t least set) → IsTrue (is_flow g P s t flow && int_le least (value_of g s flow)) → ⊥ }
 {}
 
 /// Where no edge joins a set with the rest, there is no spanning tree.
@@ -46,7 +49,8 @@ pub fn split_means_no_tree()
 
 /// A spanning tree that joins the ends of each present edge by edges no heavier is no heavier than any in the part.
 pub fn least_tree_is_lightest()
-    ensures { (g : Digraph) (P : List Bool) (most limit : ℤ) (least tree : List ℕ) → IsTrue (is_least g P most least) → IsTrue (is_tree g P limit tree) → weight_of g least ≤ weight_of g tree }
+    ensures { (g : Digraph) (P : List Bool) (most limit : ℤ) (least tree : List ℕ) → IsTrue (is_least g P most least)
+        → IsTrue (is_tree g P limit tree) → weight_of g least ≤ weight_of g tree }
 {}
 
 /// Where such a tree is heavier than the bound, no spanning tree is within it.
@@ -66,7 +70,8 @@ pub fn edge_joins_at_most_two_components()
 
 /// An edge between two components makes one of them.
 pub fn edge_between_components_joins_them()
-    ensures { (e : Edge) (es : List Edge) (n : ℕ) → e.from < n → e.to < n → joins es e.from e.to ≡ false → component_count (e ∷ es) n + 1 ≡ component_count es n }
+    ensures { (e : Edge) (es : List Edge) (n : ℕ) → e.from < n → e.to < n → joins es e.from e.to ≡ false
+        → component_count (e ∷ es) n + 1 ≡ component_count es n }
 {}
 
 /// Edges that join n nodes are at least n - 1.
@@ -76,18 +81,24 @@ pub fn joined_nodes_need_edges()
 
 /// A walk within a limit, a flow and a spanning tree pass over each larger part.
 pub fn larger_part_keeps_what_is_there()
-    ensures path { (g : Digraph) (P Q : List Bool) → IsSubpart P Q → (u v : ℕ) (limit : Limit) (walk : List ℕ) → IsTrue (is_path g P u v limit walk) → IsTrue (is_path g Q u v limit walk) }
-    ensures flow { (g : Digraph) (P Q : List Bool) → IsSubpart P Q → (s t : ℕ) (least : ℤ) (amounts : List Amount) → IsTrue (is_flow_of g P s t least amounts) → IsTrue (is_flow_of g Q s t least amounts) }
-    ensures tree { (g : Digraph) (P Q : List Bool) → IsSubpart P Q → (most : ℤ) (tree : List ℕ) → IsTrue (is_tree g P most tree) → IsTrue (is_tree g Q most tree) }
+    ensures path { (g : Digraph) (P Q : List Bool) → IsSubpart P Q → (u v : ℕ) (limit : Limit) (walk : List ℕ) → IsTrue (is_path g P u v limit walk)
+        → IsTrue (is_path g Q u v limit walk) }
+    ensures flow { (g : Digraph) (P Q : List Bool) → IsSubpart P Q → (s t : ℕ) (least : ℤ) (amounts : List Amount)
+        → IsTrue (is_flow_of g P s t least amounts) → IsTrue (is_flow_of g Q s t least amounts) }
+    ensures tree { (g : Digraph) (P Q : List Bool) → IsSubpart P Q → (most : ℤ) (tree : List ℕ) → IsTrue (is_tree g P most tree)
+        → IsTrue (is_tree g Q most tree) }
 {}
 
 /// A cut, a labelling, a flow cut, a split and a least tree pass over each smaller part.
 pub fn smaller_part_keeps_what_is_not_there()
     ensures cut { (g : Digraph) (P Q : List Bool) → IsSubpart P Q → (u v : ℕ) (set : List ℕ) → IsTrue (is_cut g Q u v set) → IsTrue (is_cut g P u v set) }
-    ensures labelling { (g : Digraph) (P Q : List Bool) → IsSubpart P Q → (u v : ℕ) (limit : Limit) (labels : List Label) → IsTrue (is_labelling g Q u v limit labels) → IsTrue (is_labelling g P u v limit labels) }
-    ensures flow_cut { (g : Digraph) (P Q : List Bool) → IsSubpart P Q → (s t : ℕ) (least : ℤ) (set : List ℕ) → IsTrue (is_flow_cut g Q s t least set) → IsTrue (is_flow_cut g P s t least set) }
+    ensures labelling { (g : Digraph) (P Q : List Bool) → IsSubpart P Q → (u v : ℕ) (limit : Limit) (labels : List Label)
+        → IsTrue (is_labelling g Q u v limit labels) → IsTrue (is_labelling g P u v limit labels) }
+    ensures flow_cut { (g : Digraph) (P Q : List Bool) → IsSubpart P Q → (s t : ℕ) (least : ℤ) (set : List ℕ) → IsTrue (is_flow_cut g Q s t least set)
+        → IsTrue (is_flow_cut g P s t least set) }
     ensures split { (g : Digraph) (P Q : List Bool) → IsSubpart P Q → (set : List ℕ) → IsTrue (is_split g Q set) → IsTrue (is_split g P set) }
-    ensures least { (g : Digraph) (P Q : List Bool) → IsSubpart P Q → (most : ℤ) (tree : List ℕ) → IsTrue (is_least g Q most tree) → IsTrue (is_least g P most tree) }
+    ensures least { (g : Digraph) (P Q : List Bool) → IsSubpart P Q → (most : ℤ) (tree : List ℕ) → IsTrue (is_least g Q most tree)
+        → IsTrue (is_least g P most tree) }
 {}
 
 /// A cycle is a nonempty walk from a node to itself.

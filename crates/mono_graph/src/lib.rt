@@ -3,10 +3,10 @@
 
 /// Amounts on edges.
 mod amount;
-/// Lists by key.
-mod buckets;
 /// Edges.
 mod edge;
+/// The edges that an assignment enables.
+mod enabled;
 /// Graphs.
 mod graph;
 /// Labels of nodes.
@@ -23,8 +23,8 @@ mod part;
 pub mod worked;
 
 pub use amount::Amount;
-pub use buckets::Buckets;
 pub use edge::Edge;
+pub use enabled::enabled_edges;
 pub use graph::{EdgeRefusal, Graph};
 pub use label::Label;
 pub use limit::Limit;

@@ -22,7 +22,8 @@ pub fn mark(marks: &mut Vec<bool>, members: &[u32])
 pub fn unmark(marks: &mut Vec<bool>, members: &[u32])
     requires within { All (λ u. u < vec_len marks.old) members.now }
     ensures len { vec_len marks.new ≡ vec_len marks.old }
-    ensures clear { ((u : ℕ) → IsTrue (slice_index_or marks.old.items u false) → IsTrue (has members.now u)) → (u : ℕ) → slice_index_or marks.new.items u false ≡ false }
+    ensures clear { ((u : ℕ) → IsTrue (slice_index_or marks.old.items u false) → IsTrue (has members.now u)) → (u : ℕ)
+        → slice_index_or marks.new.items u false ≡ false }
 {
     for member in members {
         marks[*member as usize] = false;

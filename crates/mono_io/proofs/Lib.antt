@@ -1,5 +1,6 @@
 mod Fronts
 pub mod Growing
+pub mod TakenPieces
 pub mod KnownBytes
 mod Plans
 mod NamedTexts

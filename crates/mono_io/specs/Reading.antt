@@ -1,7 +1,7 @@
 -- What reading the whole text of a name comes to, by what contracts see of the shelf before and after it.
 use Rattle.std.specs.Prelude.{◌≡◌, ◌<◌, ◌≤◌, ◌+◌, ℕ, List, length, take, Some, IfSome, IsSomeAnd, IsTrue}
 use Rattle.mono_io.specs.Faults.{counted}
-use Rattle.mono_io.specs.Shelf.{ShelfView, text_named, Lacks}
+use Rattle.mono_io.specs.Shelf.{ShelfView, text_named, chosen_text, Lacks}
 
 -- The name was begun once. The texts stay, and a steady shelf stays steady.
 pub record BeginsOnce (old new : ShelfView) : Type 0 where
@@ -37,6 +37,12 @@ pub record IsGivenUp (limit : ℕ) (old new : ShelfView) : Type 0 where
   pub place : IfSome new.place (λ place. place ≤ limit)
   pub faults : new.faults ≡ old.faults
 
+-- the text of that name was read whole, and it was taken
+pub record IsReadInto (name : List ℕ) (limit : ℕ) (old new : ShelfView) (takes : List ℕ → Type 0) : Type 0 where
+  pub text : List ℕ
+  pub read : IsRead name limit old new text
+  pub taken : takes text
+
 -- ---- on the way
 
 -- the bytes are the first ones of the text
@@ -50,3 +56,20 @@ pub record KeepsChoice (old new : ShelfView) : Type 0 where
   pub chosen : new.chosen ≡ old.chosen
   pub begun : new.begun ≡ old.begun
   pub steady : IsTrue old.steady → IsTrue new.steady
+
+-- so many bytes were taken, those before the shelf's place; where the chosen text is told, they are its front
+pub record HasTaken (shelf : ShelfView) (limit count : ℕ) (takes : List ℕ → Type 0) : Type 0 where
+  pub bytes : List ℕ
+  pub many : length bytes ≡ count
+  pub within : count ≤ limit
+  pub place : shelf.place ≡ Some count
+  pub front : IfSome (chosen_text shelf) (IsFront bytes)
+  pub taken : takes bytes
+
+-- all bytes of the chosen text were taken
+pub record HasTakenAll (shelf : ShelfView) (limit : ℕ) (takes : List ℕ → Type 0) : Type 0 where
+  pub bytes : List ℕ
+  pub within : length bytes ≤ limit
+  pub place : shelf.place ≡ Some (length bytes)
+  pub whole : IfSome (chosen_text shelf) (λ text. bytes ≡ text)
+  pub taken : takes bytes

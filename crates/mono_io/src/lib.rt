@@ -2,7 +2,8 @@
 //!
 //! - `failed`: the answer of a call to the outside that failed
 //! - `shelf`, `sink`: the traits, each with a count of faults to which its failures are tied
-//! - `reading`, `refusal`: a text read whole up to a limit, over any shelf
+//! - `consumer`, `pieces`: a text handed on piece by piece to whoever takes it, up to a limit, over any shelf
+//! - `reading`, `refusal`: a text read whole
 //! - `writing`: all of a text written, over any sink
 //! - `memory_shelf`, `text_table`: texts in memory
 //! - `memory_sink`: bytes in memory
@@ -11,12 +12,14 @@
 //! - `file_shelf`, `file_access`, `std_sink`: the files of the system and the standard output
 #![tactic(auto)]
 
+mod consumer;
 mod failed;
 mod fault_plan;
 mod file_access;
 mod file_shelf;
 mod memory_shelf;
 mod memory_sink;
+mod pieces;
 mod reading;
 mod refusal;
 mod shelf;
@@ -27,11 +30,13 @@ mod text_table;
 pub mod worked;
 mod writing;
 
+pub use consumer::Consumer;
 pub use failed::Failed;
 pub use file_access::{FileAccess, SystemFiles};
 pub use file_shelf::{FileShelf, LAST_PLACE};
 pub use memory_shelf::MemoryShelf;
 pub use memory_sink::MemorySink;
+pub use pieces::read_into;
 pub use reading::{GREATEST_LIMIT, read_whole};
 pub use refusal::ReadRefusal;
 pub use shelf::Shelf;

@@ -27,7 +27,7 @@ use Rattle.mono_theory.specs.Owners.{OwnsEach}
 use Rattle.mono_theory.specs.Theories.{Facts, owns_of}
 use Rattle.mono_theory.proofs.AtomsByNumber.{own_number, IsHeld}
 use Rattle.mono_theory.proofs.LemmasAreJustified.{numbered_is}
-use Rattle.mono_theory.proofs.Pigeons.{all_has}
+use Rattle.mono_graph.proofs.Pigeons.{all_has}
 use Rattle.mono_theory.proofs.WalksAsEvidence.{all_by}
 use Rattle.mono_kinds.specs.Slots.{kind_index, slot_of, slot_count, numbers_in, AreSlots, AreMade, made_of}
 

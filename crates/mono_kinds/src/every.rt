@@ -8,9 +8,9 @@ ghost use Rattle.mono_kinds.specs.Slots.{AreMade, AreSlots, made_of, numbers_in,
 use crate::AnyTheory;
 use crate::slots::{slot_count, slots_of};
 use mono_acyclic::AcyclicTheory;
+use mono_base::Buckets;
 use mono_distance::DistanceTheory;
 use mono_flow::FlowTheory;
-use mono_graph::Buckets;
 use mono_problem::Problem;
 use mono_reach::ReachTheory;
 use mono_tree::TreeTheory;

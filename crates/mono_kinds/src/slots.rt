@@ -1,9 +1,9 @@
 //! Atoms by graph and kind: those of one slot make one theory.
 
-ghost use Rattle.std.specs.Prelude.{◌≡◌, ◌<◌, ◌≤◌, IfOk, length};
+ghost use Rattle.std.specs.Prelude.{◌≡◌, ◌<◌, IfOk, length};
 ghost use Rattle.mono_kinds.specs.Slots.{AreSlots, kind_index as index_of_kind, slot_of as slot_by, slot_count as count_of_slots};
 
-use mono_graph::Buckets;
+use mono_base::Buckets;
 use mono_problem::{Atom, Predicate, Problem};
 use std::alloc::{AllocError, Global};
 

@@ -29,7 +29,8 @@ pub record HasOnePresent (t : TrailView) (c : List ℤ) : Type 0 where
   pub present : StandsAt t (neg_ℤ lit) t.level
   pub others : (l : ℤ) → IsTrue (has_lit c l) → l ≢ lit → level_by t l < t.level
 
--- the clause c has two literals of the present level; the clause n is the reason of that literal whose variable stands last on the trail, and resolving with it leads to the clause e
+-- the clause c has two literals of the present level; the clause n is the reason of that literal whose variable stands last on
+-- the trail, and resolving with it leads to the clause e
 pub record StepsBack (cs : List (List ℤ)) (t : TrailView) (c : List ℤ) (n : ℕ) (e : List ℤ) : Type 0 where
   pub two : HasTwoPresent t c
   pub place : ℕ
@@ -67,7 +68,8 @@ pub record GoesOnWith (cs : List (List ℤ)) (t : TrailView) (place : ℕ) (old 
 
 -- ---- local minimization
 
--- the literal at the place is of a level below the present one, its reason is a clause, and the others of that are all in the clause c
+-- the literal at the place is of a level below the present one, its reason is a clause, and the others of that are all in the
+-- clause c
 pub record IsRedundant (cs : List (List ℤ)) (t : TrailView) (c : List ℤ) (k : ℕ) : Type 0 where
   pub lower : level_at t.marks k < t.level
   pub number : ℕ

@@ -46,7 +46,8 @@ pub record IsDropped (cs : List (List ℤ)) (t : TrailView) (old new : List Bool
   pub gone : is_marked old k ≡ true → is_marked new k ≡ false → IsRedundantAt cs t old k
   pub left : is_marked new k ≡ true → IsRedundantAt cs t old k → ⊥
 
--- of the kept places from the i-th on, the marks are taken away exactly where they are redundant in the clause that the old marks stand for
+-- of the kept places from the i-th on, the marks are taken away exactly where they are redundant in the clause that the old
+-- marks stand for
 pub record AreDropped (cs : List (List ℤ)) (t : TrailView) (old new : List Bool) (kept : List ℕ) (i : ℕ) : Type 0 where
   pub fewer : (k : ℕ) → is_marked new k ≡ true → is_marked old k ≡ true
   pub gone : (k : ℕ) → is_marked old k ≡ true → is_marked new k ≡ false → IsRedundantAt cs t old k

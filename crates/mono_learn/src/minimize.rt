@@ -69,8 +69,10 @@ impl Analysis {
         ensures slots { length self.new.resolvent.seen.items ≡ length self.old.resolvent.seen.items }
         ensures kept { self.new.resolvent.kept.items ≡ self.old.resolvent.kept.items }
         ensures minimized_to { OnOk result ((start last : ℕ) → place < start
-            → HasMinimized (clauses_after problem.now journal.now) trail.now.lits start last self.old.resolvent.seen.items self.old.resolvent.kept.items self.old.used.items
-            → HasMinimized (clauses_after problem.now journal.now) trail.now.lits start last self.new.resolvent.seen.items self.old.resolvent.kept.items self.new.used.items) }
+            → HasMinimized (clauses_after problem.now journal.now) trail.now.lits start last
+            self.old.resolvent.seen.items self.old.resolvent.kept.items self.old.used.items
+            → HasMinimized (clauses_after problem.now journal.now) trail.now.lits start last
+            self.new.resolvent.seen.items self.old.resolvent.kept.items self.new.used.items) }
         ensures fewer { (k : ℕ) → is_marked self.new.resolvent.seen.items k ≡ true → is_marked self.old.resolvent.seen.items k ≡ true }
         ensures needed { OnOk result (IsKeptFor (clauses_after problem.now journal.now) trail.now self.new.resolvent.seen.items place) }
         ensures others { (k : ℕ) → k ≢ place → is_marked self.new.resolvent.seen.items k ≡ is_marked self.old.resolvent.seen.items k }
@@ -111,7 +113,8 @@ impl Analysis {
         ensures slots { length self.new.resolvent.seen.items ≡ length self.old.resolvent.seen.items }
         ensures minimized_to { OnOk result ((start last : ℕ)
             → IsAtLast (clauses_after problem.now journal.now) trail.now.lits start last self.old.resolvent self.old.used.items
-            → HasMinimized (clauses_after problem.now journal.now) trail.now.lits start last self.new.resolvent.seen.items self.new.resolvent.kept.items self.new.used.items) }
+            → HasMinimized (clauses_after problem.now journal.now) trail.now.lits start last
+            self.new.resolvent.seen.items self.new.resolvent.kept.items self.new.used.items) }
         ensures needed { OnOk result ((j : ℕ) → j < length self.new.resolvent.kept.items
             → IsKeptFor (clauses_after problem.now journal.now) trail.now self.new.resolvent.seen.items
             (slice_index_or self.new.resolvent.kept.items j 0)) }

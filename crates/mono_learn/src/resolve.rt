@@ -36,7 +36,8 @@ impl Analysis {
         requires marked { is_marked self.old.resolvent.seen.items place ≡ true }
         requires come { HasCome (clauses_after problem.now journal.now) trail.now.lits self.old.start (place + 1) self.old.resolvent self.old.used.items }
         ensures start { self.new.start ≡ self.old.start }
-        ensures come { OnOk result (HasCome (clauses_after problem.now journal.now) trail.now.lits self.new.start place self.new.resolvent self.new.used.items) }
+        ensures come { OnOk result (HasCome (clauses_after problem.now journal.now) trail.now.lits self.new.start place
+            self.new.resolvent self.new.used.items) }
         ensures grows { OnOk result (self.old.resolvent.count ≤ self.new.resolvent.count + 1) }
         ensures pushed { OnOk result (self.new.used.items ≡ self.old.used.items ++ number ∷ []) }
     {
@@ -71,7 +72,8 @@ impl Analysis {
         ensures asks { AsksFor problem.now trail.old journal.old trail.new journal.new }
         ensures sound { IsSound trail.new }
         ensures reasons { HasReasons problem.now (clauses_after problem.now journal.new) (E.shown by.old) trail.new }
-        ensures come { OnOk result (HasCome (clauses_after problem.now journal.new) trail.new.lits self.new.start place self.new.resolvent self.new.used.items) }
+        ensures come { OnOk result (HasCome (clauses_after problem.now journal.new) trail.new.lits self.new.start place
+            self.new.resolvent self.new.used.items) }
         ensures grows { OnOk result (self.old.resolvent.count ≤ self.new.resolvent.count + 1) }
         ensures goes_on { OnOk result (GoesOnWith (clauses_after problem.now journal.new) trail.new place self.old.used.items self.new.used.items) }
     {

@@ -1,5 +1,5 @@
 -- Visits: how nodes were reached, each from an earlier visit.
-use Rattle.std.specs.Prelude.{◌≡◌, ℕ, ◌+◌, ◌<◌, Bool, List, length, slice_index_or, sum_by, IsTrue}
+use Rattle.std.specs.Prelude.{◌≡◌, ℕ, ◌+◌, ◌<◌, Bool, List, length, slice_index_or, IsTrue}
 use Rattle.mono_graph.specs.Digraph.{Digraph, present, edge_at}
 use Rattle.mono_graph.specs.Walks.{cost_of}
 use Rattle.mono_paths.specs.declared.visit.Visit.{Visit}

@@ -54,7 +54,8 @@ fn give(
 ) -> Result<(), AllocError>
     requires known { node < vec_len below.old }
     ensures given { OnOk result (below.new.items ≡ slice_set below.old.items node some) }
-    ensures listed { OnOk result (reached.new.items ≡ (if slice_index_or below.old.items node 0 == 0 then reached.old.items ++ node ∷ [] else reached.old.items)) }
+    ensures listed { OnOk result (reached.new.items
+        ≡ (if slice_index_or below.old.items node 0 == 0 then reached.old.items ++ node ∷ [] else reached.old.items)) }
     ensures unchanged { OnErr result ((below.new.items ≡ below.old.items) × (reached.new.items ≡ reached.old.items)) }
 {
     if below[node as usize] == 0 {

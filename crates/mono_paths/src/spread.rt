@@ -27,8 +27,18 @@ fn relax(
     requires labels { length labels.old.each ≡ graph.now.nodes }
     ensures cap { labels.new.cap ≡ labels.old.cap }
     ensures len { length labels.new.each ≡ length labels.old.each }
-    ensures lowered { IfOk result (λ lowered. IsTrue lowered → IsTrue (present part.now place) × Lowers labels.old.each labels.new.each visits.old.items visits.new.items (record { node = (edge_at graph.now place).to; place = place; before = at; cost = (visit_at visits.old.items at).cost + cost_by limit (edge_at graph.now place) })) }
-    ensures kept { IfOk result (λ lowered. lowered ≡ false → (labels.new.each ≡ labels.old.each) × (visits.new.items ≡ visits.old.items) × (IsTrue (present part.now place) → label_of labels.old.each (edge_at graph.now place).to ≤ (visit_at visits.old.items at).cost + cost_by limit (edge_at graph.now place))) }
+    ensures lowered { IfOk result (λ lowered. IsTrue lowered
+        → IsTrue (present part.now place) × Lowers labels.old.each labels.new.each visits.old.items visits.new.items
+        (record {
+          node = (edge_at graph.now place).to;
+          place = place;
+          before = at;
+          cost = (visit_at visits.old.items at).cost + cost_by limit (edge_at graph.now place);
+        })) }
+    ensures kept { IfOk result (λ lowered. lowered ≡ false
+        → (labels.new.each ≡ labels.old.each) × (visits.new.items ≡ visits.old.items)
+        × (IsTrue (present part.now place) → label_of labels.old.each (edge_at graph.now place).to
+        ≤ (visit_at visits.old.items at).cost + cost_by limit (edge_at graph.now place))) }
 {
     if !part.has(place) {
         return Ok(false);
@@ -69,7 +79,8 @@ pub fn expand(
     ensures labels { IfOk result (λ _. AreLabels graph.now labels.old.cap labels.new.each visits.new.items) }
     ensures grows { IfOk result (λ _. vec_len visits.old ≤ vec_len visits.new) }
     ensures first { IfOk result (λ _. visit_at visits.new.items 0 ≡ visit_at visits.old.items 0) }
-    ensures spread { IfOk result (λ _. (waits : ℕ → Bool) → IsSpread graph.now part.now limit labels.old.each visits.old.items waits → IsSpread graph.now part.now limit labels.new.each visits.new.items (waits_after waits at (length visits.old.items))) }
+    ensures spread { IfOk result (λ _. (waits : ℕ → Bool) → IsSpread graph.now part.now limit labels.old.each visits.old.items waits
+        → IsSpread graph.now part.now limit labels.new.each visits.new.items (waits_after waits at (length visits.old.items))) }
     ensures work { IfOk result (λ _. sum labels.new.each + vec_len visits.new ≤ sum labels.old.each + vec_len visits.old) }
 {
     let visit = visits[at];

@@ -44,7 +44,8 @@ impl LabelTable {
         ensures marked { (u : ℕ) → IsTrue (slice_index_or self.new.listed.items u false) → IsTrue (has (nodes_listed labels.now) u) }
         ensures distinct { result ≡ is_distinct (nodes_listed labels.now) }
         ensures all { IsTrue result → (u : ℕ) → slice_index_or self.new.listed.items u false ≡ has (nodes_listed labels.now) u }
-        ensures labels { IsTrue result → (most : ℤ) (others u : ℕ) → pos others ≡ most +ℤ pos 1 → label_at labels.now most u ≡ pos (value_at self.new.listed.items self.new.values.items others u) }
+        ensures labels { IsTrue result → (most : ℤ) (others u : ℕ) → pos others ≡ most +ℤ pos 1
+            → label_at labels.now most u ≡ pos (value_at self.new.listed.items self.new.values.items others u) }
     {
         for label in labels {
             let node = label.node as usize;
@@ -75,7 +76,8 @@ impl LabelTable {
         requires within { All (λ l. l.node < vec_len self.old.listed) labels.now }
         ensures listed_len { vec_len self.new.listed ≡ vec_len self.old.listed }
         ensures values_len { vec_len self.new.values ≡ vec_len self.old.values }
-        ensures clear { ((u : ℕ) → IsTrue (slice_index_or self.old.listed.items u false) → IsTrue (has (nodes_listed labels.now) u)) → (u : ℕ) → slice_index_or self.new.listed.items u false ≡ false }
+        ensures clear { ((u : ℕ) → IsTrue (slice_index_or self.old.listed.items u false) → IsTrue (has (nodes_listed labels.now) u)) → (u : ℕ)
+            → slice_index_or self.new.listed.items u false ≡ false }
     {
         for label in labels {
             self.listed[label.node as usize] = false;

@@ -35,8 +35,10 @@ pub fn found_path_is_known()
 pub fn found_light_passes()
     ensures walk { (edges : Vec ℕ Global) → edges.items ≡ 1 ∷ [] → IsPathOrLabels (parallel 1 4) both 0 1 (Limit.Weight (pos 4)) (light.Path edges) }
     ensures too_heavy { (edges : Vec ℕ Global) → edges.items ≡ 1 ∷ [] → IsPathOrLabels (parallel 1 4) both 0 1 (Limit.Weight (pos 3)) (light.Path edges) → ⊥ }
-    ensures labels { (labels : Vec Label Global) → labels.items ≡ label 0 0 ∷ [] → IsPathOrLabels (parallel 1 4) both 0 1 (Limit.Weight (pos 0)) (light.Labels labels) }
-    ensures not_above { (labels : Vec Label Global) → labels.items ≡ label 0 0 ∷ [] → IsPathOrLabels (parallel 1 4) both 0 1 (Limit.Weight (pos 1)) (light.Labels labels) → ⊥ }
+    ensures labels { (labels : Vec Label Global) → labels.items ≡ label 0 0 ∷ []
+        → IsPathOrLabels (parallel 1 4) both 0 1 (Limit.Weight (pos 0)) (light.Labels labels) }
+    ensures not_above { (labels : Vec Label Global) → labels.items ≡ label 0 0 ∷ []
+        → IsPathOrLabels (parallel 1 4) both 0 1 (Limit.Weight (pos 1)) (light.Labels labels) → ⊥ }
 {}
 
 /// What was found names places of edges and nodes of the graph, and no label is above the greatest of a witness.
@@ -45,7 +47,8 @@ pub fn found_light_is_known()
     ensures no_edge { (edges : Vec ℕ Global) → edges.items ≡ 2 ∷ [] → HasKnownLabels (pipe 1 1) (light.Path edges) → ⊥ }
     ensures last_node { (labels : Vec Label Global) → labels.items ≡ label 2 (MAX_WITNESS_VALUE) ∷ [] → HasKnownLabels (pipe 1 1) (light.Labels labels) }
     ensures no_node { (labels : Vec Label Global) → labels.items ≡ label 3 0 ∷ [] → HasKnownLabels (pipe 1 1) (light.Labels labels) → ⊥ }
-    ensures too_great { (labels : Vec Label Global) → labels.items ≡ label 2 (MAX_WITNESS_VALUE + 1) ∷ [] → HasKnownLabels (pipe 1 1) (light.Labels labels) → ⊥ }
+    ensures too_great { (labels : Vec Label Global) → labels.items ≡ label 2 (MAX_WITNESS_VALUE + 1) ∷ []
+        → HasKnownLabels (pipe 1 1) (light.Labels labels) → ⊥ }
 {}
 
 /// A found walk is told from what shows that there is none.

@@ -15,7 +15,7 @@ use Rattle.mono_portfolio.specs.Extended.{extended}
 use Rattle.mono_portfolio.specs.Moved.{moved}
 use Rattle.mono_portfolio.specs.TeamView.{WorkerView, TeamView, idle, worker_at, over, with_made, moved_from, after_give, IsTeam}
 use Rattle.mono_search.specs.Outcomes.{HasModel}
-use Rattle.mono_search.specs.Solving.{IsProgress}
+use Rattle.mono_steps.specs.New.{IsProgress}
 use Rattle.mono_portfolio.specs.Refusals.{refusal}
 use Rattle.mono_portfolio.specs.Plays.{Makes, Served, Answers}
 use Rattle.mono_portfolio.specs.Rounds.{IsPiece, IsRound}

@@ -1,4 +1,5 @@
--- A problem with clauses of a board of steps behind its own. Clauses are numbered as in an answer: those of the problem from 1, and then those of the board's steps.
+-- A problem with clauses of a board of steps behind its own. Clauses are numbered as in an answer: those of the problem from 1,
+-- and then those of the board's steps.
 use Rattle.std.specs.Prelude.{ℕ, ◌-◌, Bool, true, false, nat_lt, ◌||◌, ℤ, List, [], ◌++◌, length, map, slice_index_or, Option, Some, None}
 use Rattle.mono_base.specs.declared.limits.TheConstants.{MAX_CLAUSES, MAX_LITERALS}
 use Rattle.mono_problem.specs.Instance.{Instance, numbered, literals_total}

@@ -4,7 +4,8 @@ use Rattle.mono_problem.specs.Instance.{Instance}
 use Rattle.mono_steps.specs.declared.step.Step.{Step}
 use Rattle.mono_steps.specs.Renumbering.{with_numbers}
 
--- the new number of a clause of the extended problem or of a step, where the problem has c clauses and the board b steps: a number of the problem stays, the place of a taken clause becomes the taken number, and a step becomes its number on the board
+-- the new number of a clause of the extended problem or of a step, where the problem has c clauses and the board b steps: a
+-- number of the problem stays, the place of a taken clause becomes the taken number, and a step becomes its number on the board
 abbrev pub moved_number : ℕ → List ℕ → ℕ → ℕ → ℕ
 moved_number c taken b n =
     if nat_le n c then n

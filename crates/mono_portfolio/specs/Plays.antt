@@ -8,7 +8,7 @@ use Rattle.mono_portfolio.specs.declared.event.Event.{Event}
 use Rattle.mono_portfolio.specs.declared.event.Event.TheVariants as event
 use Rattle.mono_portfolio.specs.declared.event.Reply.{Reply}
 use Rattle.mono_portfolio.specs.declared.event.Reply.TheVariants as reply
-use Rattle.mono_search.specs.Solving.{IsProgress}
+use Rattle.mono_steps.specs.New.{IsProgress}
 use Rattle.mono_portfolio.specs.Refusals.{refusal}
 use Rattle.mono_portfolio.specs.TeamView.{TeamView, worker_at, over, with_worker, with_made, after_give}
 

@@ -5,7 +5,7 @@ use Rattle.mono_steps.specs.declared.step.Step.{Step}
 use Rattle.mono_steps.specs.declared.step.Step.TheVariants as step
 use Rattle.mono_portfolio.specs.Extended.{extended, passes_limits}
 use Rattle.mono_portfolio.specs.Moved.{moved}
-use Rattle.mono_search.specs.Solving.{IsProgress}
+use Rattle.mono_steps.specs.New.{IsProgress}
 
 -- a piece of the board behind what was there before: the steps of a worker that had taken these numbers and learned so many clauses
 pub record IsPiece (slice : ℕ) (p : Instance) (before : List Step) (taken : List ℕ) (piece : List Step) : Type 0 where

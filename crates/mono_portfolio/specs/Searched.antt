@@ -4,7 +4,7 @@ use Rattle.mono_problem.specs.Instance.{Instance}
 use Rattle.mono_steps.specs.Steps.{is_refutation}
 use Rattle.mono_steps.specs.declared.step.Step.{Step}
 use Rattle.mono_search.specs.Outcomes.{HasModel}
-use Rattle.mono_search.specs.Solving.{IsProgress}
+use Rattle.mono_steps.specs.New.{IsProgress}
 use Rattle.mono_portfolio.specs.declared.event.Reply.{Reply}
 use Rattle.mono_portfolio.specs.declared.event.Reply.TheVariants as reply
 

@@ -8,7 +8,7 @@ use Rattle.mono_portfolio.specs.declared.rounds.Turn.TheVariants as turn
 use Rattle.mono_portfolio.specs.Moved.{moved}
 use Rattle.mono_portfolio.specs.TeamView.{TeamView, worker_at, over, with_worker}
 use Rattle.mono_search.specs.Outcomes.{HasModel}
-use Rattle.mono_search.specs.Solving.{IsProgress}
+use Rattle.mono_steps.specs.New.{IsProgress}
 use Rattle.mono_portfolio.specs.Rounds.{IsRound, Rounds, taking, short_chains}
 
 -- a team whose workers all took these steps, and made nothing

@@ -23,10 +23,7 @@ fn positive(var: u32) -> Lit
     requires high { var ≤ MAX_VARS }
     ensures { result ≡ pos var }
 {
-    match Lit::new(var as i32) {
-        Some(lit) => lit,
-        None => unreachable!(),
-    }
+    Lit::of(var, true)
 }
 
 /// The variables of these that the worker prefers to be true, each as a literal.

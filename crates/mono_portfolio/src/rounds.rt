@@ -96,7 +96,9 @@ fn take_short<'p>(team: &mut Team<'p>, worker: u32, from: usize) -> Result<(), A
     requires idle { (worker_at team.old worker).made ≡ [] }
     requires low { All (λ n. n ≤ length team.old.problem.clauses + from) (worker_at team.old worker).taken }
     requires within { from ≤ length team.old.board }
-    ensures { OnOk result (team.new ≡ having team.old worker (taking team.old.problem team.old.board (worker_at team.old worker).taken (short_chains (length team.old.problem.clauses + from + 1) (drop from team.old.board)))) }
+    ensures { OnOk result (team.new ≡ having team.old worker
+        (taking team.old.problem team.old.board (worker_at team.old worker).taken
+        (short_chains (length team.old.problem.clauses + from + 1) (drop from team.old.board)))) }
 {
     let count = team.clause_count();
     for place in from..team.board().len() {
@@ -112,7 +114,8 @@ fn take_short_by_all<'p>(team: &mut Team<'p>, workers: u32, from: usize) -> Resu
     requires workers { workers ≡ length team.old.workers }
     requires even { IsEven team.old from }
     requires within { from ≤ length team.old.board }
-    ensures { OnOk result ((taken : List ℕ) → team.old ≡ even team.old.problem workers taken team.old.board → team.new ≡ even team.old.problem workers (taken_after team.old.problem team.old.board from taken) team.old.board) }
+    ensures { OnOk result ((taken : List ℕ) → team.old ≡ even team.old.problem workers taken team.old.board
+        → team.new ≡ even team.old.problem workers (taken_after team.old.problem team.old.board from taken) team.old.board) }
 {
     for worker in 0..workers {
         take_short(team, worker, from)?;

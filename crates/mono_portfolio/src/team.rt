@@ -110,7 +110,8 @@ impl<'p> Team<'p> {
         requires makes { MakesTheories (F.post make.now) (λ ts. facts_of T.graph T.atoms T.seen ts.items) }
         ensures ok { IfOk result (λ r. Answers self.old event r self.new) }
         ensures err { OnErr result (self.new ≡ self.old) }
-        ensures sound { IfOk result (λ r. (events : List Event) (replies : List Reply) → Plays (start self.old.problem (length self.old.workers)) events replies self.old
+        ensures sound { IfOk result (λ r. (events : List Event) (replies : List Reply)
+            → Plays (start self.old.problem (length self.old.workers)) events replies self.old
             → IsSound self.old.problem (events ++ event ∷ []) (replies ++ r ∷ []) self.new.board) }
     {
         let _ = self.problem.vars();

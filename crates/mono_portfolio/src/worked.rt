@@ -32,7 +32,8 @@ pub fn chains_by_number()
 
 /// Taken clauses stand behind the problem's own, in the order in which they were taken.
 pub fn extended_problems()
-    ensures order { extended two_clauses behind_a_lemma (4 ∷ 3 ∷ []) ≡ clauses_over 2 ((pos 1 ∷ pos 2 ∷ []) ∷ (pos 1 ∷ minus 2 ∷ []) ∷ (pos 1 ∷ []) ∷ (pos 2 ∷ []) ∷ []) }
+    ensures order { extended two_clauses behind_a_lemma (4 ∷ 3 ∷ [])
+        ≡ clauses_over 2 ((pos 1 ∷ pos 2 ∷ []) ∷ (pos 1 ∷ minus 2 ∷ []) ∷ (pos 1 ∷ []) ∷ (pos 2 ∷ []) ∷ []) }
     ensures none { extended two_clauses learned [] ≡ two_clauses }
 {}
 
@@ -91,6 +92,8 @@ pub fn refused_takings()
     ensures served { refusal two_workers (event.Take 1 4) ≡ None }
     ensures room { is_full two_workers 1 4 ≡ false }
     ensures no_room { (s : TeamView) (w n : ℕ) → passes_limits (extended s.problem s.board ((worker_at s w).taken ++ n ∷ [])) ≡ true → is_full s w n ≡ true }
-    ensures again_first { (s : TeamView) (w n : ℕ) → lacks_worker s w ≡ false → has_chain s.problem s.board n ≡ true → has_taken s w n ≡ true → is_full s w n ≡ true → refusal s (event.Take w n) ≡ Some reply.AlreadyTaken }
-    ensures full { (s : TeamView) (w n : ℕ) → lacks_worker s w ≡ false → has_chain s.problem s.board n ≡ true → has_taken s w n ≡ false → is_full s w n ≡ true → refusal s (event.Take w n) ≡ Some reply.Full }
+    ensures again_first { (s : TeamView) (w n : ℕ) → lacks_worker s w ≡ false → has_chain s.problem s.board n ≡ true → has_taken s w n ≡ true
+        → is_full s w n ≡ true → refusal s (event.Take w n) ≡ Some reply.AlreadyTaken }
+    ensures full { (s : TeamView) (w n : ℕ) → lacks_worker s w ≡ false → has_chain s.problem s.board n ≡ true → has_taken s w n ≡ false
+        → is_full s w n ≡ true → refusal s (event.Take w n) ≡ Some reply.Full }
 {}

@@ -11,7 +11,8 @@ ghost use Rattle.mono_portfolio.specs.Extended.{extended, passes_limits};
 ghost use Rattle.mono_portfolio.specs.TeamView.{WorkerView, TeamView, start, IsWorker, IsTeam};
 ghost use Rattle.mono_portfolio.specs.Plays.{Answers, Plays};
 ghost use Rattle.mono_portfolio.specs.Soundness.{given, refuted_last, IsSound, IsPlay};
-ghost use Rattle.mono_portfolio.specs.Worked.{two_clauses, two_units, first_learned, learned, some_lemma, behind_a_lemma, made, on_the_board, worker, team, two_workers, events, replies, at_end};
+ghost use Rattle.mono_portfolio.specs.Worked.{two_clauses, two_units, first_learned, learned, some_lemma, behind_a_lemma, made};
+ghost use Rattle.mono_portfolio.specs.Worked.{on_the_board, worker, team, two_workers, events, replies, at_end};
 
 use crate::laws::every_play_is_sound;
 
@@ -40,9 +41,11 @@ pub fn answers_to_runs()
 
 /// All that the worker made joins the board, and is the worker's no more.
 pub fn answers_to_gifts()
-    ensures with_lemmas { Answers (team behind_a_lemma (worker (4 ∷ []) made ∷ [])) (event.Give 0) (reply.Given 4) (team (behind_a_lemma ++ on_the_board) (worker (4 ∷ []) [] ∷ [])) }
+    ensures with_lemmas { Answers (team behind_a_lemma (worker (4 ∷ []) made ∷ [])) (event.Give 0) (reply.Given 4)
+        (team (behind_a_lemma ++ on_the_board) (worker (4 ∷ []) [] ∷ [])) }
     ensures count { (t : TeamView) → Answers two_workers (event.Give 1) (reply.Given 2) t → ⊥ }
-    ensures kept { Answers two_workers (event.Give 1) (reply.Given 1) (team (some_lemma ∷ first_learned ∷ first_learned ∷ []) (worker (4 ∷ []) [] ∷ worker [] learned ∷ [])) → ⊥ }
+    ensures kept { Answers two_workers (event.Give 1) (reply.Given 1)
+        (team (some_lemma ∷ first_learned ∷ first_learned ∷ []) (worker (4 ∷ []) [] ∷ worker [] learned ∷ [])) → ⊥ }
     ensures not_joined { Answers two_workers (event.Give 1) (reply.Given 1) (team behind_a_lemma (worker (4 ∷ []) [] ∷ worker [] [] ∷ [])) → ⊥ }
 {}
 

@@ -8,7 +8,8 @@ ghost use Rattle.mono_portfolio.specs.Rounds.{short_chains, taking, IsRound, Are
 ghost use Rattle.mono_steps.specs.WorkedLemmas.{chain};
 ghost use Rattle.mono_portfolio.specs.declared.rounds.TeamOutcome.TheVariants as outcome;
 ghost use Rattle.mono_portfolio.specs.Outcomes.{IsTeamOutcome};
-ghost use Rattle.mono_portfolio.specs.Worked.{two_clauses, two_units, first_learned, learned, behind_a_lemma, long_and_short, four_clauses, given_first, given_next};
+ghost use Rattle.mono_portfolio.specs.Worked.{two_clauses, two_units, first_learned, learned, behind_a_lemma};
+ghost use Rattle.mono_portfolio.specs.Worked.{long_and_short, four_clauses, given_first, given_next};
 
 /// Chains of at most 8 literals are taken by all, the empty one too. No lemma is.
 pub fn short_ones()

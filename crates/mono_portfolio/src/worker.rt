@@ -148,7 +148,8 @@ impl Worker {
         requires justified { IsTrue (are_justified problem.now board.now) }
         requires kept { IsKept problem.now board.now self.old }
         ensures kept { IsKept problem.now board.now self.new }
-        ensures ok { IfOk result (λ r. Tells problem.now (extended_by problem.now board.now self.old.taken) slice r self.new.made × (self.new.taken ≡ self.old.taken)) }
+        ensures ok { IfOk result (λ r. Tells problem.now (extended_by problem.now board.now self.old.taken) slice r self.new.made
+            × (self.new.taken ≡ self.old.taken)) }
         ensures err { OnErr result (shown self.new ≡ shown self.old) }
     {
         let over = self.take_over(problem, board)?;

@@ -1,5 +1,5 @@
 -- Two assignments that give the variables of a problem the same values satisfy the same.
-use Rattle.std.proofs.Common.{◌≡◌, ℕ, zero, suc, ◌<◌, ◌≤◌, Bool, not, List, [], ◌∷◌, map, get_or, All, refl, ap, subst, arith, ◌↔◌, ℤ, pos, negsuc}
+use Rattle.std.proofs.Common.{◌≡◌, ℕ, zero, suc, ◌≤◌, Bool, not, List, [], ◌∷◌, map, get_or, All, refl, ap, subst, arith, ◌↔◌, ℤ, pos, negsuc}
 use Rattle.std.specs.Prelude.{IsTrue, nat_abs}
 use Rattle.mono_base.specs.Literal.{lit_true, clause_true, all_true}
 use Rattle.mono_graph.specs.Digraph.{enabled}

@@ -46,7 +46,12 @@ impl Model for Draft {
 
     ghost view = { λ d. record { vars = d.var_count; graphs = d.graphs.entries; atoms = d.atoms.items; clauses = d.clauses } };
 
-    ghost invariant = { λ d. IsDraft (record { vars = d.var_count; graphs = d.graphs.entries; atoms = d.atoms.items; clauses = d.clauses }) d.node_count d.homes.items };
+    ghost invariant = { λ d. IsDraft (record {
+      vars = d.var_count;
+      graphs = d.graphs.entries;
+      atoms = d.atoms.items;
+      clauses = d.clauses;
+    }) d.node_count d.homes.items };
 }
 
 // The greatest variable of the literals, or `vars` where it is greater.
@@ -155,7 +160,8 @@ fn all_uses(
     atoms: &[Atom],
 ) -> Result<UseTable, AllocError>
     requires { length graphs.now.entries ≤ MAX_GRAPHS }
-    ensures { IfOk result (λ t. (x : ℕ) → chosen x t.0 t.1 ≡ picked x (uses_of_edges graphs.now.entries (length graphs.now.entries) ++ map atom_use atoms.now)) }
+    ensures { IfOk result (λ t. (x : ℕ) → chosen x t.0 t.1
+        ≡ picked x (uses_of_edges graphs.now.entries (length graphs.now.entries) ++ map atom_use atoms.now)) }
 {
     let mut all = edges_used(alloc, graphs)?;
     push_atoms(&mut all, atoms)?;

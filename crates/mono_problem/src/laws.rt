@@ -33,13 +33,16 @@ pub fn bounds_enclose_the_enabled_edges()
 
 /// Where moreover the variable of every edge has a value in the list, both are the enabled edges.
 pub fn bounds_meet_where_all_edges_are_decided()
-    ensures surely { (g : Digraph) (t : List ℤ) (a : ℕ → Bool) → IsGraph g → Extends a t → All (λ e. is_open_in t (pos e.var) ≡ false) g.edges → under g t ≡ enabled a g }
-    ensures possibly { (g : Digraph) (t : List ℤ) (a : ℕ → Bool) → IsGraph g → Extends a t → All (λ e. is_open_in t (pos e.var) ≡ false) g.edges → over g t ≡ enabled a g }
+    ensures surely { (g : Digraph) (t : List ℤ) (a : ℕ → Bool) → IsGraph g → Extends a t → All (λ e. is_open_in t (pos e.var) ≡ false) g.edges
+        → under g t ≡ enabled a g }
+    ensures possibly { (g : Digraph) (t : List ℤ) (a : ℕ → Bool) → IsGraph g → Extends a t → All (λ e. is_open_in t (pos e.var) ≡ false) g.edges
+        → over g t ≡ enabled a g }
 {}
 
 /// A literal that an atom forces under a list is true in each assignment that extends the list and agrees with the atom.
 pub fn forced_literals_are_true()
-    ensures { (g : Digraph) (x : Atom) (t : List ℤ) (l : ℤ) (a : ℕ → Bool) → IsGraph g → 0 < x.var → Extends a t → (IsTrue (a x.var) ↔ Holds g (enabled a g) x.predicate) → Forces g x t l → IsTrue (lit_true a l) }
+    ensures { (g : Digraph) (x : Atom) (t : List ℤ) (l : ℤ) (a : ℕ → Bool) → IsGraph g → 0 < x.var → Extends a t
+        → (IsTrue (a x.var) ↔ Holds g (enabled a g) x.predicate) → Forces g x t l → IsTrue (lit_true a l) }
 {}
 
 /// Where no atom forces anything beyond the list, each forced literal is true in it. The other way round too, except that
@@ -48,13 +51,16 @@ pub fn forced_literals_are_true()
 pub fn quiet_atoms_force_nothing_more()
     ensures forced { (g : Digraph) (atoms : List Atom) (t : List ℤ) → TheoryQuiet g atoms t → All (HasForcedTrue g t) atoms }
     ensures nearly { (g : Digraph) (atoms : List Atom) (t : List ℤ) → All (HasForcedTrue g t) atoms ↔ All (IsNearlyQuiet g t) atoms }
-    ensures quiet { (g : Digraph) (atoms : List Atom) (t : List ℤ) → All (λ x. ¬ ¬ Holds g (part_to_fail x.predicate g t) x.predicate → Holds g (part_to_fail x.predicate g t) x.predicate) atoms → All (HasForcedTrue g t) atoms → TheoryQuiet g atoms t }
+    ensures quiet { (g : Digraph) (atoms : List Atom) (t : List ℤ)
+        → All (λ x. ¬ ¬ Holds g (part_to_fail x.predicate g t) x.predicate → Holds g (part_to_fail x.predicate g t) x.predicate) atoms
+        → All (HasForcedTrue g t) atoms → TheoryQuiet g atoms t }
 {}
 
 /// Where the variables of all edges and of the atoms have values in a list, and no atom forces anything beyond it, the
 /// atoms agree with each assignment that extends the list.
 pub fn quiet_atoms_agree()
-    ensures { (g : Digraph) (atoms : List Atom) (t : List ℤ) (a : ℕ → Bool) → IsGraph g → Extends a t → All (λ e. is_open_in t (pos e.var) ≡ false) g.edges → All (λ x. (0 < x.var) × (is_open_in t (pos x.var) ≡ false)) atoms
+    ensures { (g : Digraph) (atoms : List Atom) (t : List ℤ) (a : ℕ → Bool) → IsGraph g → Extends a t
+        → All (λ e. is_open_in t (pos e.var) ≡ false) g.edges → All (λ x. (0 < x.var) × (is_open_in t (pos x.var) ≡ false)) atoms
         → TheoryQuiet g atoms t → All (λ x. IsTrue (a x.var) ↔ Holds g (enabled a g) x.predicate) atoms }
 {}
 

@@ -40,7 +40,12 @@ impl Model for Problem {
 
     ghost view = { λ p. record { vars = p.var_count; graphs = p.graphs.entries; atoms = p.atoms.items; clauses = p.clauses } };
 
-    ghost invariant = { λ p. IsProblem (record { vars = p.var_count; graphs = p.graphs.entries; atoms = p.atoms.items; clauses = p.clauses }) p.homes.items p.uses };
+    ghost invariant = { λ p. IsProblem (record {
+      vars = p.var_count;
+      graphs = p.graphs.entries;
+      atoms = p.atoms.items;
+      clauses = p.clauses;
+    }) p.homes.items p.uses };
 }
 
 fn lit_is_true(lit: Lit, model: &[bool]) -> bool
@@ -157,7 +162,8 @@ impl Problem {
     /// What a variable switches or stands for: the edges graph after graph, each in order, then the predicates.
     pub fn uses(&self, var: u32) -> &[Use]
         ensures uses { result.now ≡ uses_of self.now var }
-        ensures edges { (k j : ℕ) → k < length self.now.graphs → j < length (graph_at self.now k).edges → has_edge_use k j result.now ≡ ((edge_at (graph_at self.now k) j).var == var) }
+        ensures edges { (k j : ℕ) → k < length self.now.graphs → j < length (graph_at self.now k).edges
+            → has_edge_use k j result.now ≡ ((edge_at (graph_at self.now k) j).var == var) }
         ensures places { (k j : ℕ) → k < length self.now.graphs → IsTrue (has_edge_use k j result.now) → j < length (graph_at self.now k).edges }
     {
         self.uses.of(var)

@@ -1,27 +1,24 @@
 -- What a theory of reachability tells of a node.
-use Rattle.std.proofs.Common.{◌≡◌, ◌≢◌, ℤ, neg_ℤ, pos, cond, inl, inr, ℕ, ◌<◌, Bool, true, false, not, ◌&&◌, List, length, take, eqb, eq-eqb, Some, refl, sym, ap, subst, ◌∙◌, MatchOption, arith}
+use Rattle.std.proofs.Common.{◌≡◌, ◌≢◌, ℤ, cond, inl, inr, ℕ, ◌<◌, Bool, true, false, not, ◌&&◌, List, length, take, eqb, eq-eqb, Some, refl, sym, ap, subst, ◌∙◌, MatchOption}
 use Rattle.std.specs.Prelude.{IsTrue, Option, None}
 use Rattle.std.specs.List.{list_all}
 use Rattle.std.proofs.lemmas.Bool.{and_from, and_parts, both_ways, false_from_ne_true, not-true}
-use Rattle.std.proofs.lemmas.List.{take_all}
-use Rattle.mono_base.specs.Partial.{is_false_in}
-use Rattle.mono_graph.specs.Digraph.{Digraph, IsGraph, IsSubpart, edge_at, has, leads_out, places, present}
+use Rattle.mono_graph.specs.Digraph.{Digraph, IsGraph, edge_at, has, leads_out, places, present}
 use Rattle.mono_graph.specs.Walks.{is_cut, is_walk}
 use Rattle.mono_graph.proofs.CutsBoundWalks.{cut_excludes}
-use Rattle.mono_graph.proofs.Parts.{part_by-larger}
 use Rattle.mono_graph.proofs.Subparts.{is_walk-larger}
 use Rattle.mono_problem.specs.declared.atom.Atom.{Atom}
 use Rattle.mono_problem.specs.declared.atom.Predicate.{Predicate}
 use Rattle.mono_problem.specs.declared.atom.Predicate.TheVariants as kind
-use Rattle.mono_problem.specs.Holds.{falls}
 use Rattle.mono_problem.specs.Quiet.{over, under}
 use Rattle.mono_problem.specs.Read.{no_atom}
 use Rattle.mono_problem.specs.WellFormed.{IsOver}
 use Rattle.mono_theory.specs.declared.either_side.EitherSide.{EitherSide}
 use Rattle.mono_theory.specs.declared.either_side.EitherSide.TheVariants as either
 use Rattle.mono_theory.specs.EitherSides.{IsEitherKept}
-use Rattle.mono_theory.specs.RowSides.{AreRowsFor, AreUpToDate, DecidesRest, RowsView}
+use Rattle.mono_theory.specs.RowSides.{AreRowsFor, RowsView}
 use Rattle.mono_theory.specs.SureParts.{sure_parts}
+use Rattle.mono_theory.proofs.PossibleParts.{fewer_possible}
 use Rattle.mono_theory.proofs.SureEdges.{sure_all}
 use Rattle.mono_steps.specs.declared.lemma.Witness.{Witness}
 use Rattle.mono_steps.specs.declared.lemma.Witness.TheVariants as by
@@ -33,16 +30,15 @@ use Rattle.mono_theory.specs.Evidences.{Decides, shown_by}
 use Rattle.mono_theory.specs.Sound.{IsWitnessIn, evidence_at}
 use Rattle.mono_theory.specs.Stages.{NoneWaits, shows, stage_at}
 use Rattle.mono_theory.specs.Supports.{IsKeptBy, IsSide, SideView, StageIs, atom_at, facts_in, part_of}
-use Rattle.mono_theory.specs.Theories.{Facts, cut_to}
-use Rattle.mono_theory.proofs.PartsOfSides.{has_lit-take, part_len}
+use Rattle.mono_theory.specs.Theories.{Facts}
+use Rattle.mono_theory.proofs.PartsOfSides.{part_len}
 use Rattle.mono_theory.proofs.KeptEvidenceDecides.{rising_decides, rising_sign, shown_rising}
 use Rattle.mono_reach.specs.Marks.{SureMarks, AreMarksOf, first_node, last_node, shows_last, under_mark}
-use Rattle.mono_reach.specs.PossibleRows.{PossibleView, AreTargetsOf, is_cut_off}
-use Rattle.mono_reach.specs.Readings.{PossibleRowsStand, ReachView, cut_mark, found_mark, in_cut, in_kept_cut, marks_at, over_mark, possible_mark, sure_mark}
+use Rattle.mono_theory.specs.PossibleRows.{PossibleView}
+use Rattle.mono_reach.specs.Readings.{ReachView, cut_mark, found_mark, in_cut, in_kept_cut, marks_at, over_mark, possible_mark, sure_mark}
 use Rattle.mono_reach.specs.declared.marks.Marks.{Marks}
 use Rattle.mono_reach.specs.Reaches.{is_reach}
 use Rattle.mono_reach.proofs.MarksStay.{holds_reach, marked_walk, marks_decide, marks_in, reach_holds}
-use Rattle.mono_reach.proofs.LastNodesTold.{rest_is_reached}
 use Rattle.mono_reach.proofs.WalksAndCuts.{reach_rises}
 
 -- ---- with the surely present edges
@@ -71,32 +67,12 @@ found_decides g P q w v r h last = subst (Decides g P q) (sym (eq-eqb v (last_no
 
 -- ---- with the possibly present edges, where rows are kept
 
--- fewer edges are possibly present under all literals than under the first
-fewer_possible : (g : Digraph) (t : List ℤ) (n : ℕ) → IsSubpart (over g t) (over g (take n t))
-fewer_possible g t n =
-    part_by-larger (λ e. not (is_false_in t (pos e.var))) (λ e. not (is_false_in (take n t) (pos e.var))) g
-    (λ e free. ap not (false_from_ne_true (is_false_in (take n t) (pos e.var)) (λ on. both_ways (is_false_in t (pos e.var)) (not-true (is_false_in t (pos e.var)) free) (has_lit-take n t (neg_ℤ (pos e.var)) on))))
-
 -- where the first literals leave no walk to the last node, no more do all
 pub lacking_fails : (g : Digraph) (t : List ℤ) (n : ℕ) (q : Predicate) (v : ℕ) → IsTrue (is_reach q) → Decides g (part_of g (take n t) true) q (shown_by q false) → v ≡ last_node q → (walk : List ℕ) → is_walk g (over g t) (first_node q) v walk ≡ false
 lacking_fails g t n q v r fails last walk =
     false_from_ne_true (is_walk g (over g t) (first_node q) v walk) (λ on.
     subst (Decides g (over g (take n t)) q) (shown_rising q false (reach_rises q r)) fails
     (reach_holds g (over g (take n t)) q r (walk, is_walk-larger g (over g t) (over g (take n t)) (fewer_possible g t n) (first_node q) (last_node q) walk (subst (λ (u : ℕ). IsTrue (is_walk g (over g t) (first_node q) u walk)) last on))))
-
-by_lacking : (g : Digraph) (P : List Bool) (q : Predicate) (b : Bool) → falls q ≡ false → (IsTrue b → Decides g P q (shown_by q false)) → (b ≡ false → Decides g P q (shown_by q true)) → Decides g P q (not b)
-by_lacking g P q true rising fails holds = subst (Decides g P q) (shown_rising q false rising) (fails refl)
-by_lacking g P q false rising fails holds = subst (Decides g P q) (shown_rising q true rising) (holds refl)
-
--- where the rows are up to date, the atom's last node is reached unless it is known that it isn't
-pub lacking_decides : {f : Facts} {s : RowsView PossibleView} (a : ℕ) (b : Bool) → a < length f.atoms → AreRowsFor is_reach true AreTargetsOf is_cut_off f s → AreUpToDate PossibleRowsStand f s → b ≡ is_cut_off s.rows a
-    → (IsTrue b → Decides f.graph (part_of f.graph (take s.looked f.seen) true) (atom_at f.atoms a).predicate (shown_by (atom_at f.atoms a).predicate false)) → Decides f.graph (over f.graph f.seen) (atom_at f.atoms a).predicate (not b)
-lacking_decides {f = f} {s = s} a b lt h stands is fails =
-    let q = (atom_at f.atoms a).predicate in
-    let all = stands.looked in
-    let rest : DecidesRest (cut_to s.looked f) true (is_cut_off s.rows) = rest_is_reached h.covered h.rows stands.stand in
-    subst (λ (t : List ℤ). Decides f.graph (over f.graph t) q (not b)) (take_all s.looked f.seen (omega (arith, all)))
-    (by_lacking f.graph (over f.graph (take s.looked f.seen)) q b (reach_rises q (h.covered.each a no_atom lt)) fails (λ off. rest.each a lt (sym is ∙ off)))
 
 -- ---- with the possibly present edges, where searches are kept
 

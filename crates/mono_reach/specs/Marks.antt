@@ -58,10 +58,6 @@ pub record AreMarks (f : Facts) (n : ℕ) (s : SureMarks) : Type 0 where
 abbrev pub AreMarksOf : SureMarks → Facts → Type 0
 AreMarksOf s f = AreMarks f (length f.seen) s
 
--- no node is listed twice
-abbrev pub AreApart : List ℕ → Type 0
-AreApart nodes = (i j : ℕ) → i < length nodes → j < length nodes → slice_index_or nodes i 0 ≡ slice_index_or nodes j 0 → i ≡ j
-
 -- each of the first n atoms has a row, whose source is its first node
 pub record HaveRows (atoms : List Atom) (n : ℕ) (row_of sources : List ℕ) : Type 0 where
   pub len : length row_of ≡ n

@@ -13,7 +13,7 @@ use Rattle.mono_theory.specs.Stages.{shows, stage_at}
 use Rattle.mono_theory.specs.Supports.{GraphTheoryView, SideView, atom_at, facts_in}
 use Rattle.mono_theory.specs.Theories.{Facts}
 use Rattle.mono_reach.specs.Marks.{SureMarks, last_node, under_mark}
-use Rattle.mono_reach.specs.PossibleRows.{PossibleView, AreSettledRows, is_cut_off}
+use Rattle.mono_theory.specs.PossibleRows.{PossibleView, RowsStand, is_cut_off}
 use Rattle.mono_reach.specs.declared.marks.Marks.{Marks}
 
 -- whether the node is in the set of nodes that the witness is, if it is one
@@ -55,15 +55,11 @@ ReachView = GraphTheoryView (EitherSide SureMarks) (EitherSide PossibleView)
 abbrev pub marks_at : ReachView → ℕ → ℕ → Marks
 marks_at s a v = record { under = sure_mark s.surely (atom_at s.atoms a).predicate a v; over = possible_mark s.possibly (atom_at s.atoms a).predicate a v }
 
--- rows of the surely present edges are always up to date, those of the possibly present ones where it is known of each last node
--- whether it is reached
+-- rows of the surely present edges are always up to date
 abbrev pub SureRowsStand : SureMarks → Facts → Type 0
 SureRowsStand s f = Unit {0}
-
-abbrev pub PossibleRowsStand : PossibleView → Facts → Type 0
-PossibleRowsStand s f = AreSettledRows s.rows.rows
 
 -- what is kept decides each predicate with the surely present edges, and with the possibly present ones
 pub record AreBothDecided (s : ReachView) : Type 0 where
   pub surely : IsEitherDecided SureRowsStand (facts_in s) s.surely
-  pub possibly : IsEitherDecided PossibleRowsStand (facts_in s) s.possibly
+  pub possibly : IsEitherDecided RowsStand (facts_in s) s.possibly

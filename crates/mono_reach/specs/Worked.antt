@@ -1,19 +1,21 @@
 -- Small theories of reachability for the worked rows: one edge leads from node 0 to node 1, and the only atom says that node 1
 -- can be reached from node 0.
 use Rattle.std.specs.Prelude.{ℕ, Bool, true, false, pos, List, [], ◌∷◌, ◌++◌, Option, None, Some}
+use Rattle.mono_graph.specs.declared.limit.Limit.TheVariants as limit
 use Rattle.mono_graph.specs.Worked.{edge, single}
 use Rattle.mono_dynamic.specs.declared.arrival.Arrival.{Arrival}
 use Rattle.mono_dynamic.specs.Reached.{Reached}
 use Rattle.mono_dynamic.specs.Rows.{alone}
+use Rattle.mono_dynamic.specs.Ways.{ways_of}
 use Rattle.mono_steps.specs.declared.lemma.Witness.{Witness}
 use Rattle.mono_theory.specs.declared.stage.Stage.{Stage}
 use Rattle.mono_theory.specs.Bound.{Bound}
+use Rattle.mono_theory.specs.PossibleRows.{PossibleView}
 use Rattle.mono_theory.specs.Supports.{SideView}
 use Rattle.mono_theory.specs.Worked.{reaches}
 use Rattle.mono_theory.specs.declared.either_side.EitherSide.{EitherSide}
 use Rattle.mono_theory.specs.declared.either_side.EitherSide.TheVariants as side
 use Rattle.mono_reach.specs.Marks.{SureMarks}
-use Rattle.mono_reach.specs.PossibleRows.{PossibleView}
 use Rattle.mono_reach.specs.Readings.{ReachView}
 
 -- on this side, the only atom is at this stage, and this was shown of it
@@ -58,10 +60,11 @@ trees_with looked since lost arrivals = side.Rows (record {
   rows = record {
     rows = record {
       nodes = 2;
-      rows = record { tree = alone 2 1; targets = []; since = Some 0; lost = None } ∷ record { tree = from_node_0 arrivals; targets = 1 ∷ []; since = since; lost = lost } ∷ [];
+      rows = record { ways = ways_of (alone 2 1) None; targets = []; since = Some 0; lost = None }
+          ∷ record { ways = ways_of (from_node_0 arrivals) None; targets = record { node = 1; limit = limit.Free } ∷ []; since = since; lost = lost } ∷ [];
     };
     row_of = 1 ∷ [];
-    lasts = 1 ∷ [];
+    targets = record { node = 1; limit = limit.Free } ∷ [];
   };
   due = false ∷ [];
 })

@@ -5,7 +5,7 @@ ghost use Rattle.mono_graph.specs.Digraph.{Digraph};
 ghost use Rattle.mono_problem.specs.WellFormed.{IsOver};
 ghost use Rattle.mono_dynamic.specs.Rows.{IsSource};
 ghost use Rattle.mono_theory.specs.Supports.{AreCovered};
-ghost use Rattle.mono_reach.specs.Marks.{first_node, last_node, AreNodesOf, HaveRows, AreApart};
+ghost use Rattle.mono_reach.specs.Marks.{first_node, last_node, AreNodesOf, HaveRows};
 ghost use Rattle.mono_reach.specs.Reaches.{is_reach};
 
 use mono_dynamic::Sources;
@@ -60,7 +60,6 @@ pub(crate) fn last_nodes(alloc: Global, frame: &Frame) -> Result<Vec<u32>, Alloc
 pub(crate) fn sources_of(alloc: Global, frame: &Frame) -> Result<Sources<u32>, AllocError>
     requires { AreCovered is_reach frame.now.atoms }
     ensures known { IfOk result (λ s. All (IsSource frame.now.graph.nodes) s.rows.items) }
-    ensures apart { IfOk result (λ s. AreApart s.rows.items) }
     ensures rows { IfOk result (λ s. HaveRows frame.now.atoms (length frame.now.atoms) s.row_of.items s.rows.items) }
 {
     let _ = frame.atom_count();

@@ -12,7 +12,8 @@ use std::alloc::AllocError;
 /// One more literal changes no mark: rows stay as they are, with the surely present edges and with the possibly present ones.
 /// Where searches are kept, an atom whose support goes had no walk found, and no node cut off.
 pub fn literals_change_no_mark()
-    ensures { (l : ℤ) (s r : ReachView) (a v : ℕ) → r.atoms ≡ s.atoms → IsEitherKept (facts_in s) l s.surely r.surely → IsEitherKept (facts_in s) l s.possibly r.possibly → marks_at r a v ≡ marks_at s a v }
+    ensures { (l : ℤ) (s r : ReachView) (a v : ℕ) → r.atoms ≡ s.atoms → IsEitherKept (facts_in s) l s.surely r.surely
+        → IsEitherKept (facts_in s) l s.possibly r.possibly → marks_at r a v ≡ marks_at s a v }
 {}
 
 /// Asks what is forced. Where the answer is Quiet, what is kept decides each predicate, with the surely present edges and with

@@ -9,8 +9,6 @@ pub mod laws;
 mod marks;
 /// The cut nearest to a walk's last node.
 mod nearest;
-/// What is reached along the possibly present edges.
-mod possible_rows;
 /// Predicates of reachability.
 mod reach;
 /// What is reached along the surely present edges.
@@ -19,6 +17,5 @@ mod reached_rows;
 pub mod worked;
 
 pub use marks::{HasMarks, Marks};
-pub use possible_rows::PossibleRows;
 pub use reach::{Reach, ReachTheory};
 pub use reached_rows::{MOST_REACHED, ReachedRows};

@@ -9,16 +9,15 @@ ghost use Rattle.mono_theory.specs.Evidences.{Decides};
 ghost use Rattle.mono_theory.specs.Stages.{NoneWaits};
 ghost use Rattle.mono_theory.specs.Supports.{AreCovered, IsSide, atom_at};
 ghost use Rattle.mono_reach.specs.Marks.{AreMarksOf, first_node, last_node, shows_last, under_mark};
-ghost use Rattle.mono_reach.specs.PossibleRows.{AreTargetsOf, is_cut_off};
-ghost use Rattle.mono_reach.specs.Readings.{PossibleRowsStand, SureRowsStand, cut_mark, found_mark, in_cut, over_mark, possible_mark, sure_mark};
+ghost use Rattle.mono_theory.specs.PossibleRows.{AreTargetsOf, RowsStand, is_cut_off};
+ghost use Rattle.mono_reach.specs.Readings.{SureRowsStand, cut_mark, found_mark, in_cut, over_mark, possible_mark, sure_mark};
 ghost use Rattle.mono_reach.specs.Reaches.{is_reach};
 
 use crate::ends::ends_of;
-use crate::possible_rows::PossibleRows;
 use crate::reach::Reach;
 use crate::reached_rows::ReachedRows;
 use mono_steps::Witness;
-use mono_theory::{EitherSide, Frame, GraphTheory, KeptSide, Rows, RowsSide};
+use mono_theory::{EitherSide, Frame, GraphTheory, KeptSide, PossibleRows, Rows, RowsSide};
 
 /// What a theory knows of a node, for one of its atoms.
 #[derive(Clone, Copy, Debug, PartialEq, Eq)]
@@ -56,11 +55,18 @@ pub trait HasMarks {
     fn marks(&self, atom: u32, node: u32) -> Marks
         requires owned { IsSome (atom_of (facts self.now).atoms atom) }
         requires node { node < (facts self.now).graph.nodes }
-        ensures value { (place : ℕ) → place < length (facts self.now).atoms → (atom_at (facts self.now).atoms place).number ≡ atom → result ≡ marks_of self.now place node }
-        ensures under { IsTrue result.under → MatchOption (atom_of (facts self.now).atoms atom) ⊥ (λ x. (walk : List ℕ) × IsTrue (is_walk (facts self.now).graph (under (facts self.now).graph (facts self.now).seen) (first_node x.predicate) node walk)) }
-        ensures over { result.over ≡ false → MatchOption (atom_of (facts self.now).atoms atom) ⊥ (λ x. (walk : List ℕ) → is_walk (facts self.now).graph (over (facts self.now).graph (facts self.now).seen) (first_node x.predicate) node walk ≡ false) }
-        ensures decided_under { is_decided self.now → MatchOption (atom_of (facts self.now).atoms atom) ⊥ (λ x. node ≡ last_node x.predicate → Decides (facts self.now).graph (under (facts self.now).graph (facts self.now).seen) x.predicate result.under) }
-        ensures decided_over { is_decided self.now → MatchOption (atom_of (facts self.now).atoms atom) ⊥ (λ x. node ≡ last_node x.predicate → Decides (facts self.now).graph (over (facts self.now).graph (facts self.now).seen) x.predicate result.over) };
+        ensures value { (place : ℕ) → place < length (facts self.now).atoms → (atom_at (facts self.now).atoms place).number ≡ atom
+            → result ≡ marks_of self.now place node }
+        ensures under { IsTrue result.under → MatchOption (atom_of (facts self.now).atoms atom) ⊥ (λ x. (walk : List ℕ)
+            × IsTrue (is_walk (facts self.now).graph (under (facts self.now).graph (facts self.now).seen) (first_node x.predicate) node walk)) }
+        ensures over { result.over ≡ false → MatchOption (atom_of (facts self.now).atoms atom) ⊥ (λ x. (walk : List ℕ)
+            → is_walk (facts self.now).graph (over (facts self.now).graph (facts self.now).seen) (first_node x.predicate) node walk ≡ false) }
+        ensures decided_under { is_decided self.now
+            → MatchOption (atom_of (facts self.now).atoms atom) ⊥ (λ x. node ≡ last_node x.predicate
+            → Decides (facts self.now).graph (under (facts self.now).graph (facts self.now).seen) x.predicate result.under) }
+        ensures decided_over { is_decided self.now
+            → MatchOption (atom_of (facts self.now).atoms atom) ⊥ (λ x. node ≡ last_node x.predicate
+            → Decides (facts self.now).graph (over (facts self.now).graph (facts self.now).seen) x.predicate result.over) };
 }
 
 /// Whether the row of the atom at a place has the node.
@@ -69,8 +75,10 @@ fn is_in_row(side: &RowsSide<ReachedRows>, frame: &Frame, place: u32, node: u32)
     requires place { place < length frame.now.atoms }
     requires node { node < frame.now.graph.nodes }
     ensures value { result ≡ under_mark side.now.rows place node }
-    ensures reached { IsTrue result → (walk : List ℕ) × IsTrue (is_walk frame.now.graph (under frame.now.graph frame.now.seen) (first_node (atom_at frame.now.atoms place).predicate) node walk) }
-    ensures decides { AreUpToDate SureRowsStand frame.now side.now → node ≡ last_node (atom_at frame.now.atoms place).predicate → Decides frame.now.graph (under frame.now.graph frame.now.seen) (atom_at frame.now.atoms place).predicate result }
+    ensures reached { IsTrue result → (walk : List ℕ)
+        × IsTrue (is_walk frame.now.graph (under frame.now.graph frame.now.seen) (first_node (atom_at frame.now.atoms place).predicate) node walk) }
+    ensures decides { AreUpToDate SureRowsStand frame.now side.now → node ≡ last_node (atom_at frame.now.atoms place).predicate
+        → Decides frame.now.graph (under frame.now.graph frame.now.seen) (atom_at frame.now.atoms place).predicate result }
 {
     let _ = frame.seen();
     let looked = side.looked();
@@ -85,8 +93,10 @@ fn is_found(kept: &KeptSide, frame: &Frame, place: u32, node: u32) -> bool
     requires covered { AreCovered is_reach frame.now.atoms }
     requires place { place < length frame.now.atoms }
     ensures value { result ≡ found_mark kept.now (atom_at frame.now.atoms place).predicate place node }
-    ensures reached { IsTrue result → (walk : List ℕ) × IsTrue (is_walk frame.now.graph (under frame.now.graph frame.now.seen) (first_node (atom_at frame.now.atoms place).predicate) node walk) }
-    ensures decides { NoneWaits kept.now.stages → node ≡ last_node (atom_at frame.now.atoms place).predicate → Decides frame.now.graph (under frame.now.graph frame.now.seen) (atom_at frame.now.atoms place).predicate result }
+    ensures reached { IsTrue result → (walk : List ℕ)
+        × IsTrue (is_walk frame.now.graph (under frame.now.graph frame.now.seen) (first_node (atom_at frame.now.atoms place).predicate) node walk) }
+    ensures decides { NoneWaits kept.now.stages → node ≡ last_node (atom_at frame.now.atoms place).predicate
+        → Decides frame.now.graph (under frame.now.graph frame.now.seen) (atom_at frame.now.atoms place).predicate result }
 {
     let _ = frame.graph();
     let atom = frame.atom_at(place as usize);
@@ -104,8 +114,10 @@ fn is_reached(side: &EitherSide<ReachedRows>, frame: &Frame, place: u32, node: u
     requires place { place < length frame.now.atoms }
     requires node { node < frame.now.graph.nodes }
     ensures value { result ≡ sure_mark side.now (atom_at frame.now.atoms place).predicate place node }
-    ensures reached { IsTrue result → (walk : List ℕ) × IsTrue (is_walk frame.now.graph (under frame.now.graph frame.now.seen) (first_node (atom_at frame.now.atoms place).predicate) node walk) }
-    ensures decides { IsEitherDecided SureRowsStand frame.now side.now → node ≡ last_node (atom_at frame.now.atoms place).predicate → Decides frame.now.graph (under frame.now.graph frame.now.seen) (atom_at frame.now.atoms place).predicate result }
+    ensures reached { IsTrue result → (walk : List ℕ)
+        × IsTrue (is_walk frame.now.graph (under frame.now.graph frame.now.seen) (first_node (atom_at frame.now.atoms place).predicate) node walk) }
+    ensures decides { IsEitherDecided SureRowsStand frame.now side.now → node ≡ last_node (atom_at frame.now.atoms place).predicate
+        → Decides frame.now.graph (under frame.now.graph frame.now.seen) (atom_at frame.now.atoms place).predicate result }
 {
     match side {
         EitherSide::Rows(rows) => is_in_row(rows, frame, place, node),
@@ -128,8 +140,10 @@ fn is_in_reach(side: &RowsSide<PossibleRows>, frame: &Frame, place: u32, node: u
     requires right { AreRowsFor is_reach true AreTargetsOf is_cut_off frame.now side.now }
     requires place { place < length frame.now.atoms }
     ensures value { result ≡ over_mark side.now.rows (atom_at frame.now.atoms place).predicate place node }
-    ensures fails { result ≡ false → (walk : List ℕ) → is_walk frame.now.graph (over frame.now.graph frame.now.seen) (first_node (atom_at frame.now.atoms place).predicate) node walk ≡ false }
-    ensures decides { AreUpToDate PossibleRowsStand frame.now side.now → node ≡ last_node (atom_at frame.now.atoms place).predicate → Decides frame.now.graph (over frame.now.graph frame.now.seen) (atom_at frame.now.atoms place).predicate result }
+    ensures fails { result ≡ false → (walk : List ℕ)
+        → is_walk frame.now.graph (over frame.now.graph frame.now.seen) (first_node (atom_at frame.now.atoms place).predicate) node walk ≡ false }
+    ensures decides { AreUpToDate RowsStand frame.now side.now → node ≡ last_node (atom_at frame.now.atoms place).predicate
+        → Decides frame.now.graph (over frame.now.graph frame.now.seen) (atom_at frame.now.atoms place).predicate result }
 {
     let _ = frame.seen();
     let atom = frame.atom_at(place as usize);
@@ -150,8 +164,10 @@ fn is_uncut(kept: &KeptSide, frame: &Frame, place: u32, node: u32) -> bool
     requires covered { AreCovered is_reach frame.now.atoms }
     requires place { place < length frame.now.atoms }
     ensures value { result ≡ cut_mark kept.now place node }
-    ensures fails { result ≡ false → (walk : List ℕ) → is_walk frame.now.graph (over frame.now.graph frame.now.seen) (first_node (atom_at frame.now.atoms place).predicate) node walk ≡ false }
-    ensures decides { NoneWaits kept.now.stages → node ≡ last_node (atom_at frame.now.atoms place).predicate → Decides frame.now.graph (over frame.now.graph frame.now.seen) (atom_at frame.now.atoms place).predicate result }
+    ensures fails { result ≡ false → (walk : List ℕ)
+        → is_walk frame.now.graph (over frame.now.graph frame.now.seen) (first_node (atom_at frame.now.atoms place).predicate) node walk ≡ false }
+    ensures decides { NoneWaits kept.now.stages → node ≡ last_node (atom_at frame.now.atoms place).predicate
+        → Decides frame.now.graph (over frame.now.graph frame.now.seen) (atom_at frame.now.atoms place).predicate result }
 {
     let _ = frame.graph();
     match kept.shown_witness(place) {
@@ -167,8 +183,10 @@ fn is_possible(side: &EitherSide<PossibleRows>, frame: &Frame, place: u32, node:
     requires covered { AreCovered is_reach frame.now.atoms }
     requires place { place < length frame.now.atoms }
     ensures value { result ≡ possible_mark side.now (atom_at frame.now.atoms place).predicate place node }
-    ensures fails { result ≡ false → (walk : List ℕ) → is_walk frame.now.graph (over frame.now.graph frame.now.seen) (first_node (atom_at frame.now.atoms place).predicate) node walk ≡ false }
-    ensures decides { IsEitherDecided PossibleRowsStand frame.now side.now → node ≡ last_node (atom_at frame.now.atoms place).predicate → Decides frame.now.graph (over frame.now.graph frame.now.seen) (atom_at frame.now.atoms place).predicate result }
+    ensures fails { result ≡ false → (walk : List ℕ)
+        → is_walk frame.now.graph (over frame.now.graph frame.now.seen) (first_node (atom_at frame.now.atoms place).predicate) node walk ≡ false }
+    ensures decides { IsEitherDecided RowsStand frame.now side.now → node ≡ last_node (atom_at frame.now.atoms place).predicate
+        → Decides frame.now.graph (over frame.now.graph frame.now.seen) (atom_at frame.now.atoms place).predicate result }
 {
     match side {
         EitherSide::Rows(rows) => is_in_reach(rows, frame, place, node),

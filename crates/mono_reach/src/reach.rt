@@ -11,15 +11,16 @@ ghost use Rattle.mono_theory.specs.Evidences.{IsEvidence};
 ghost use Rattle.mono_reach.specs.Reaches.{cut_evidence as cut_evidence_of};
 
 use crate::nearest::widened_for;
-use crate::possible_rows::PossibleRows;
 use crate::reached_rows::ReachedRows;
 use mono_base::Row;
-use mono_graph::{Graph, Part};
+use mono_graph::{Graph, Limit, Part};
 use mono_paths::{PathOrCut, WalkFinder};
 use mono_problem::Predicate;
 use mono_steps::Witness;
 use mono_theory::walks::walk_evidence;
-use mono_theory::{EitherSide, Evidence, GraphTheory, Kind, NodeMarks};
+use mono_theory::{
+    Asked, AsksWalk, EitherSide, Evidence, GraphTheory, Kind, NodeMarks, PossibleRows,
+};
 use std::alloc::{AllocError, Global};
 use std::marker::Model;
 
@@ -145,6 +146,19 @@ impl Kind for Reach {
                 to,
                 nodes,
             ),
+        }
+    }
+}
+
+impl AsksWalk for Reach {
+    fn asked(predicate: Predicate) -> Asked {
+        match predicate {
+            Predicate::Reach { from, to } => Asked {
+                from,
+                to,
+                limit: Limit::Free,
+            },
+            _ => unreachable!(),
         }
     }
 }

@@ -5,11 +5,10 @@
 //! holds with the surely present edges exactly where its last node is reached, and the walk to it that is kept shows this
 //! for as many literals as it needed. So neither asks for a search.
 
-ghost use Rattle.std.specs.Prelude.{◌≡◌, ◌+◌, ◌<◌, ◌≤◌, ◌^◌, ℕ, List, All, length, IfOk, IfSome, IsTrue, OnErr, OnOk};
+ghost use Rattle.std.specs.Prelude.{◌≡◌, ◌+◌, ◌<◌, ◌^◌, ℕ, List, All, length, IfOk, IfSome, IsTrue, OnErr, OnOk};
 ghost use Rattle.std.specs.List.{AllZip};
 ghost use Rattle.mono_graph.specs.Digraph.{has};
 ghost use Rattle.mono_dynamic.specs.Arrivals.{after, reached};
-ghost use Rattle.mono_dynamic.specs.Reached.{Reached};
 ghost use Rattle.mono_dynamic.specs.Rows.{row_at, IsGrownRow, IsRow};
 ghost use Rattle.mono_graph.specs.Walks.{is_walk};
 ghost use Rattle.mono_theory.specs.Bound.{edge_vars};
@@ -21,11 +20,11 @@ ghost use Rattle.mono_reach.specs.Marks.{AreMarks, first_node, row_of_atom, unde
 
 use crate::ends::{ends_of, last_nodes, sources_of};
 use crate::reach::Reach;
-use mono_base::Lit;
+use mono_base::{Lit, Worklist};
 use mono_dynamic::{BySource, ReachedNodes, Sources};
 use mono_graph::Graph;
 use mono_theory::walks::walk_evidence;
-use mono_theory::{AtomsByNode, Bounds, Due, Evidence, Frame, Rows};
+use mono_theory::{AtomsByNode, Bounds, Evidence, Frame, Rows};
 use std::alloc::{AllocError, Global};
 use std::marker::Model;
 
@@ -53,9 +52,9 @@ impl Model for ReachedRows {
 }
 
 /// Puts the atoms in `due` whose last nodes were reached after the first `looked` steps.
-fn put_due(lasts: &AtomsByNode, row: &ReachedNodes, looked: u32, due: &mut Due)
-    requires { length due.old ≡ length lasts.now }
-    ensures { PutsNodes lasts.now (reached (after looked row.now.arrivals)) due.old due.new }
+fn put_due(lasts: &AtomsByNode, row: &ReachedNodes, looked: u32, due: &mut Worklist)
+    requires { length due.old.listed ≡ length lasts.now }
+    ensures { PutsNodes lasts.now (reached (after looked row.now.arrivals)) due.old.listed due.new.listed }
 {
     for arrival in row.arrivals_after(looked) {
         lasts.insert(arrival.node, due);
@@ -63,9 +62,9 @@ fn put_due(lasts: &AtomsByNode, row: &ReachedNodes, looked: u32, due: &mut Due)
 }
 
 /// So it is in each row.
-fn put_each_due(lasts: &AtomsByNode, rows: &BySource<ReachedNodes>, looked: u32, due: &mut Due)
-    requires { length due.old ≡ length lasts.now }
-    ensures { PutsRows lasts.now (λ i. reached (after looked (row_at rows.now i).arrivals)) (length rows.now) due.old due.new }
+fn put_each_due(lasts: &AtomsByNode, rows: &BySource<ReachedNodes>, looked: u32, due: &mut Worklist)
+    requires { length due.old.listed ≡ length lasts.now }
+    ensures { PutsRows lasts.now (λ i. reached (after looked (row_at rows.now i).arrivals)) (length rows.now) due.old.listed due.new.listed }
 {
     for i in 0..rows.count() {
         put_due(lasts, rows.row(i), looked, due);
@@ -85,7 +84,8 @@ impl ReachedRows {
         requires looked { looked + 1 < 2 ^ 32 }
         requires vars { bounds.now.vars ≡ edge_vars graph.now }
         ensures same { OnOk result (self.new ≡ record self.old { rows = self.new.rows }) }
-        ensures grown { OnOk result ((ks : List ℕ) × ArePlacesOf bounds.now.vars var ks × AllZip (IsGrownRow graph.now bounds.now.under ks (looked + 1)) self.old.rows self.new.rows) }
+        ensures grown { OnOk result ((ks : List ℕ) × ArePlacesOf bounds.now.vars var ks
+            × AllZip (IsGrownRow graph.now bounds.now.under ks (looked + 1)) self.old.rows self.new.rows) }
         ensures unchanged { OnErr result (self.new ≡ self.old) }
     {
         let _ = graph.nodes();
@@ -130,7 +130,9 @@ impl ReachedRows {
         requires right { AreMarks frame.now looked self.now }
         requires place { place < length frame.now.atoms }
         requires node { node < frame.now.graph.nodes }
-        ensures { IfOk result (λ found. IfSome found (λ walk. IsTrue (is_walk frame.now.graph (sure_parts frame.now kept) (first_node (atom_at frame.now.atoms place).predicate) node walk.items))) }
+        ensures { IfOk result (λ found. IfSome found
+            (λ walk. IsTrue (is_walk frame.now.graph (sure_parts frame.now kept)
+            (first_node (atom_at frame.now.atoms place).predicate) node walk.items))) }
     {
         let _ = (frame.seen(), looked);
         let row = self.row(place);
@@ -188,7 +190,7 @@ impl Rows<Reach> for ReachedRows {
         bounds: &Bounds,
         looked: usize,
         lit: Lit,
-        due: &mut Due,
+        due: &mut Worklist,
     ) -> Result<(), AllocError> {
         let _ = frame.seen();
         // The variable of a literal isn't 0.
@@ -207,7 +209,7 @@ impl Rows<Reach> for ReachedRows {
         frame: &Frame,
         bounds: &Bounds,
         looked: usize,
-        due: &mut Due,
+        due: &mut Worklist,
     ) -> Result<(), AllocError> {
         let _ = frame.seen();
         Ok(())

@@ -28,7 +28,8 @@ pub fn nodes_known_to_be_cut_off()
     ensures waits { (marks_at (keeping (rows_with 1 []) (cut_off stage.Waits (Some (by.Cut (0 ∷ []))))) 0 1).over ≡ true }
     ensures no_set { (marks_at (keeping (rows_with 1 []) (cut_off (stage.Forcing 1) (Some (by.Path [])))) 0 1).over ≡ true }
     ensures nothing_shown { (marks_at (keeping (rows_with 1 []) (cut_off (stage.Forcing 1) None)) 0 1).over ≡ true }
-    ensures undecided { (marks_at (keeping (rows_with 1 []) (side.Searches (lazily (showing true (stage.Forcing 1) (Some (by.Cut (0 ∷ []))))))) 0 1).over ≡ true }
+    ensures undecided { (marks_at (keeping (rows_with 1 [])
+        (side.Searches (lazily (showing true (stage.Forcing 1) (Some (by.Cut (0 ∷ []))))))) 0 1).over ≡ true }
 {}
 
 /// Where rows are kept, the last node of an atom is known to be cut off where the last search didn't find it, also after an edge

@@ -9,7 +9,7 @@ pub mod ConcernTables
 pub mod AskedConcerns
 pub mod Sweeps
 pub mod QuietOthers
-pub mod Worklists
+pub mod ListedCounts
 pub mod TakenBack
 pub mod Owners
 pub mod KnownOwners

@@ -4,8 +4,7 @@ use Rattle.std.proofs.lemmas.Bool.{cases_eq, both_ways, ne_eqb}
 use Rattle.std.proofs.lemmas.List.{ext_get_or, length-set, length-map, length-replicate, get_or-map, get_or-replicate, get_or-set_same, get_or-set_other, get_or_default, take_all}
 use Rattle.mono_graph.specs.Digraph.{has}
 use Rattle.mono_theory.specs.Theories.{Facts}
-use Rattle.mono_search.specs.TheoryLists.{concerning, with_seen, without_last, IsCurrent, IsQuietTheory, OthersAreQuiet}
-use Rattle.mono_search.specs.Worklists.{AreListed}
+use Rattle.mono_search.specs.TheoryLists.{AreListed, concerning, with_seen, without_last, IsCurrent, IsQuietTheory, OthersAreQuiet}
 use Rattle.mono_search.proofs.ConcernTables.{taken, IsTaken}
 use Rattle.mono_search.proofs.Sweeps.{tail_is}
 

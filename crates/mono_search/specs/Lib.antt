@@ -1,6 +1,5 @@
 pub mod Stored
 pub mod Updates
-pub mod Worklists
 pub mod TheoryLists
 pub mod Theories
 pub mod State

@@ -51,6 +51,12 @@ pub record OthersAreQuiet (fs : List Facts) (listed : List Bool) : Type 0 where
   pub count : length listed ≡ length fs
   pub quiet : (i : ℕ) (f : Facts) → i < length fs → slice_index_or listed i false ≡ false → IsQuietTheory (slice_index_or fs i f)
 
+-- the theories that were listed still are, and so are those for which something is counted
+pub record AreListed (counts : List ℕ) (old new : List Bool) : Type 0 where
+  pub as_many : length new ≡ length old
+  pub stay : (p : ℕ) → IsTrue (slice_index_or old p false) → IsTrue (slice_index_or new p false)
+  pub counted : (p : ℕ) → 0 < slice_index_or counts p 0 → IsTrue (slice_index_or new p false)
+
 -- ---- what concerns whom
 
 -- the theories that the variable concerns, by their places, which count from n

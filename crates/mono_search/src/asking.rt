@@ -5,7 +5,7 @@ ghost use Rattle.mono_theory.specs.Owners.{fact_of, facts_of};
 ghost use Rattle.mono_search.specs.TheoryLists.{IsQuietTheory, OthersAreQuiet, AreOwners, IsShort, IsAnswer, ForcesIt};
 
 use crate::theories::Forced;
-use crate::worklist::Worklist;
+use mono_base::Worklist;
 use mono_theory::{Force, Theory};
 use std::alloc::AllocError;
 

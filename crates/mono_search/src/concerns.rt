@@ -8,7 +8,7 @@ ghost use Rattle.mono_base.specs.declared.limits.TheConstants.{MAX_VARS};
 ghost use Rattle.mono_theory.specs.Owners.{fact_of, facts_of};
 ghost use Rattle.mono_search.specs.TheoryLists.{IsConcernTable, AddsTheory, AddsPlace};
 
-use mono_graph::Buckets;
+use mono_base::Buckets;
 use mono_theory::Theory;
 use std::alloc::{AllocError, Global};
 

@@ -7,8 +7,7 @@ ghost use Rattle.mono_base.specs.Partial.{is_open_in};
 ghost use Rattle.mono_theory.specs.Owners.{facts_of};
 ghost use Rattle.mono_search.specs.TheoryLists.{concerned_from, OthersAreQuiet, handed_on};
 
-use crate::worklist::Worklist;
-use mono_base::Lit;
+use mono_base::{Lit, Worklist};
 use mono_theory::Theory;
 
 /// Hands a literal to the theories that it concerns, which stand at these places. They are to be asked what they force.

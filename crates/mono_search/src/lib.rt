@@ -42,8 +42,6 @@ mod theories;
 mod undoing;
 /// Worked rows of the definitions.
 pub mod worked;
-/// Which theories are to be asked what they force.
-mod worklist;
 
 pub use search::{Outcome, Search};
 pub use solving::{Solved, solve, solve_preferring};

@@ -2,15 +2,14 @@
 
 ghost use Rattle.std.specs.Prelude.{◌≡◌, ◌≤◌, ℕ, [], IfOk, IsTrue, All};
 ghost use Rattle.mono_base.specs.Literal.{IsLitWithin};
-ghost use Rattle.mono_problem.specs.Instance.{Instance};
 ghost use Rattle.mono_steps.specs.Steps.{is_refutation};
 ghost use Rattle.mono_theory.specs.Owners.{facts_of};
-ghost use Rattle.mono_search.specs.Solving.{MakesTheories, IsSolved, IsProgress};
+ghost use Rattle.mono_search.specs.Solving.{MakesTheories, IsSolved};
 
 use crate::search::{Outcome, Search};
 use mono_base::{Lit, Row};
 use mono_problem::Problem;
-use mono_steps::{Journal, Step, copy_steps};
+use mono_steps::{Journal, Step};
 use mono_theory::Theory;
 use std::alloc::{AllocError, Global};
 
@@ -58,26 +57,27 @@ pub fn solve_preferring<T: Theory, F: Fn(&Problem) -> Result<Vec<T>, AllocError>
     let theories = make(problem)?;
     let mut search = Search::new(alloc, problem, theories)?;
     search.prefer(signs);
-    solved_by(alloc, problem, &mut search, budget)
+    solved_by(problem, search, budget)
 }
 
-/// What a new search comes to. It only borrows the search, so that dropping it, a large value, is written out once.
+/// What a new search comes to. It gives its journal away, so progress is no copy of the steps.
 fn solved_by<T: Theory>(
-    alloc: Global,
     problem: &Problem,
-    search: &mut Search<'_, T>,
+    mut search: Search<'_, T>,
     budget: u64,
 ) -> Result<Solved, AllocError>
     requires budget { 1 ≤ budget }
-    requires live { IsTrue search.old.live }
-    requires problem { search.old.problem ≡ problem.now }
-    requires steps { search.old.steps ≡ [] }
+    requires live { IsTrue search.live }
+    requires problem { search.problem ≡ problem.now }
+    requires steps { search.steps ≡ [] }
     ensures { IfOk result (IsSolved problem.now budget) }
 {
-    match search.run(budget)? {
+    let outcome = search.run(budget)?;
+    let journal = search.into_journal();
+    match outcome {
         Outcome::Sat(values) => Ok(Solved::Model(values)),
-        Outcome::Unsat => refutation(problem, search.journal()),
-        Outcome::Unknown => progress(alloc, search.journal()),
+        Outcome::Unsat => refutation(problem, &journal),
+        Outcome::Unknown => Ok(Solved::Progress(Row::from_vec(journal.into_steps()))),
     }
 }
 
@@ -88,12 +88,4 @@ fn refutation(problem: &Problem, journal: &Journal) -> Result<Solved, AllocError
 {
     let steps = journal.trim(problem)?;
     Ok(Solved::Refutation(Row::from_vec(steps)))
-}
-
-/// The progress: a copy of all steps that were made, lemmas too.
-fn progress(alloc: Global, journal: &Journal) -> Result<Solved, AllocError>
-    ensures { (p : Instance) (budget : ℕ) → IsProgress p budget journal.now → IfOk result (IsSolved p budget) }
-{
-    let steps = copy_steps(alloc, journal.steps())?;
-    Ok(Solved::Progress(Row::from_vec(steps)))
 }

@@ -18,9 +18,7 @@ use crate::concerns::concern_table;
 use crate::explaining::{explain_by_owner, no_owners};
 use crate::handing::hand_to;
 use crate::undoing::{no_counts, undo_each_to};
-use crate::worklist::Worklist;
-use mono_base::Lit;
-use mono_graph::Buckets;
+use mono_base::{Buckets, Lit, Worklist};
 use mono_learn::Explainer;
 use mono_problem::Problem;
 use mono_steps::Lemma;
@@ -47,7 +45,8 @@ pub struct Theories<'p, T: Theory> {
     owners: Vec<Option<usize>>,
     /// By place of a theory, 0: room to count the literals that are taken back from it.
     counts: Vec<usize>,
-    /// The theories that are to be asked what they force.
+    /// The theories that are to be asked what they force, by their places: all that aren't known to be quiet. A theory joins
+    /// when it is handed a literal and when literals are taken back from it, and leaves when it has nothing to force.
     worklist: Worklist,
     /// So many literals of the trail were handed on.
     handed: usize,

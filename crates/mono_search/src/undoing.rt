@@ -5,12 +5,9 @@ ghost use Rattle.std.specs.Prelude.{◌≡◌, ℕ, ◌^◌, ◌+◌, ◌<◌, �
 ghost use Rattle.mono_base.specs.Literal.{IsLitWithin};
 ghost use Rattle.mono_theory.specs.Owners.{fact_of, facts_of};
 ghost use Rattle.mono_search.specs.Updates.{update_all, CanUpdate};
-ghost use Rattle.mono_search.specs.TheoryLists.{concerning, IsConcernTable, OthersAreQuiet, with_seen, without_last, IsCurrent};
-ghost use Rattle.mono_search.specs.Worklists.{AreListed};
+ghost use Rattle.mono_search.specs.TheoryLists.{AreListed, concerning, IsConcernTable, OthersAreQuiet, with_seen, without_last, IsCurrent};
 
-use crate::worklist::Worklist;
-use mono_base::Lit;
-use mono_graph::Buckets;
+use mono_base::{Buckets, Lit, Worklist};
 use mono_theory::Theory;
 use std::alloc::{AllocError, Global};
 

@@ -13,9 +13,9 @@ use Rattle.mono_steps.specs.Chains.{chain_end}
 use Rattle.mono_steps.specs.declared.step.Step.{Step}
 use Rattle.mono_steps.specs.declared.step.Step.TheVariants as step
 use Rattle.mono_steps.specs.Needed.{is_set}
-use Rattle.mono_steps.specs.Renumbering.{pick, rank, has_number, names_step, names_number, with_numbers, steps_with_numbers, KeepsNamed, MayBeCarried}
+use Rattle.mono_steps.specs.Renumbering.{pick, rank, has_number, with_numbers, steps_with_numbers, KeepsNamed, MayBeCarried}
 use Rattle.mono_steps.specs.Steps.{clause_of, is_justified_step, are_justified_after, are_justified, is_empty_chain, ends_empty, is_refutation}
-use Rattle.mono_steps.specs.Witnesses.{is_shown, justifies, justifies_by}
+use Rattle.mono_steps.specs.Witnesses.{is_shown, justifies}
 use Rattle.mono_steps.proofs.StepLists.{numbered_more, numbered_is}
 use Rattle.mono_steps.proofs.Ranks.{rank_step, rank_skip, rank_less, rank_zero}
 

@@ -114,7 +114,8 @@ is_lit_in (m ∷ t) l p h =
       | inr e ↦ is_lit_in t l j.rest e
     ]
 
--- a clause whose literals but one are false before a place, while that one is false from the place on, is new where all is quiet before the place
+-- a clause whose literals but one are false before a place, while that one is false from the place on, is new where all is
+-- quiet before the place
 pub learned_is_new : (known : List (List ℤ)) (t c : List ℤ) (start place : ℕ) → IsTrue (is_partial t) → start ≤ place → place < length t → IsTrue (has_lit c (neg_ℤ (lit_at t place)))
     → ((m : ℤ) → IsTrue (has_lit c m) → (m ≡ neg_ℤ (lit_at t place) → ⊥) → IsTrue (is_false_in (take start t) m)) → IsTrue (unit_quiet known (take start t))
     → IsNewClause known c

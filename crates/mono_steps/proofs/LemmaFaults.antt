@@ -29,7 +29,8 @@ length-part_for c g w = by_word (rests_on_present w)
 needed_passes : (g : Digraph) (x : Atom) (c : List ℤ) (w : Witness) → IsTrue (shows_clause g x c w) → IsTrue (passes g (easiest_part g w) x.predicate w)
 needed_passes g x c w h = passes_over_easiest g (part_for c g w) x.predicate w (length-part_for c g w) (and_parts (has_lit c (predicate_literal x w)) (passes g (part_for c g w) x.predicate w) h).1
 
--- the checks by their results: the word serves, the variables and what the witness names are known, the witness can pass, the clause has what it needs
+-- the checks by their results: the word serves, the variables and what the witness names are known, the witness can pass, the
+-- clause has what it needs
 abbrev checked : Bool → Bool → Bool → Bool → Bool → Option StepFault
 checked s v k b o = first_failed ((not s, fault.WrongKind) ∷ (not v || not k, fault.UnknownNumber) ∷ (not b, fault.WitnessFails) ∷ (not o, fault.MissingLiteral) ∷ [])
 

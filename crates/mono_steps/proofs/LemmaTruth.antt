@@ -62,7 +62,8 @@ on_by p a c x names f h =
     let off : not (a x) ≡ false = sym (neg_true a x positive) ∙ false_lit a c (neg_ℤ (pos x)) f h in
     true_from_ne_false (a x) (λ e. both_ways (not (a x)) off (not_from_false (a x) e))
 
--- where a clause is false, the edges whose negated variable it has are enabled, and the enabled ones are among those whose variable it lacks
+-- where a clause is false, the edges whose negated variable it has are enabled, and the enabled ones are among those whose
+-- variable it lacks
 part_not-enabled : (p : Instance) (a : ℕ → Bool) (c : List ℤ) (g : Digraph) → IsTrue (names_vars p c) → clause_true a c ≡ false → IsSubpart (part_not c g) (enabled a g)
 part_not-enabled p a c g names f = part_by-larger (λ e. has_lit c (neg_ℤ (pos e.var))) (λ e. a e.var) g (λ e h. on_by p a c e.var names f h)
 

@@ -1,5 +1,5 @@
 -- The needed steps of a refutation, renumbered, are a refutation.
-use Rattle.std.proofs.Common.{◌≡◌, ℕ, zero, suc, ◌+◌, ◌-◌, ◌<◌, ◌≤◌, Bool, true, false, ◌&&◌, List, [], ◌∷◌, ◌++◌, length, map, None, Some, refl, sym, ap, subst, ◌∙◌, ℤ, arith}
+use Rattle.std.proofs.Common.{◌≡◌, ℕ, zero, suc, ◌+◌, ◌-◌, ◌<◌, Bool, false, ◌&&◌, List, [], ◌∷◌, ◌++◌, length, map, None, Some, refl, sym, ap, subst, ◌∙◌, ℤ, arith}
 use Rattle.std.specs.Prelude.{IsTrue, slice_get, option_map}
 use Rattle.std.proofs.lemmas.Bool.{and_parts}
 use Rattle.std.proofs.lemmas.Option.{same_Some, slice_get-map}
@@ -10,10 +10,10 @@ use Rattle.mono_steps.specs.Chains.{chain_end}
 use Rattle.mono_steps.specs.declared.lemma.Lemma.{Lemma}
 use Rattle.mono_steps.specs.declared.step.Step.{Step}
 use Rattle.mono_steps.specs.declared.step.Step.TheVariants as step
-use Rattle.mono_steps.specs.Needed.{is_set, IsNeeded, AreNumbers}
-use Rattle.mono_steps.specs.Renumbering.{pick, rank, has_number, names_step, names_number, steps_with_numbers, IsTable, KeepsNamed, MayBeCarried}
+use Rattle.mono_steps.specs.Needed.{IsNeeded, AreNumbers}
+use Rattle.mono_steps.specs.Renumbering.{pick, rank, has_number, names_step, IsTable, MayBeCarried}
 use Rattle.mono_steps.specs.Steps.{clause_of, is_justified_step, are_justified_after, are_justified, ends_empty, is_refutation}
-use Rattle.mono_steps.specs.Trimmed.{renumbered, renumber_step, trimmed_steps, IsNamedLater, IsTrimmed}
+use Rattle.mono_steps.specs.Trimmed.{renumbered, renumber_step, trimmed_steps, IsNamedLater, IsTrimRefutation, IsTrimmed}
 use Rattle.mono_steps.specs.Witnesses.{is_shown, justifies_by}
 use Rattle.mono_problem.specs.declared.atom.Atom.{Atom}
 use Rattle.mono_steps.proofs.CarriedSteps.{carried_refutes}
@@ -97,11 +97,11 @@ trimmed_is p needed old new r h e =
     let c = length p.clauses in
     let a = and_parts (are_justified p old) (ends_empty old) r in
     let refutes : IsTrue (is_refutation p (trimmed_steps c needed old)) = carried_refutes p p needed (renumbered c needed) old (needed_carried p needed old a.0 h) h.as_many h.last r in
+    let trim : IsTrimRefutation p (trimmed_steps c needed old) = record { refutes = refutes; named = named_trimmed c needed old h } in
     record {
       needed = needed;
       as_many = h.as_many;
       closed = λ j k s on at named. h.closed j k s (omega arith) on at named;
       is = e;
-      refutes = subst (λ (ss : List Step). IsTrue (is_refutation p ss)) (sym e) refutes;
-      named = λ k lt. subst (λ (ss : List Step). IsNamedLater c ss k) (sym e) (named_trimmed c needed old h k (subst (λ (ss : List Step). k + 1 < length ss) e lt));
+      trim = subst (λ (ss : List Step). IsTrimRefutation p ss) (sym e) trim;
     }

@@ -1,4 +1,5 @@
--- Chains as steps: what justifies one, and what is wrong with one. `earlier` are all clauses before a chain, those of the problem and then those of the earlier steps; they are numbered from 1.
+-- Chains as steps: what justifies one, and what is wrong with one. `earlier` are all clauses before a chain, those of the
+-- problem and then those of the earlier steps; they are numbered from 1.
 use Rattle.std.specs.Prelude.{ℕ, Bool, false, not, ◌&&◌, ◌||◌, nat_le, ℤ, List, [], ◌∷◌, length, filter_map, Option, Some, None, is_none}
 use Rattle.std.specs.List.{list_all}
 use Rattle.mono_base.specs.Literal.{var_of, within}
@@ -26,7 +27,8 @@ abbrev pub covers : List ℤ → Option (List ℤ) → Bool
 covers c None = false
 covers c (Some e) = within e c
 
--- the chain's literals are over the problem's variables, it names one or more earlier clauses and no others, it has an end, and its clause contains that end
+-- the chain's literals are over the problem's variables, it names one or more earlier clauses and no others, it has an end, and
+-- its clause contains that end
 abbrev pub is_justified_chain : Instance → List (List ℤ) → Chain → Bool
 is_justified_chain p earlier c = names_vars p c.clause && names_clauses earlier c.used && covers c.clause (chain_end (clauses_named earlier c.used))
 

@@ -3,7 +3,8 @@ use Rattle.std.specs.Prelude.{ℕ, ◌&&◌, ◌==◌, ℤ, pos, neg_ℤ, if◌t
 use Rattle.std.specs.List.{list_all}
 use Rattle.mono_base.specs.Literal.{has_lit, var_of, without}
 
--- a variable clashes in two clauses where one has it and the other has its negation: the literals of the second clause whose negation is in the first
+-- a variable clashes in two clauses where one has it and the other has its negation: the literals of the second clause whose
+-- negation is in the first
 abbrev pub clashing : List ℤ → List ℤ → List ℤ
 clashing c d = filter (λ l. has_lit c (neg_ℤ l)) d
 
@@ -12,7 +13,8 @@ abbrev pub only_var : List ℤ → Option ℕ
 only_var [] = None
 only_var (l ∷ ls) = if list_all (λ m. var_of m == var_of l) ls then Some (var_of l) else None
 
--- what is left of two clauses that clash in x: the first without x and the second without -x, where these are there, or else the other way round
+-- what is left of two clauses that clash in x: the first without x and the second without -x, where these are there, or else
+-- the other way round
 abbrev pub joined_at : List ℤ → List ℤ → ℕ → List ℤ
 joined_at c d x =
     if has_lit c (pos x) && has_lit d (neg_ℤ (pos x)) then without c (pos x) ++ without d (neg_ℤ (pos x))

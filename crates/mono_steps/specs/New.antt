@@ -1,5 +1,7 @@
--- New learned clauses: each is exactly the end of its chain, and unit propagation over the clauses known before doesn't give it. `all` are all clauses before a step, numbered from 1; `known` are those of the problem and of the chains before, without those of lemmas.
-use Rattle.std.specs.Prelude.{◌≡◌, Bool, ℤ, List, [], ◌∷◌, ◌++◌, Some, IsTrue}
+-- New learned clauses: each is exactly the end of its chain, and unit propagation over the clauses known before doesn't give
+-- it. `all` are all clauses before a step, numbered from 1; `known` are those of the problem and of the chains before, without
+-- those of lemmas.
+use Rattle.std.specs.Prelude.{◌≡◌, ℕ, ◌<◌, ◌^◌, Bool, ℤ, List, [], ◌∷◌, ◌++◌, Some, IsTrue}
 use Rattle.std.specs.List.{list_any}
 use Rattle.mono_base.specs.Literal.{is_lit, has_lit, within}
 use Rattle.mono_base.specs.Partial.{is_partial, is_open_in, others_false, unit_quiet}
@@ -10,8 +12,8 @@ use Rattle.mono_steps.specs.declared.step.Step.TheVariants as step
 use Rattle.mono_steps.specs.Chains.{chain_end}
 use Rattle.mono_steps.specs.ChainSteps.{names_clauses, clauses_named}
 use Rattle.mono_steps.specs.Current.{IsSetOf}
-use Rattle.mono_steps.specs.Journals.{has_no_empty}
-use Rattle.mono_steps.specs.Steps.{is_full_chain}
+use Rattle.mono_steps.specs.Journals.{chain_count, has_no_empty}
+use Rattle.mono_steps.specs.Steps.{are_justified, is_full_chain}
 
 -- the chain names clauses that are there, and its clause is exactly its end
 pub record IsExactEnd (all : List (List ℤ)) (c : Chain) : Type 0 where
@@ -48,6 +50,14 @@ HasNewChains p steps = HasNewChainsAfter p.clauses p.clauses steps
 pub record AreNew (p : Instance) (steps : List Step) : Type 0 where
   pub chains : HasNewChains p steps
   pub none_empty : IsTrue (has_no_empty steps)
+
+-- justified steps with as many learned clauses as the budget says, each of them new and none empty. There are fewer than 3^V
+-- such clauses, so a greater budget is never spent
+pub record IsProgress (p : Instance) (budget : ℕ) (steps : List Step) : Type 0 where
+  pub justified : IsTrue (are_justified p steps)
+  pub new : AreNew p steps
+  pub chains : chain_count steps ≡ budget
+  pub few : budget < 3 ^ p.vars
 
 -- the clause contains one of these
 abbrev pub contains_one : List (List ℤ) → List ℤ → Bool

@@ -48,13 +48,15 @@ pub record IsTable (c : ℕ) (numbers : List ℕ) (f : ℕ → ℕ) : Type 0 whe
 
 -- ---- steps behind one list of clauses, carried to another
 
--- what a step names has its place there: its clause is over the problem's variables, each of the first clauses that it names is exchanged for an equal one, and each step that it names comes along
+-- what a step names has its place there: its clause is over the problem's variables, each of the first clauses that it names is
+-- exchanged for an equal one, and each step that it names comes along
 pub record KeepsNamed (q : Instance) (old new : List (List ℤ)) (flags : List Bool) (f : ℕ → ℕ) (s : Step) : Type 0 where
   pub vars : IsTrue (names_vars q (clause_of s))
   pub clauses : (n : ℕ) → IsTrue (names_number s n) → n ≤ length old → numbered new (f n) ≡ numbered old n
   pub steps : (k : ℕ) → IsTrue (names_step (length old) s k) → slice_index_or flags k false ≡ true
 
--- the steps whose flag is set may be carried from behind the clauses `old` of p to behind the clauses `new` of q: the graphs and predicates are the same, what the steps name has its place there, and each gets the number of its place
+-- the steps whose flag is set may be carried from behind the clauses `old` of p to behind the clauses `new` of q: the graphs
+-- and predicates are the same, what the steps name has its place there, and each gets the number of its place
 pub record MayBeCarried (p q : Instance) (old new : List (List ℤ)) (flags : List Bool) (f : ℕ → ℕ) (steps : List Step) : Type 0 where
   pub graphs : q.graphs ≡ p.graphs
   pub atoms : q.atoms ≡ p.atoms

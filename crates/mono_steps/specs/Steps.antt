@@ -1,4 +1,5 @@
--- Steps: what justifies them, what is wrong with one, and what makes them a refutation. `earlier` are all clauses before a step, those of the problem and then those of the earlier steps; they are numbered from 1.
+-- Steps: what justifies them, what is wrong with one, and what makes them a refutation. `earlier` are all clauses before a
+-- step, those of the problem and then those of the earlier steps; they are numbered from 1.
 use Rattle.std.specs.Prelude.{Bool, true, false, not, ◌&&◌, ◌==◌, ℤ, List, [], ◌∷◌, ◌++◌, length, map, Option}
 use Rattle.mono_problem.specs.Instance.{Instance}
 use Rattle.mono_steps.specs.declared.step.Step.{Step}

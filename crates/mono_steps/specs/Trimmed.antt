@@ -24,11 +24,16 @@ pub record IsNamedLater (c : ℕ) (steps : List Step) (k : ℕ) : Type 0 where
   pub is : slice_get steps later ≡ Some step
   pub names : IsTrue (names_step c step k)
 
--- the new steps are some of the old ones, in order and renumbered, and with each of them those that it names. They are a refutation, and each but the last is named by a later one
+-- a refutation of nothing but what its last step rests on
+pub record IsTrimRefutation (p : Instance) (steps : List Step) : Type 0 where
+  pub refutes : IsTrue (is_refutation p steps)
+  pub named : (k : ℕ) → k + 1 < length steps → IsNamedLater (length p.clauses) steps k
+
+-- the new steps are some of the old ones, in order and renumbered, and with each of them those that it names. They are a
+-- refutation of nothing else
 pub record IsTrimmed (p : Instance) (old new : List Step) : Type 0 where
   pub needed : List Bool
   pub as_many : length needed ≡ length old
   pub closed : (j k : ℕ) (s : Step) → IsTrue (slice_index_or needed j false) → slice_get old j ≡ Some s → IsTrue (names_step (length p.clauses) s k) → IsTrue (slice_index_or needed k false)
   pub is : new ≡ trimmed_steps (length p.clauses) needed old
-  pub refutes : IsTrue (is_refutation p new)
-  pub named : (k : ℕ) → k + 1 < length new → IsNamedLater (length p.clauses) new k
+  pub trim : IsTrimRefutation p new

@@ -131,7 +131,8 @@ part_for c g w = if rests_on_present w then part_not c g else part_free c g
 abbrev pub shows_clause : Digraph → Atom → List ℤ → Witness → Bool
 shows_clause g x c w = has_lit c (predicate_literal x w) && passes g (part_for c g w) x.predicate w
 
--- the graph and the predicate alone show the lemma: the word serves, what the witness names is there, labels and amounts are small, and the clause has what it needs
+-- the graph and the predicate alone show the lemma: the word serves, what the witness names is there, labels and amounts are
+-- small, and the clause has what it needs
 abbrev pub is_shown : Digraph → Atom → Lemma → Bool
 is_shown g x l = serves l.witness x.predicate && names_known g l.witness && is_small l.witness && shows_clause g x l.clause l.witness
 

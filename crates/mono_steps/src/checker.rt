@@ -96,7 +96,13 @@ fn fault_in_graph(
     requires low { 0 < atom.var }
     requires high { atom.var ≤ problem.now.vars }
     requires testable { IsTestable (graph_at problem.now atom.graph) atom.predicate witness.now placed.now }
-    ensures fault { IfOk result (λ f. f ≡ first_failed ((not (passes (graph_at problem.now atom.graph) (easiest_part (graph_at problem.now atom.graph) witness.now) atom.predicate witness.now), fault.WitnessFails) ∷ (not (shows_clause (graph_at problem.now atom.graph) atom set.now.members witness.now), fault.MissingLiteral) ∷ [])) }
+    ensures fault { IfOk result (λ f. f ≡ first_failed
+        ((
+          not (passes (graph_at problem.now atom.graph)
+              (easiest_part (graph_at problem.now atom.graph) witness.now) atom.predicate witness.now),
+          fault.WitnessFails,
+        )
+        ∷ (not (shows_clause (graph_at problem.now atom.graph) atom set.now.members witness.now), fault.MissingLiteral) ∷ [])) }
     ensures kept { graphs.new.items ≡ graphs.old.items }
 {
     let _ = problem.vars();

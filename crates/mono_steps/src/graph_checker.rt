@@ -62,7 +62,8 @@ fn passes_over_clause(
     requires part { IsPartOf part.old (graph_at problem.now atom.graph) }
     requires reset { (k : ℕ) → k < length (graph_at problem.now atom.graph).edges → present part.old k ≡ not on_present }
     requires testable { IsTestable (graph_at problem.now atom.graph) atom.predicate witness.now placed.now }
-    ensures passes { IfOk result (λ b. b ≡ passes (graph_at problem.now atom.graph) (part_for lits.now (graph_at problem.now atom.graph) witness.now) atom.predicate witness.now) }
+    ensures passes { IfOk result (λ b. b ≡ passes (graph_at problem.now atom.graph)
+        (part_for lits.now (graph_at problem.now atom.graph) witness.now) atom.predicate witness.now) }
     ensures tests { tests.new ≡ tests.old }
     ensures part { IsPartOf part.new (graph_at problem.now atom.graph) }
     ensures reset { (k : ℕ) → k < length (graph_at problem.now atom.graph).edges → present part.new k ≡ not on_present }
@@ -97,7 +98,8 @@ impl GraphChecker {
         requires graph { atom.graph < length problem.now.graphs }
         requires size { self.old ≡ size_of (graph_at problem.now atom.graph) }
         requires testable { IsTestable (graph_at problem.now atom.graph) atom.predicate witness.now placed.now }
-        ensures passes { IfOk result (λ b. b ≡ passes (graph_at problem.now atom.graph) (part_for lits.now (graph_at problem.now atom.graph) witness.now) atom.predicate witness.now) }
+        ensures passes { IfOk result (λ b. b
+            ≡ passes (graph_at problem.now atom.graph) (part_for lits.now (graph_at problem.now atom.graph) witness.now) atom.predicate witness.now) }
         ensures kept { self.new ≡ self.old }
     {
         let tests = &mut self.tests;
@@ -165,7 +167,13 @@ impl GraphChecker {
         requires size { self.old ≡ size_of (graph_at problem.now atom.graph) }
         requires testable { IsTestable (graph_at problem.now atom.graph) atom.predicate witness.now placed.now }
         requires own { has_own ≡ has_lit lits.now (predicate_literal atom witness.now) }
-        ensures fault { IfOk result (λ f. f ≡ first_failed ((not (passes (graph_at problem.now atom.graph) (easiest_part (graph_at problem.now atom.graph) witness.now) atom.predicate witness.now), fault.WitnessFails) ∷ (not (shows_clause (graph_at problem.now atom.graph) atom lits.now witness.now), fault.MissingLiteral) ∷ [])) }
+        ensures fault { IfOk result (λ f. f ≡ first_failed
+            ((
+              not (passes (graph_at problem.now atom.graph)
+                  (easiest_part (graph_at problem.now atom.graph) witness.now) atom.predicate witness.now),
+              fault.WitnessFails,
+            )
+            ∷ (not (shows_clause (graph_at problem.now atom.graph) atom lits.now witness.now), fault.MissingLiteral) ∷ [])) }
         ensures kept { self.new ≡ self.old }
     {
         if self.passes_by_clause(problem, atom, lits, witness, placed)? {

@@ -51,6 +51,13 @@ impl Journal {
         self.steps.as_slice()
     }
 
+    /// The steps, in order, without a copy of them.
+    pub fn into_steps(self) -> Vec<Step>
+        ensures { result.items ≡ self }
+    {
+        self.steps
+    }
+
     /// How many chains there are whose clause isn't empty.
     pub fn chains(&self) -> u64
         ensures { result ≡ count_by is_full_chain self.now }

@@ -17,14 +17,17 @@ ghost use Rattle.mono_steps.specs.Witnesses.{is_positive, rests_on_present, serv
 /// that passes shows that it fails there.
 pub fn passing_witnesses_decide()
     ensures holds { (g : Digraph) (P : List Bool) (q : Predicate) (w : Witness) → IsTrue (is_positive w) → IsTrue (passes g P q w) → Holds g P q }
-    ensures fails { (g : Digraph) (P : List Bool) (q : Predicate) (w : Witness) → IsGraph g → IsOver g q → length P ≡ length g.edges → is_positive w ≡ false → IsTrue (passes g P q w) → ¬ Holds g P q }
+    ensures fails { (g : Digraph) (P : List Bool) (q : Predicate) (w : Witness) → IsGraph g → IsOver g q → length P ≡ length g.edges
+        → is_positive w ≡ false → IsTrue (passes g P q w) → ¬ Holds g P q }
 {}
 
 /// What a `Path`, `Flow`, `Tree` or `Cycle` passes over, it passes over each larger part of. A witness of another word passes over
 /// each smaller part. So over two parts with the same edges a witness passes or fails alike.
 pub fn witnesses_are_monotonic()
-    ensures larger { (g : Digraph) (P Q : List Bool) (q : Predicate) (w : Witness) → IsSubpart P Q → IsTrue (rests_on_present w) → IsTrue (passes g P q w) → IsTrue (passes g Q q w) }
-    ensures smaller { (g : Digraph) (P Q : List Bool) (q : Predicate) (w : Witness) → IsSubpart P Q → rests_on_present w ≡ false → IsTrue (passes g Q q w) → IsTrue (passes g P q w) }
+    ensures larger { (g : Digraph) (P Q : List Bool) (q : Predicate) (w : Witness) → IsSubpart P Q → IsTrue (rests_on_present w)
+        → IsTrue (passes g P q w) → IsTrue (passes g Q q w) }
+    ensures smaller { (g : Digraph) (P Q : List Bool) (q : Predicate) (w : Witness) → IsSubpart P Q → rests_on_present w ≡ false
+        → IsTrue (passes g Q q w) → IsTrue (passes g P q w) }
     ensures same { (g : Digraph) (P Q : List Bool) (q : Predicate) (w : Witness) → IsSubpart P Q → IsSubpart Q P → passes g P q w ≡ passes g Q q w }
 {}
 
@@ -35,13 +38,15 @@ pub fn passing_witnesses_serve()
 
 /// A witness that fails over the easiest part for its word passes over no part.
 pub fn easiest_part_decides_failure()
-    ensures { (g : Digraph) (P : List Bool) (q : Predicate) (w : Witness) → length P ≡ length g.edges → passes g (easiest_part g w) q w ≡ false → passes g P q w ≡ false }
+    ensures { (g : Digraph) (P : List Bool) (q : Predicate) (w : Witness) → length P ≡ length g.edges → passes g (easiest_part g w) q w ≡ false
+        → passes g P q w ≡ false }
 {}
 
 /// A lemma that a graph and a predicate alone show is justified in each problem that has the predicate, over that graph,
 /// and the variables of the lemma's clause.
 pub fn shown_lemmas_are_justified()
-    ensures { (p : Instance) (x : Atom) (l : Lemma) → numbered p.atoms l.atom ≡ Some x → IsTrue (names_vars p l.clause) → IsTrue (is_shown (graph_at p x.graph) x l) → IsTrue (justifies p l) }
+    ensures { (p : Instance) (x : Atom) (l : Lemma) → numbered p.atoms l.atom ≡ Some x → IsTrue (names_vars p l.clause)
+        → IsTrue (is_shown (graph_at p x.graph) x l) → IsTrue (justifies p l) }
 {}
 
 /// The clause of a justified lemma is true in each assignment that agrees with the graphs.

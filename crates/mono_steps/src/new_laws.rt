@@ -1,6 +1,7 @@
 //! What new learned clauses are like, and that there are only so many.
 
-ghost use Rattle.std.specs.Prelude.{◌≡◌, ◌≢◌, ◌↔◌, ℕ, ◌^◌, ◌<◌, ◌≤◌, ℤ, neg_ℤ, false, not, ◌==◌, List, [], ◌∷◌, ◌++◌, length, map, take, count_by, slice_get, Some, IsTrue};
+ghost use Rattle.std.specs.Prelude.{◌≡◌, ◌≢◌, ◌↔◌, ℕ, ◌^◌, ◌<◌, ◌≤◌, ℤ, neg_ℤ, false, not, ◌==◌};
+ghost use Rattle.std.specs.Prelude.{List, [], ◌∷◌, ◌++◌, length, map, take, count_by, slice_get, Some, IsTrue};
 ghost use Rattle.std.specs.List.{list_all, AllPairs};
 ghost use Rattle.mono_base.specs.Literal.{has_lit, lit_at, within, without, is_same_set, has_opposites};
 ghost use Rattle.mono_base.specs.Partial.{is_partial, is_false_in, unit_quiet};
@@ -18,14 +19,17 @@ ghost use Rattle.mono_steps.specs.Steps.{clauses_after, is_empty_chain, is_full_
 
 /// Steps are new where each chain is new after the clauses and the steps before its place.
 pub fn new_step_by_step()
-    ensures { (p : Instance) (steps : List Step) → AreNew p steps ↔ ((k : ℕ) (c : Chain) → slice_get steps k ≡ Some (step.Chain c) → IsNewChain (clauses_after p (take k steps)) (known_clauses p (take k steps)) c) }
+    ensures { (p : Instance) (steps : List Step) → AreNew p steps
+        ↔ ((k : ℕ) (c : Chain) → slice_get steps k ≡ Some (step.Chain c)
+        → IsNewChain (clauses_after p (take k steps)) (known_clauses p (take k steps)) c) }
 {}
 
 /// Unit propagation doesn't give a new clause: whoever assumes its literals but one false, and propagates units over the
 /// clauses known before, gets neither that one nor a false clause.
 pub fn new_clauses_are_not_propagated()
     ensures { (known : List (List ℤ)) (c : List ℤ) → IsNewClause known c
-        → (l : ℤ) × IsTrue (has_lit c l) × ((t : List ℤ) → IsTrue (is_propagated known (map neg_ℤ (without c l)) t) → (has_lit t l ≡ false) × (has_false known t ≡ false)) }
+        → (l : ℤ) × IsTrue (has_lit c l) × ((t : List ℤ) → IsTrue (is_propagated known (map neg_ℤ (without c l)) t)
+        → (has_lit t l ≡ false) × (has_false known t ≡ false)) }
 {}
 
 /// A new clause isn't empty, and never has a literal and its negation.
@@ -47,7 +51,8 @@ pub fn new_clauses_contain_none_before()
 pub fn chains_stay_new()
     ensures none { (p : Instance) → HasNewChains p [] }
     ensures lemmas { (p : Instance) (steps : List Step) (ls : List Lemma) → HasNewChains p steps → HasNewChains p (steps ++ lemma_steps ls) }
-    ensures chain { (p : Instance) (steps : List Step) (c : Chain) → HasNewChains p steps → IsNewChain (clauses_after p steps) (known_clauses p steps) c → HasNewChains p (steps ++ step.Chain c ∷ []) }
+    ensures chain { (p : Instance) (steps : List Step) (c : Chain) → HasNewChains p steps
+        → IsNewChain (clauses_after p steps) (known_clauses p steps) c → HasNewChains p (steps ++ step.Chain c ∷ []) }
     ensures empty { (p : Instance) (steps : List Step) (s : Step) → HasNewChains p steps → IsTrue (is_empty_chain s) → HasNewChains p (steps ++ s ∷ []) }
     ensures front { (p : Instance) (steps more : List Step) → HasNewChains p (steps ++ more) → HasNewChains p steps }
 {}
@@ -56,7 +61,8 @@ pub fn chains_stay_new()
 /// and before the decision unit propagation has nothing to do.
 pub fn learned_clauses_are_new()
     ensures { (known : List (List ℤ)) (trail c : List ℤ) (start place : ℕ) → IsTrue (is_partial trail) → start ≤ place → place < length trail
-        → IsTrue (has_lit c (neg_ℤ (lit_at trail place))) → ((m : ℤ) → IsTrue (has_lit c m) → m ≢ neg_ℤ (lit_at trail place) → IsTrue (is_false_in (take start trail) m))
+        → IsTrue (has_lit c (neg_ℤ (lit_at trail place)))
+        → ((m : ℤ) → IsTrue (has_lit c m) → m ≢ neg_ℤ (lit_at trail place) → IsTrue (is_false_in (take start trail) m))
         → IsTrue (unit_quiet known (take start trail)) → IsNewClause known c }
 {}
 
@@ -71,7 +77,8 @@ pub fn codes_tell_clauses()
 /// New chains are fewer than 3 to the number of variables, and so is a budget of chains that they use up.
 pub fn fewer_new_chains_than_codes()
     ensures fewer { (p : Instance) (steps : List Step) → IsTrue (are_justified p steps) → AreNew p steps → chain_count steps < 3 ^ p.vars }
-    ensures budget { (p : Instance) (steps : List Step) (budget : ℕ) → IsTrue (are_justified p steps) → AreNew p steps → budget ≤ chain_count steps → budget < 3 ^ p.vars }
+    ensures budget { (p : Instance) (steps : List Step) (budget : ℕ) → IsTrue (are_justified p steps) → AreNew p steps → budget ≤ chain_count steps
+        → budget < 3 ^ p.vars }
 {}
 
 /// Where no chain has the empty clause, the chains are those whose clause isn't empty.

@@ -62,7 +62,8 @@ pub(crate) fn switch_edges(
     requires graph { graph < length problem.now.graphs }
     requires part { IsPartOf part.old (graph_at problem.now graph) }
     ensures part { IsPartOf part.new (graph_at problem.now graph) }
-    ensures places { (k : ℕ) → k < length (graph_at problem.now graph).edges → present part.new k ≡ (if has_lit lits.now (literal_of sign (edge_at (graph_at problem.now graph) k).var) then on else present part.old k) }
+    ensures places { (k : ℕ) → k < length (graph_at problem.now graph).edges
+        → present part.new k ≡ (if has_lit lits.now (literal_of sign (edge_at (graph_at problem.now graph) k).var) then on else present part.old k) }
 {
     for lit in lits {
         let var = lit.var();

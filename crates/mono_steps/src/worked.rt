@@ -42,6 +42,7 @@ pub fn worked_numbers()
     ensures kept { renumbered 2 (true ∷ false ∷ false ∷ true ∷ []) 3 ≡ 3 }
     ensures behind { renumbered 2 (true ∷ false ∷ false ∷ true ∷ []) 6 ≡ 4 }
     ensures ranks { rank (true ∷ false ∷ false ∷ true ∷ []) 3 ≡ 1 }
-    ensures steps { steps_with_numbers (renumbered 2 (true ∷ false ∷ true ∷ [])) (false ∷ true ∷ []) (chain [] (1 ∷ []) ∷ chain (pos 1 ∷ []) (1 ∷ 3 ∷ 5 ∷ []) ∷ []) ≡ chain (pos 1 ∷ []) (1 ∷ 3 ∷ 4 ∷ []) ∷ [] }
+    ensures steps { steps_with_numbers (renumbered 2 (true ∷ false ∷ true ∷ [])) (false ∷ true ∷ []) (chain [] (1 ∷ [])
+        ∷ chain (pos 1 ∷ []) (1 ∷ 3 ∷ 5 ∷ []) ∷ []) ≡ chain (pos 1 ∷ []) (1 ∷ 3 ∷ 4 ∷ []) ∷ [] }
     ensures picked { pick {A = ℕ} (true ∷ false ∷ true ∷ []) (7 ∷ 8 ∷ 9 ∷ []) ≡ 7 ∷ 9 ∷ [] }
 {}

@@ -20,7 +20,8 @@ pub fn empty_clause()
 
 /// A lemma takes a number, and unit propagation doesn't go over its clause.
 pub fn lemma_before_a_chain()
-    ensures { AreNew (clauses_over 2 ((pos 1 ∷ pos 2 ∷ []) ∷ [])) (step.Lemma (of_1 (pos 1 ∷ minus 2 ∷ []) (by.Path [])) ∷ chain (pos 1 ∷ []) (1 ∷ 2 ∷ []) ∷ []) }
+    ensures { AreNew (clauses_over 2 ((pos 1 ∷ pos 2 ∷ []) ∷ [])) (step.Lemma (of_1 (pos 1 ∷ minus 2 ∷ []) (by.Path []))
+        ∷ chain (pos 1 ∷ []) (1 ∷ 2 ∷ []) ∷ []) }
 {}
 
 /// Unit propagation over {1, 2} and {-1, 3} gives 3 where 2 is false, and 2 where 3 is false, so {2, 3} isn't new.
@@ -32,8 +33,10 @@ pub fn resolvent_that_propagates()
 /// literal.
 pub fn wider_and_repeated_clauses()
     ensures wider { AreNew (clauses_over 3 ((pos 1 ∷ pos 2 ∷ []) ∷ (pos 1 ∷ minus 2 ∷ []) ∷ [])) (chain (pos 1 ∷ pos 3 ∷ []) (1 ∷ 2 ∷ []) ∷ []) → ⊥ }
-    ensures again { AreNew (clauses_over 2 ((pos 1 ∷ pos 2 ∷ []) ∷ (pos 1 ∷ minus 2 ∷ []) ∷ [])) (chain (pos 1 ∷ []) (1 ∷ 2 ∷ []) ∷ chain (pos 1 ∷ []) (1 ∷ 2 ∷ []) ∷ []) → ⊥ }
-    ensures again_wider { AreNew (clauses_over 3 ((pos 1 ∷ pos 2 ∷ []) ∷ (pos 1 ∷ minus 2 ∷ []) ∷ (pos 2 ∷ pos 3 ∷ []) ∷ [])) (chain (pos 1 ∷ []) (1 ∷ 2 ∷ []) ∷ chain (pos 1 ∷ pos 3 ∷ []) (2 ∷ 3 ∷ []) ∷ []) → ⊥ }
+    ensures again { AreNew (clauses_over 2 ((pos 1 ∷ pos 2 ∷ []) ∷ (pos 1 ∷ minus 2 ∷ []) ∷ [])) (chain (pos 1 ∷ []) (1 ∷ 2 ∷ [])
+        ∷ chain (pos 1 ∷ []) (1 ∷ 2 ∷ []) ∷ []) → ⊥ }
+    ensures again_wider { AreNew (clauses_over 3 ((pos 1 ∷ pos 2 ∷ []) ∷ (pos 1 ∷ minus 2 ∷ []) ∷ (pos 2 ∷ pos 3 ∷ []) ∷ [])) (chain (pos 1 ∷ []) (1
+        ∷ 2 ∷ []) ∷ chain (pos 1 ∷ pos 3 ∷ []) (2 ∷ 3 ∷ []) ∷ []) → ⊥ }
     ensures of_the_problem { AreNew (clauses_over 1 ((pos 1 ∷ []) ∷ [])) (chain (pos 1 ∷ []) (1 ∷ []) ∷ []) → ⊥ }
 {}
 

@@ -1,18 +1,19 @@
 -- Rows of what searches find.
-use Rattle.std.proofs.Common.{ℕ, false, true, List, [], ◌∷◌, refl, pos, ◌≡◌, ◌≤ℤ◌, arith}
-use Rattle.std.specs.Prelude.{IsTrue, All}
-use Rattle.std.proofs.lemmas.Bool.{and_parts}
+use Rattle.std.proofs.Common.{ℕ, zero, suc, Bool, false, true, List, [], ◌∷◌, refl, pos, ◌≡◌, ◌≤ℤ◌, arith}
+use Rattle.std.specs.Prelude.{IsTrue, All, ◌==◌}
+use Rattle.std.proofs.lemmas.Bool.{and_parts, ne_eqb}
 use Rattle.std.proofs.lemmas.Int.{ints}
 use Rattle.std.proofs.lemmas.List.Elements.{All-nil, All-cons, All-head, All-tail}
 use Rattle.mono_graph.specs.declared.label.Label.{Label}
 use Rattle.mono_graph.specs.declared.limit.Limit.{Limit}
 use Rattle.mono_graph.specs.declared.limit.Limit.TheVariants as limit
-use Rattle.mono_graph.specs.Digraph.{is_distinct}
+use Rattle.mono_graph.specs.Digraph.{has, is_distinct}
 use Rattle.mono_graph.specs.Walks.{bound_of, is_light, is_walk}
-use Rattle.mono_graph.specs.Worked.{label, pipe, both, first_alone}
+use Rattle.mono_graph.specs.Worked.{label, pipe, triangle, both, first_alone}
 use Rattle.mono_graph.proofs.CutsBoundWalks.{cut_excludes, labelling_excludes}
 use Rattle.mono_paths.specs.Asked.{HasPath}
 use Rattle.mono_paths.specs.Found.{with_bound}
+use Rattle.mono_trees.specs.Unbridged.{IsUnbridged}
 
 -- ---- sets
 
@@ -59,3 +60,20 @@ not_1 r =
 
 pub not_above_4 : AreReachedLabels (limit.Weight (pos 4)) (label 2 5 ∷ []) → ⊥
 not_above_4 r = let low = (All-head (IsReachedLabel (limit.Weight (pos 4))) (label 2 5) [] r).0 in omega (arith, ints, low)
+
+-- ---- the absent third edge of a triangle
+
+abbrev two_of_three : List Bool
+two_of_three = true ∷ true ∷ false ∷ []
+
+pub third_alone : (k : ℕ) → IsTrue (has (2 ∷ []) k) → IsUnbridged (triangle 4 2 1) two_of_three (0 ∷ 1 ∷ []) k
+third_alone zero h = let e : false ≡ true = h in absurd cc
+third_alone (suc zero) h = let e : false ≡ true = h in absurd cc
+third_alone (suc (suc zero)) h = record { place = omega arith; absent = refl; apart = refl }
+third_alone (suc (suc (suc k))) h = let e = ne_eqb 2 (suc (suc (suc k))) (λ e. omega (arith, e)) in absurd cc
+
+pub third_is_listed : (k : ℕ) → IsUnbridged (triangle 4 2 1) two_of_three (0 ∷ 1 ∷ []) k → IsTrue (has (2 ∷ []) k)
+third_is_listed zero u = let e : true ≡ false = u.absent in absurd cc
+third_is_listed (suc zero) u = let e : true ≡ false = u.absent in absurd cc
+third_is_listed (suc (suc zero)) u = refl
+third_is_listed (suc (suc (suc k))) u = let place = u.place in absurd (omega (arith, place))

@@ -6,7 +6,8 @@ use Rattle.mono_problem.specs.declared.atom.Predicate.TheVariants as kind
 use Rattle.mono_problem.specs.Instance.{Instance}
 use Rattle.mono_steps.specs.WorkedLemmas.{asks}
 
--- with these clauses: edge 1 leads from node 0 to node 1 where variable 1 is true, edge 2 back where variable 2 is; variable 3 says that there is no cycle
+-- with these clauses: edge 1 leads from node 0 to node 1 where variable 1 is true, edge 2 back where variable 2 is; variable 3
+-- says that there is no cycle
 abbrev pub there_and_back : List (List ℤ) → Instance
 there_and_back cs = record (asks (round_trip 1 1) kind.Acyclic 3) { vars = 3; clauses = cs }
 

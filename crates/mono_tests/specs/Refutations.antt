@@ -1,4 +1,5 @@
--- Refutations of a barred walk for the worked rows. Both lemmas have the literals -1 and 3: the clause of the second one is turned round.
+-- Refutations of a barred walk for the worked rows. Both lemmas have the literals -1 and 3: the clause of the second one is
+-- turned round.
 use Rattle.std.specs.Prelude.{pos, List, [], ◌∷◌}
 use Rattle.mono_steps.specs.declared.lemma.Witness.TheVariants as by
 use Rattle.mono_steps.specs.declared.step.Step.{Step}

@@ -1,4 +1,5 @@
--- A small trail and a small order for the worked rows. On the trail 3 is decided, and atom 2 forces 4 once it has been shown that literal; then -5 is decided and implies 6 by clause 7.
+-- A small trail and a small order for the worked rows. On the trail 3 is decided, and atom 2 forces 4 once it has been shown
+-- that literal; then -5 is decided and implies 6 by clause 7.
 use Rattle.std.specs.Prelude.{ℕ, Bool, true, false, pos, List, [], ◌∷◌}
 use Rattle.mono_steps.specs.WorkedLemmas.{minus}
 use Rattle.mono_trail.specs.declared.reason.Mark.{Mark}

@@ -1,4 +1,5 @@
--- Two clauses and a short trail for the worked rows: {1, 2} has the number 4 and {-1, 3} the number 7, both literals of each are watched, and -1 is decided.
+-- Two clauses and a short trail for the worked rows: {1, 2} has the number 4 and {-1, 3} the number 7, both literals of each
+-- are watched, and -1 is decided.
 use Rattle.std.specs.Prelude.{ℕ, ℤ, pos, List, [], ◌∷◌, Option, Some}
 use Rattle.mono_steps.specs.WorkedLemmas.{minus}
 use Rattle.mono_trail.specs.declared.reason.Reason.TheVariants.{Decided, Clause}

@@ -8,8 +8,15 @@ ghost use Rattle.mono_steps.specs.WorkedLemmas.{chain, minus, of_1};
 ghost use Rattle.mono_answer.specs.declared.answer.Answer.TheVariants as answer;
 ghost use Rattle.mono_answer.specs.declared.item.Item.TheVariants as item;
 ghost use Rattle.mono_answer.specs.declared.kind.Kind.TheVariants as kind;
+ghost use Rattle.mono_answer.specs.Behind.{behind};
 ghost use Rattle.mono_answer.specs.Items.{items_of};
 ghost use Rattle.mono_answer.specs.Printed.{answer_items, answer_text, is_step_within, is_within_format, is_witness_within};
+
+/// Each number of a list stands behind a space.
+pub fn numbers_behind_spaces()
+    ensures two { behind (codes "1" ∷ codes "-20" ∷ []) ≡ codes " 1 -20" }
+    ensures none { behind [] ≡ [] }
+{}
 
 /// The line of a lemma, for each word. Lists stand as they are held, repeats and zeros too.
 pub fn printed_lemmas()

@@ -102,12 +102,12 @@ pub fn found_cycles_and_orders()
     ensures is_order { (nodes : Vec ℕ Global) → is_cycle_found (found.Order nodes) ≡ false }
 {}
 
-/// What is found names places of edges and nodes of the graph.
+/// What is found names places of edges and nodes of the graph, here of two edges and three nodes.
 pub fn found_names_are_known()
-    ensures last_edge { (edges : Vec ℕ Global) → edges.items ≡ 1 ∷ [] → HasKnownNames (round_trip 2 3) (found.Cycle edges) }
-    ensures no_edge { (edges : Vec ℕ Global) → edges.items ≡ 2 ∷ [] → HasKnownNames (round_trip 2 3) (found.Cycle edges) → ⊥ }
-    ensures last_node { (nodes : Vec ℕ Global) → nodes.items ≡ 1 ∷ [] → HasKnownNames (round_trip 2 3) (found.Order nodes) }
-    ensures no_node { (nodes : Vec ℕ Global) → nodes.items ≡ 2 ∷ [] → HasKnownNames (round_trip 2 3) (found.Order nodes) → ⊥ }
+    ensures last_edge { (edges : Vec ℕ Global) → edges.items ≡ 1 ∷ [] → HasKnownNames (pipe 1 1) (found.Cycle edges) }
+    ensures no_edge { (edges : Vec ℕ Global) → edges.items ≡ 2 ∷ [] → HasKnownNames (pipe 1 1) (found.Cycle edges) → ⊥ }
+    ensures last_node { (nodes : Vec ℕ Global) → nodes.items ≡ 2 ∷ [] → HasKnownNames (pipe 1 1) (found.Order nodes) }
+    ensures no_node { (nodes : Vec ℕ Global) → nodes.items ≡ 3 ∷ [] → HasKnownNames (pipe 1 1) (found.Order nodes) → ⊥ }
 {}
 
 /// A part has grown by an edge where it has that edge and those of the other part.

@@ -1,17 +1,18 @@
 //! Worked rows: what searches say of the flows, sets, labels and trees that they find.
 
-ghost use Rattle.std.specs.Prelude.{◌≡◌, [], ◌∷◌, pos, ℕ, Vec};
+ghost use Rattle.std.specs.Prelude.{◌≡◌, [], ◌∷◌, true, false, pos, ℕ, Vec};
 ghost use Rattle.std.specs.declared.alloc.Global.{Global};
-ghost use Rattle.mono_flows.specs.Answers.{HasValue, IsFlowOfValue};
+ghost use Rattle.mono_flows.specs.Answers.{HasValue, IsFlowOfValue, IsKnown};
 ghost use Rattle.mono_flows.specs.declared.found.FlowOrCut.TheVariants as flow;
 ghost use Rattle.mono_graph.specs.declared.amount.Amount.{Amount};
 ghost use Rattle.mono_graph.specs.declared.label.Label.{Label};
 ghost use Rattle.mono_graph.specs.declared.limit.Limit.TheVariants as limit;
-ghost use Rattle.mono_graph.specs.Worked.{amount, label, parallel, pipe, both, first_alone};
+ghost use Rattle.mono_graph.specs.Worked.{amount, label, parallel, pipe, triangle, both, first_alone};
 ghost use Rattle.mono_paths.specs.Found.{HasReachedLabels, IsReachedSet};
 ghost use Rattle.mono_paths.specs.declared.find.PathOrCut.TheVariants as any;
 ghost use Rattle.mono_paths.specs.declared.find.PathOrLabels.TheVariants as light;
 ghost use Rattle.mono_trees.specs.Found.{HasPresentEdges, IsInOrder};
+ghost use Rattle.mono_trees.specs.Unbridged.{AreUnbridged, IsUnbridged};
 ghost use Rattle.mono_trees.specs.declared.finder.TreeFound.TheVariants as tree;
 
 /// The nodes of a cut are those that walks reach, each once. No walk reaches node 2 here.
@@ -43,6 +44,17 @@ pub fn trees_of_present_edges()
     ensures absent_in_least { (edges : Vec ℕ Global) → edges.items ≡ 0 ∷ 1 ∷ [] → HasPresentEdges first_alone (tree.Least edges) → ⊥ }
 {}
 
+/// An absent edge is unbridged where the tree has no way between its ends by edges no heavier. All such edges are listed, and
+/// no others.
+pub fn unbridged_edges()
+    ensures lightest { AreUnbridged (triangle 4 2 1) (true ∷ true ∷ false ∷ []) (0 ∷ 1 ∷ []) (2 ∷ []) }
+    ensures left_out { AreUnbridged (triangle 4 2 1) (true ∷ true ∷ false ∷ []) (0 ∷ 1 ∷ []) [] → ⊥ }
+    ensures listed_too { AreUnbridged (triangle 4 2 1) (true ∷ true ∷ false ∷ []) (0 ∷ 1 ∷ []) (2 ∷ 0 ∷ []) → ⊥ }
+    ensures heaviest { IsUnbridged (triangle 1 2 4) (true ∷ true ∷ false ∷ []) (0 ∷ 1 ∷ []) 2 → ⊥ }
+    ensures as_heavy { IsUnbridged (triangle 1 2 2) (true ∷ true ∷ false ∷ []) (0 ∷ 1 ∷ []) 2 → ⊥ }
+    ensures present { IsUnbridged (triangle 4 2 1) (true ∷ true ∷ false ∷ []) (0 ∷ []) 1 → ⊥ }
+{}
+
 /// The nodes of a split rise, so each is there once.
 pub fn splits_in_order()
     ensures rising { (nodes : Vec ℕ Global) → nodes.items ≡ 0 ∷ 2 ∷ [] → IsInOrder (pipe 1 1) (tree.Split nodes) }
@@ -56,6 +68,14 @@ pub fn values_of_what_is_found()
     ensures less { (amounts : Vec Amount Global) → amounts.items ≡ amount 0 1 ∷ amount 1 4 ∷ [] → HasValue (parallel 1 4) both 0 4 (flow.Flow amounts) → ⊥ }
     ensures cut { (nodes : Vec ℕ Global) → nodes.items ≡ 0 ∷ [] → HasValue (parallel 1 4) first_alone 0 1 (flow.Cut nodes) }
     ensures absent_edge { (nodes : Vec ℕ Global) → nodes.items ≡ 0 ∷ [] → HasValue (parallel 1 4) first_alone 0 5 (flow.Cut nodes) → ⊥ }
+{}
+
+/// A flow names places of edges, and a cut nodes, here of two edges and three nodes.
+pub fn names_of_what_is_found()
+    ensures last_edge { (amounts : Vec Amount Global) → amounts.items ≡ amount 1 1 ∷ [] → IsKnown (pipe 1 1) (flow.Flow amounts) }
+    ensures no_edge { (amounts : Vec Amount Global) → amounts.items ≡ amount 2 1 ∷ [] → IsKnown (pipe 1 1) (flow.Flow amounts) → ⊥ }
+    ensures last_node { (nodes : Vec ℕ Global) → nodes.items ≡ 2 ∷ [] → IsKnown (pipe 1 1) (flow.Cut nodes) }
+    ensures no_node { (nodes : Vec ℕ Global) → nodes.items ≡ 3 ∷ [] → IsKnown (pipe 1 1) (flow.Cut nodes) → ⊥ }
 {}
 
 /// A flow has exactly its value, and is within the weights of the edges.

@@ -9,7 +9,8 @@ ghost use Rattle.mono_graph.specs.Walks.{is_walk, is_path, is_cut, is_labelling}
 ghost use Rattle.mono_graph.specs.Flows.{is_flow_of, is_flow_cut};
 ghost use Rattle.mono_graph.specs.Trees.{is_tree, is_split, is_least, leads_either, IsRoute};
 ghost use Rattle.mono_graph.specs.declared.limit.Limit.TheVariants as limit;
-ghost use Rattle.mono_graph.specs.Worked.{all_three, amount, both, edge, edge_of, first_alone, label, last_alone, lone, looped, neither, parallel, pipe, round_trip, single, triangle};
+ghost use Rattle.mono_graph.specs.Worked.{all_three, amount, both, edge, edge_of, first_alone, label, last_alone};
+ghost use Rattle.mono_graph.specs.Worked.{lone, looped, neither, parallel, pipe, round_trip, single, triangle};
 ghost use Rattle.mono_tests.specs.Loops.{loop_first, loop_last, loop_within};
 
 /// A node below the source keeps what flows into it, as one above does.

@@ -23,7 +23,20 @@ pub fn nodes_of_each_form()
     ensures steps_same { first_fault (codes "digraph 2 0 0\ndistance_leq 0 2 2 1 5") ≡ Some (2, fault.NodeOutOfRange) }
     ensures distance_same { first_fault (codes "digraph 2 0 0\nweighted_distance_leq 0 2 2 1 5") ≡ Some (2, fault.NodeOutOfRange) }
     ensures flow_same { first_fault (codes "digraph 2 0 0\nmaximum_flow_geq 0 2 2 1 5") ≡ Some (2, fault.NodeOutOfRange) }
-    ensures last_nodes { first_fault (codes "digraph 2 0 0\nreach 0 1 1 1\ndistance_leq 0 1 1 2 5\nweighted_distance_leq 0 1 1 3 5\nmaximum_flow_geq 0 1 0 4 5\nmaximum_flow_geq 0 0 1 4 5")
+    ensures last_nodes { first_fault (codes "digraph 2 0 0\nreach 0 1 1 1\ndistance_leq 0 1 1 2 5\nweighted_distance_leq 0 1 1 3 5") ≡ None }
+    ensures last_nodes_of_flows { first_fault (codes "digraph 2 0 0\nmaximum_flow_geq 0 1 0 1 5\nmaximum_flow_geq 0 0 1 1 5") ≡ None }
+{}
+
+/// A bound goes up to 2^53 in each form.
+pub fn bounds_of_each_form()
+    ensures steps { first_fault (codes "distance_leq 0 0 1 1 9007199254740993") ≡ Some (1, fault.TooLarge) }
+    ensures fewer_steps { first_fault (codes "distance_lt 0 0 1 1 9007199254740993") ≡ Some (1, fault.TooLarge) }
+    ensures distance { first_fault (codes "weighted_distance_leq 0 0 1 1 9007199254740993") ≡ Some (1, fault.TooLarge) }
+    ensures smaller_distance { first_fault (codes "weighted_distance_lt 0 0 1 1 9007199254740993") ≡ Some (1, fault.TooLarge) }
+    ensures flow { first_fault (codes "maximum_flow_geq 0 0 1 1 9007199254740993") ≡ Some (1, fault.TooLarge) }
+    ensures greater_flow { first_fault (codes "maximum_flow_gt 0 0 1 1 9007199254740993") ≡ Some (1, fault.TooLarge) }
+    ensures lighter_tree { first_fault (codes "mst_weight_lt 0 1 9007199254740993") ≡ Some (1, fault.TooLarge) }
+    ensures greatest { first_fault (codes "digraph 2 0 0\ndistance_lt 0 0 1 1 9007199254740992\nweighted_distance_leq 0 0 1 1 9007199254740992\nmst_weight_leq 0 1 9007199254740992")
         ≡ None }
 {}
 

@@ -1,14 +1,16 @@
 //! Worked rows: what the words of `mono_problem` make of two small graphs.
 
-ghost use Rattle.std.specs.Prelude.{◌≡◌, ◌+◌, true, false, [], ◌∷◌, pos, negsuc, Some, None};
-ghost use Rattle.mono_base.specs.declared.limits.TheConstants.{MAX_BOUND};
+ghost use Rattle.std.specs.Prelude.{◌≡◌, ◌+◌, true, false, ℤ, List, [], ◌∷◌, length, pos, negsuc, Some, None};
+ghost use Rattle.mono_base.specs.declared.limits.TheConstants.{MAX_BOUND, MAX_CLAUSES, MAX_LITERALS};
 ghost use Rattle.mono_graph.specs.Worked.{edge_of, pipe, round_trip, single};
 ghost use Rattle.mono_problem.specs.declared.atom.Predicate.TheVariants as kind;
 ghost use Rattle.mono_problem.specs.declared.uses.Use.TheVariants as use_of;
-ghost use Rattle.mono_problem.specs.Growth.{raised, with_edge, with_clause};
+ghost use Rattle.mono_problem.specs.Assuming.{HasRoom};
+ghost use Rattle.mono_problem.specs.Growth.{nothing, raised, with_graph, with_edge, with_atom, with_clause};
 ghost use Rattle.mono_problem.specs.Holds.{HoldsAtom};
-ghost use Rattle.mono_problem.specs.Instance.{graph_at, identity_at, place_named, has_number, totals_of};
-ghost use Rattle.mono_problem.specs.Uses.{uses_of};
+ghost use Rattle.mono_problem.specs.Instance.{Instance, graph_at, identity_at, literals_total, place_named, has_number, totals_of};
+ghost use Rattle.mono_problem.specs.Read.{clause_numbered};
+ghost use Rattle.mono_problem.specs.Uses.{has_edge_use, uses_of};
 ghost use Rattle.mono_problem.specs.WellFormed.{IsInstance, IsOver};
 ghost use Rattle.mono_problem.specs.Worked.{minus, only, reaches_2};
 ghost use Rattle.mono_tests.specs.TwoGraphs.{asks_only, of_clauses, of_graphs, over_second, two_graphs};
@@ -28,6 +30,7 @@ pub fn graphs_and_totals()
     ensures number_of_the_first { has_number (graph_at two_graphs 0) 2 ≡ true }
     ensures number_of_the_second { has_number (graph_at two_graphs 0) 3 ≡ false }
     ensures not_its_variable { has_number (graph_at two_graphs 1) 4 ≡ false }
+    ensures literals { (totals_of (of_clauses ((pos 1 ∷ minus 6 ∷ pos 2 ∷ []) ∷ [] ∷ []))).literals ≡ 3 }
     ensures totals { totals_of two_graphs ≡ record { vars = 6; graphs = 2; nodes = 5; edges = 3; atoms = 2; clauses = 2; literals = 2 } }
 {}
 
@@ -37,6 +40,39 @@ pub fn uses_of_variables()
     ensures second { uses_of two_graphs 4 ≡ use_of.Edge 1 0 ∷ [] }
     ensures predicate { uses_of two_graphs 6 ≡ use_of.Atom 2 ∷ [] }
     ensures none { uses_of two_graphs 3 ≡ [] }
+{}
+
+/// A list of uses has that of an edge of the graph at a place, by the edge's place there.
+pub fn uses_of_edges()
+    ensures behind_another { has_edge_use 1 2 (use_of.Atom 1 ∷ use_of.Edge 1 2 ∷ []) ≡ true }
+    ensures other_graph { has_edge_use 0 2 (use_of.Edge 1 2 ∷ []) ≡ false }
+    ensures other_edge { has_edge_use 1 0 (use_of.Edge 1 2 ∷ []) ≡ false }
+    ensures predicate { has_edge_use 0 1 (use_of.Atom 1 ∷ []) ≡ false }
+    ensures none { has_edge_use 0 0 [] ≡ false }
+{}
+
+/// Clauses are numbered from 1.
+pub fn clauses_by_number()
+    ensures first { clause_numbered two_graphs 1 ≡ pos 1 ∷ minus 6 ∷ [] }
+    ensures second { clause_numbered two_graphs 2 ≡ [] }
+{}
+
+/// There is room for as many assumptions as clauses and literals are left up to their limits.
+pub fn room_for_assumptions()
+    ensures last { (p : Instance) (lits : List ℤ) → length p.clauses + length lits ≡ MAX_CLAUSES → literals_total p + length lits ≡ MAX_LITERALS → HasRoom p lits }
+    ensures no_clause { (p : Instance) (lits : List ℤ) → length p.clauses + length lits ≡ MAX_CLAUSES + 1 → HasRoom p lits → ⊥ }
+    ensures no_literal { (p : Instance) (lits : List ℤ) → literals_total p + length lits ≡ MAX_LITERALS + 1 → HasRoom p lits → ⊥ }
+{}
+
+/// The empty problem has nothing. A graph comes at the end without edges, and a predicate at the end with its variable.
+pub fn graphs_and_predicates_are_added()
+    ensures nothing { totals_of nothing ≡ record { vars = 0; graphs = 0; nodes = 0; edges = 0; atoms = 0; clauses = 0; literals = 0 } }
+    ensures graph { (with_graph two_graphs 7 3).graphs ≡ (8, pipe 3 2) ∷ (5, single (edge_of 3 0 1 4 7)) ∷ (7, record { nodes = 3; edges = [] }) ∷ [] }
+    ensures graphs_variables { (with_graph two_graphs 7 3).vars ≡ 6 }
+    ensures predicate { (with_atom two_graphs (record reaches_2 { number = 3; var = 9 })).atoms
+        ≡ reaches_2 ∷ over_second ∷ record { number = 3; graph = 0; var = 9; predicate = kind.Reach 0 2 } ∷ [] }
+    ensures predicates_variable { (with_atom two_graphs (record reaches_2 { number = 3; var = 9 })).vars ≡ 9 }
+    ensures lower_variable { (with_atom two_graphs (record reaches_2 { number = 3; var = 2 })).vars ≡ 6 }
 {}
 
 /// An edge, a predicate and a clause come at the end, and their variables become the problem's.

@@ -8,6 +8,7 @@ ghost use Rattle.mono_steps.specs.declared.lemma.Witness.TheVariants as by;
 ghost use Rattle.mono_steps.specs.declared.fault.StepFault.TheVariants as fault;
 ghost use Rattle.mono_steps.specs.declared.step.Step.TheVariants as step;
 ghost use Rattle.mono_steps.specs.Chains.{chain_end, resolvent};
+ghost use Rattle.mono_steps.specs.Codes.{code};
 ghost use Rattle.mono_steps.specs.Journals.{AddsLemmas, chain_clauses, chain_count, has_no_empty, known_clauses};
 ghost use Rattle.mono_steps.specs.New.{AreNew, contains_one};
 ghost use Rattle.mono_steps.specs.Propagated.{is_unit_with, is_propagated, has_false};
@@ -148,6 +149,16 @@ pub fn unit_propagation()
     ensures false_clause { has_false ((pos 1 ∷ pos 2 ∷ []) ∷ (minus 1 ∷ []) ∷ []) (pos 1 ∷ []) ≡ true }
     ensures no_false_clause { has_false ((pos 1 ∷ pos 2 ∷ []) ∷ []) (minus 1 ∷ []) ≡ false }
     ensures empty_clause { has_false ([] ∷ []) [] ≡ true }
+{}
+
+/// A clause as a number to base 3: variable 1 is the lowest digit, 1 where the clause has the variable, 2 where its negation.
+pub fn codes_of_clauses()
+    ensures one { code 2 (pos 1 ∷ []) ≡ 1 }
+    ensures negated { code 2 (minus 1 ∷ []) ≡ 2 }
+    ensures both_variables { code 3 (minus 3 ∷ pos 1 ∷ []) ≡ 19 }
+    ensures in_any_order { code 3 (pos 1 ∷ minus 3 ∷ pos 1 ∷ []) ≡ 19 }
+    ensures empty { code 3 [] ≡ 0 }
+    ensures beyond { code 1 (pos 2 ∷ []) ≡ 0 }
 {}
 
 /// Clauses are numbered as they come, with those of lemmas. What was learned are those of the chains.

@@ -1,6 +1,7 @@
 //! Worked rows: which steps a trimmed refutation keeps, and by which numbers.
 
 ghost use Rattle.std.specs.Prelude.{◌≡◌, [], ◌∷◌, true, false};
+ghost use Rattle.mono_steps.specs.Needed.{AreNumbers};
 ghost use Rattle.mono_steps.specs.Trimmed.{IsNamedLater, IsTrimmed, renumbered};
 ghost use Rattle.mono_steps.specs.WorkedLemmas.{barred, with_two_lemmas, with_one_lemma};
 ghost use Rattle.mono_tests.specs.Refutations.{with_unnamed_lemma, with_turned_lemma};
@@ -35,4 +36,11 @@ pub fn new_numbers()
     ensures second { renumbered 2 (false ∷ true ∷ true ∷ []) 4 ≡ 3 }
     ensures third { renumbered 2 (false ∷ true ∷ true ∷ []) 5 ≡ 4 }
     ensures all_needed { renumbered 2 (true ∷ true ∷ []) 4 ≡ 4 }
+{}
+
+/// The new number of a step that goes is that of the next one that stays.
+pub fn numbers_of_steps()
+    ensures numbers { AreNumbers 2 (false ∷ true ∷ false ∷ []) (3 ∷ 3 ∷ 4 ∷ []) }
+    ensures none_goes { AreNumbers 2 (false ∷ true ∷ false ∷ []) (3 ∷ 4 ∷ 5 ∷ []) → ⊥ }
+    ensures too_few { AreNumbers 2 (false ∷ true ∷ false ∷ []) (3 ∷ 3 ∷ []) → ⊥ }
 {}

@@ -2,12 +2,14 @@
 
 ghost use Rattle.std.specs.Prelude.{◌≡◌, [], ◌∷◌, true, false, pos, codes, Some, None};
 ghost use Rattle.mono_base.specs.Literal.{value_in};
+ghost use Rattle.mono_io.specs.Worked.{steady_shelf};
 ghost use Rattle.mono_steps.specs.declared.lemma.Witness.TheVariants as by;
 ghost use Rattle.mono_steps.specs.declared.step.Step.TheVariants as step;
 ghost use Rattle.mono_steps.specs.WorkedLemmas.{chain, minus, of_1};
 ghost use Rattle.mono_answer.specs.declared.item.Item.TheVariants as item;
 ghost use Rattle.mono_answer.specs.declared.kind.Kind.TheVariants as kind;
 ghost use Rattle.mono_check.specs.Atoms.{IsWrongAtom};
+ghost use Rattle.mono_check.specs.FromShelf.{IsVerdictFrom};
 ghost use Rattle.mono_check.specs.SoFar.{model_more, no_steps, no_values, steps_more};
 ghost use Rattle.mono_check.specs.Values.{ends_in};
 ghost use Rattle.mono_check.specs.Worked.{two_edges};
@@ -82,4 +84,16 @@ pub fn line_behind_lines()
       last = 2;
     }) ≡ record { clauses = (pos 1 ∷ []) ∷ [] ∷ []; chains = 7; ends_empty = false; last = 5 } }
     ensures no_steps { no_steps 4 ≡ record { clauses = []; chains = 0; ends_empty = false; last = 4 } }
+{}
+
+/// A verdict from a shelf is the one on the text that was read whole, within the limit.
+pub fn verdicts_from_a_shelf()
+    ensures read { IsVerdictFrom (two_edges []) (codes "f") 10 (steady_shelf ((codes "f", codes "s UNKNOWN\n") ∷ []) [] None 0 0)
+        (steady_shelf ((codes "f", codes "s UNKNOWN\n") ∷ []) (codes "f") (Some 10) 1 0) (verdict.Progress 0) }
+    ensures other_verdict { IsVerdictFrom (two_edges []) (codes "f") 10 (steady_shelf ((codes "f", codes "s UNKNOWN\n") ∷ []) [] None 0 0)
+        (steady_shelf ((codes "f", codes "s UNKNOWN\n") ∷ []) (codes "f") (Some 10) 1 0) (verdict.Progress 1) → ⊥ }
+    ensures not_read { IsVerdictFrom (two_edges []) (codes "f") 10 (steady_shelf ((codes "f", codes "s UNKNOWN\n") ∷ []) [] None 0 0)
+        (steady_shelf ((codes "f", codes "s UNKNOWN\n") ∷ []) (codes "f") (Some 9) 1 0) (verdict.Progress 0) → ⊥ }
+    ensures other_text { IsVerdictFrom (two_edges []) (codes "f") 10 (steady_shelf ((codes "f", codes "unknown!!\n") ∷ []) [] None 0 0)
+        (steady_shelf ((codes "f", codes "unknown!!\n") ∷ []) (codes "f") (Some 10) 1 0) (verdict.Progress 0) → ⊥ }
 {}

@@ -2,24 +2,24 @@
 use Rattle.std.proofs.Common.{◌≡◌, ℕ, ◌+◌, ◌<◌, ◌||◌, Bool, true, false, List, [], ◌∷◌, ◌++◌, length, refl, sym, subst, ◌∙◌, inl, inr, arith}
 use Rattle.std.specs.Prelude.{IsTrue, slice_index}
 use Rattle.std.proofs.lemmas.Bool.{cases_Bool, cases_lt, both_ways, false_from_ne_true, or_parts}
+use Rattle.mono_base.specs.Worklist.{is_listed}
 use Rattle.mono_graph.specs.Digraph.{has}
 use Rattle.mono_graph.proofs.Membership.{has_append_cases, has_cons}
-use Rattle.mono_theory.specs.DueAtoms.{is_due}
 use Rattle.mono_theory.specs.DueNodes.{PutsNodes, PutsRows}
 use Rattle.mono_theory.specs.Index.{ArePlacesOf}
 
 -- what is due stays due
-due_stays : (before after : List Bool) (a : ℕ) → ((b : ℕ) → is_due after b ≡ false → is_due before b ≡ false) → is_due before a ≡ true → is_due after a ≡ true
-due_stays before after a stay on = elim (cases_Bool (is_due after a)) [ inl t ↦ t | inr f ↦ absurd (both_ways (is_due before a) (stay a f) on) ]
+due_stays : (before after : List Bool) (a : ℕ) → ((b : ℕ) → is_listed after b ≡ false → is_listed before b ≡ false) → is_listed before a ≡ true → is_listed after a ≡ true
+due_stays before after a stay on = elim (cases_Bool (is_listed after a)) [ inl t ↦ t | inr f ↦ absurd (both_ways (is_listed before a) (stay a f) on) ]
 
 -- the atoms at these places are those of the node
-pub puts_places : (node_of : List ℕ) (node : ℕ) (ks : List ℕ) (before after : List Bool) → ArePlacesOf node_of node ks → length after ≡ length before → ((a : ℕ) → is_due after a ≡ (is_due before a || has ks a)) → PutsNodes node_of (node ∷ []) before after
+pub puts_places : (node_of : List ℕ) (node : ℕ) (ks : List ℕ) (before after : List Bool) → ArePlacesOf node_of node ks → length after ≡ length before → ((a : ℕ) → is_listed after a ≡ (is_listed before a || has ks a)) → PutsNodes node_of (node ∷ []) before after
 puts_places node_of node ks before after places size is = record {
   size = size;
-  stay = λ a off. (or_parts (is_due before a) (has ks a) (sym (is a) ∙ off)).0;
-  each = λ a lt here. (let held = places.all a lt (is_node a here) in elim (cases_Bool (is_due after a)) [
+  stay = λ a off. (or_parts (is_listed before a) (has ks a) (sym (is a) ∙ off)).0;
+  each = λ a lt here. (let held = places.all a lt (is_node a here) in elim (cases_Bool (is_listed after a)) [
     | inl on ↦ on
-    | inr off ↦ absurd (both_ways (has ks a) (or_parts (is_due before a) (has ks a) (sym (is a) ∙ off)).1 held)
+    | inr off ↦ absurd (both_ways (has ks a) (or_parts (is_listed before a) (has ks a) (sym (is a) ∙ off)).1 held)
   ]);
 }
   where
@@ -53,5 +53,5 @@ rows_more {node_of = node_of} {nodes = nodes} {n = n} {between = between} {after
 }
 
 -- of an atom that isn't due nothing new is known
-pub none_new : {node_of : List ℕ} {nodes : ℕ → List ℕ} {n : ℕ} {before after : List Bool} (i a : ℕ) → PutsRows node_of nodes n before after → i < n → a < length node_of → is_due after a ≡ false → has (nodes i) (slice_index node_of a) ≡ false
-none_new {node_of = node_of} {nodes = nodes} {after = after} i a h low lt off = false_from_ne_true (has (nodes i) (slice_index node_of a)) (λ here. both_ways (is_due after a) off (h.each i a low lt here))
+pub none_new : {node_of : List ℕ} {nodes : ℕ → List ℕ} {n : ℕ} {before after : List Bool} (i a : ℕ) → PutsRows node_of nodes n before after → i < n → a < length node_of → is_listed after a ≡ false → has (nodes i) (slice_index node_of a) ≡ false
+none_new {node_of = node_of} {nodes = nodes} {after = after} i a h low lt off = false_from_ne_true (has (nodes i) (slice_index node_of a)) (λ here. both_ways (is_listed after a) off (h.each i a low lt here))

@@ -32,7 +32,7 @@ use Rattle.mono_theory.specs.declared.evidence.Evidence.{Evidence}
 use Rattle.mono_theory.specs.Theories.{concerns_of, atom_of, IsLemmaOf}
 use Rattle.mono_theory.specs.Evidences.{Decides, shown_by, only, all_but, IsEvidence, lemma_by, side}
 use Rattle.mono_theory.specs.Frames.{IsVar}
-use Rattle.mono_theory.proofs.Pigeons.{all_has}
+use Rattle.mono_graph.proofs.Pigeons.{all_has}
 
 -- ---- lists of places
 

@@ -1,16 +1,19 @@
 -- Fewer atoms stand, edge after edge.
 use Rattle.std.proofs.Common.{◌≡◌, ◌≢◌, ℕ, ◌+◌, ◌<◌, ◌⊎◌, List, [], ◌∷◌, ◌++◌, length, take, get_or, set, refl, sym, ap, subst, ◌∙◌, inl, inr}
 use Rattle.std.specs.Prelude.{IsTrue, Option}
+use Rattle.std.specs.List.{Contains}
 use Rattle.std.proofs.lemmas.Bool.{cases_eq}
 use Rattle.std.proofs.lemmas.List.{get_or-set_same, get_or-set_other, length-set, take_more}
+use Rattle.std.proofs.lemmas.List.Elements.{Contains-push_cases}
 use Rattle.mono_graph.specs.Digraph.{has}
 use Rattle.mono_graph.proofs.Membership.{has_append_cases, has_cons}
 use Rattle.mono_theory.specs.declared.evidence.Evidence.{Evidence}
 use Rattle.mono_theory.specs.declared.stage.Stage.{Stage}
 use Rattle.mono_theory.specs.declared.stage.Stage.TheVariants as stage
+use Rattle.mono_theory.specs.declared.watch.Watch.{Watch}
 use Rattle.mono_theory.specs.Sound.{RestsOn, evidence_at}
 use Rattle.mono_theory.specs.Stages.{stage_at, waiting}
-use Rattle.mono_theory.specs.Watching.{AreInvalidated, IsInvalidated, NoneStandsOn, watching}
+use Rattle.mono_theory.specs.Watching.{AreInvalidated, IsInvalidated, NoneStandsOn, RestsAt, watching}
 
 pub none_invalidated : (xs : List (Option Evidence)) (ks : List ℕ) (stages : List Stage) → AreInvalidated xs ks stages stages
 none_invalidated xs ks stages = record { len = refl; each = λ a. inl refl }
@@ -63,27 +66,25 @@ still_gone {xs} {ks} {before} {after} h a gone e = elim (h.each a) [
   | inr lost ↦ waits_not_stands (stage_at after a) lost.waits e
 ]
 
-pub still_none : {xs : List (Option Evidence)} {ks atoms : List ℕ} {before after : List Stage} {k : ℕ} → AreInvalidated xs ks before after → NoneStandsOn xs before atoms k → NoneStandsOn xs after atoms k
-still_none h n = record { each = λ a t r. still_gone h a (n.each a t r) }
+pub still_none : {xs : List (Option Evidence)} {ks : List ℕ} {before after : List Stage} {ws : List Watch} {k : ℕ} → AreInvalidated xs ks before after → NoneStandsOn xs before ws k → NoneStandsOn xs after ws k
+still_none h n = record { each = λ w t r. still_gone h w.atom (n.each w t r) }
 
 -- one more atom doesn't stand on the edge
-pub none_more : {xs : List (Option Evidence)} {ks : List ℕ} {before after : List Stage} {k : ℕ} (atoms : List ℕ) (i : ℕ) → i < length atoms → AreInvalidated xs ks before after → (RestsOn (evidence_at xs (get_or atoms i 0)) k → stage_at after (get_or atoms i 0) ≢ stage.Supported)
-    → NoneStandsOn xs before (take i atoms) k → NoneStandsOn xs after (take (i + 1) atoms) k
-none_more {xs} {ks} {before} {after} {k} atoms i lt step this n =
-    let more : take (i + 1) atoms ≡ take i atoms ++ get_or atoms i 0 ∷ [] = take_more atoms i 0 lt in
+pub none_more : {xs : List (Option Evidence)} {ks : List ℕ} {before after : List Stage} {k : ℕ} (ws : List Watch) (i : ℕ) (d : Watch) → i < length ws → AreInvalidated xs ks before after
+    → (RestsAt (evidence_at xs (get_or ws i d).atom) (get_or ws i d).place k → stage_at after (get_or ws i d).atom ≢ stage.Supported) → NoneStandsOn xs before (take i ws) k → NoneStandsOn xs after (take (i + 1) ws) k
+none_more {xs} {ks} {before} {after} {k} ws i d lt step this n =
+    let more : take (i + 1) ws ≡ take i ws ++ get_or ws i d ∷ [] = take_more ws i d lt in
     record {
-      each = λ a t r. elim (has_append_cases (take i atoms) (get_or atoms i 0 ∷ []) a (subst (λ (js : List ℕ). IsTrue (has js a)) more t)) [
-        | inl early ↦ still_gone step a (n.each a early r)
-        | inr last ↦ elim (has_cons (get_or atoms i 0) a [] last) [
-          | inl e ↦ subst (λ (b : ℕ). RestsOn (evidence_at xs b) k → stage_at after b ≢ stage.Supported) e this r
-          | inr none ↦ absurd cc
-        ]
+      each = λ w t r. elim (Contains-push_cases (take i ws) (get_or ws i d) w (subst (λ (us : List Watch). Contains us w) more t)) [
+        | inl early ↦ still_gone step w.atom (n.each w early r)
+        | inr e ↦ subst (λ (u : Watch). RestsAt (evidence_at xs u.atom) u.place k → stage_at after u.atom ≢ stage.Supported) e this r
       ];
     }
 
 -- one more edge on which no atom that watches it stands
-pub edges_more : {xs : List (Option Evidence)} {ks : List ℕ} {before after : List Stage} (ws : List (List ℕ)) (edges : List ℕ) (i : ℕ) → i < length edges → AreInvalidated xs ks before after → NoneStandsOn xs after (watching ws (get_or edges i 0)) (get_or edges i 0)
-    → ((k : ℕ) → IsTrue (has (take i edges) k) → NoneStandsOn xs before (watching ws k) k) → (k : ℕ) → IsTrue (has (take (i + 1) edges) k) → NoneStandsOn xs after (watching ws k) k
+pub edges_more : {xs : List (Option Evidence)} {ks : List ℕ} {before after : List Stage} (ws : List (List Watch)) (edges : List ℕ) (i : ℕ) → i < length edges → AreInvalidated xs ks before after
+    → NoneStandsOn xs after (watching ws (get_or edges i 0)) (get_or edges i 0) → ((k : ℕ) → IsTrue (has (take i edges) k) → NoneStandsOn xs before (watching ws k) k)
+    → (k : ℕ) → IsTrue (has (take (i + 1) edges) k) → NoneStandsOn xs after (watching ws k) k
 edges_more {xs} {ks} {before} {after} ws edges i lt step this n k t =
     let more : take (i + 1) edges ≡ take i edges ++ get_or edges i 0 ∷ [] = take_more edges i 0 lt in
     elim (has_append_cases (take i edges) (get_or edges i 0 ∷ []) k (subst (λ (js : List ℕ). IsTrue (has js k)) more t)) [

@@ -23,7 +23,7 @@ use Rattle.mono_theory.specs.Theories.{concerns_of, owns_of, atom_of}
 use Rattle.mono_theory.specs.Variables.{AreVarsOf}
 use Rattle.mono_theory.specs.Bound.{Bound, edge_vars, assigned, unassigned, IsBoundOf}
 use Rattle.mono_theory.specs.Frames.{AreAtomsOf, IsVar, atom_vars, atom_numbers, IsFrame}
-use Rattle.mono_theory.proofs.Pigeons.{pigeon}
+use Rattle.mono_graph.proofs.Pigeons.{pigeon}
 use Rattle.mono_theory.proofs.BoundsStay.{assigned_is_bound, unassigned_is_bound}
 
 -- ---- what concerns a theory

@@ -17,7 +17,7 @@ use Rattle.mono_theory.specs.declared.evidence.Evidence.{Evidence}
 use Rattle.mono_theory.specs.Evidences.{Decides, shown_by, IsEvidence, only, all_but}
 use Rattle.mono_theory.specs.Sound.{AllHave, AreSound, EdgesBelow, IsRightIn, IsSound, IsWitnessIn, atom_at, evidence_at}
 use Rattle.mono_theory.proofs.EvidenceDecides.{IsSided, by_value, decides, sign_of, evidence_passes, only-within, within-all_but}
-use Rattle.mono_theory.proofs.Pigeons.{all_has}
+use Rattle.mono_graph.proofs.Pigeons.{all_has}
 
 -- ---- evidence that a search found
 

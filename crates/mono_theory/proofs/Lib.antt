@@ -1,4 +1,3 @@
-pub mod Pigeons
 pub mod EntryBuckets
 pub mod Switches
 pub mod IndexMade
@@ -27,3 +26,7 @@ pub mod SureEdges
 pub mod DueStay
 mod RowsStay
 pub mod DueNodes
+pub mod AskedRows
+pub mod PossibleParts
+pub mod WalksTold
+pub mod PossibleDue

@@ -1,6 +1,7 @@
 -- What is kept on a side stays right when one more literal is seen.
 use Rattle.std.proofs.Common.{◌≡◌, ℕ, ◌<◌, Bool, not, List, [], ◌∷◌, ◌++◌, length, take, get_or, refl, sym, subst, ◌∙◌, inl, inr, arith, ℤ, pos, int_lt}
 use Rattle.std.specs.Prelude.{IsTrue, Option, Some, None, IfSome}
+use Rattle.std.specs.List.{Contains}
 use Rattle.std.proofs.lemmas.Bool.{cases_eq}
 use Rattle.std.proofs.lemmas.List.{get_or-map, length-map, take-append-le, length-append}
 use Rattle.mono_base.specs.Literal.{is_lit, var_of}
@@ -11,13 +12,14 @@ use Rattle.mono_theory.specs.declared.stage.Stage.{Stage}
 use Rattle.mono_theory.specs.declared.stage.Stage.TheVariants as stage
 use Rattle.mono_theory.specs.Bound.{edge_vars}
 use Rattle.mono_theory.specs.Index.{ArePlacesOf}
-use Rattle.mono_theory.specs.Sound.{IsRightIn, RestsOn, atom_at, evidence_at}
+use Rattle.mono_theory.specs.Sound.{IsRightIn, atom_at, evidence_at}
 use Rattle.mono_theory.specs.Stages.{stage_at}
 use Rattle.mono_theory.specs.Supports.{IsKeptBy, IsSettled, IsShown, IsSide, SideView, StageIs, part_of}
 use Rattle.mono_theory.specs.Theories.{Facts, seeing}
-use Rattle.mono_theory.specs.Watching.{AreInvalidated, NoneStandsOn, WatchesIts, watching}
+use Rattle.mono_theory.specs.Watching.{AreInvalidated, IsEdgeAt, NoneStandsOn, RestsAt, WatchesIts, watch_by, watching}
 use Rattle.mono_theory.proofs.PartsOfSides.{other_sign, unswitched_at}
 use Rattle.mono_theory.proofs.KeptEvidenceDecides.{right_by}
+use Rattle.mono_theory.proofs.MoreWatch.{place_of_edge}
 
 -- an atom that is shown still is
 shown_seen : {f : Facts} {b thorough : Bool} {o : Option Evidence} {x : Atom} {m : ℕ} (l : ℤ) → IsShown f b thorough o x m → IsShown (seeing f l) b thorough o x m
@@ -70,17 +72,16 @@ still_right : {f : Facts} {b : Bool} {s : SideView} (l : ℤ) (ks : List ℕ) (s
     → (a : ℕ) → a < length f.atoms → stage_at stages a ≡ stage.Supported → StageIs f b s a stage.Supported → IsSide f b s → StageIs (seeing f l) b s a stage.Supported
 still_right {f = f} {b = b} {s = s} l ks stages places none a lt stands is h =
     right_by f.graph (atom_at f.atoms a).predicate b (part_of f.graph f.seen b) (part_of f.graph (f.seen ++ l ∷ []) b) (evidence_at s.supports a) (h.supports.each a lt) is (λ k below mine on. elim (cases_eq (edge_at f.graph k).var (var_of l)) [
-      | inl e ↦ absurd ((none k (places.all k (omega (arith, below, length-map f.graph.edges (λ d. d.var))) (place_var f.graph k below ∙ e))).each a (watches k (evidence_at s.supports a) (h.watched.each a lt) mine is) (rests k (evidence_at s.supports a) mine is) stands)
+      | inl e ↦ absurd (stood k (none k (places.all k (omega (arith, below, length-map f.graph.edges (λ d. d.var))) (place_var f.graph k below ∙ e))) (evidence_at s.supports a) refl (h.watched.each a lt) mine is)
       | inr ne ↦ unswitched_at f.graph f.seen l k b below ne ∙ on
     ])
   where
-    watches : (k : ℕ) (o : Option Evidence) → WatchesIts s.watchers a o → IfSome o (λ e. IsTrue (has e.edges k)) → IsRightIn (part_of f.graph f.seen b) b o → IsTrue (has (watching s.watchers k) a)
-    watches k None w m r = absurd r
-    watches k (Some e) w m r = w.each k m
-
-    rests : (k : ℕ) (o : Option Evidence) → IfSome o (λ e. IsTrue (has e.edges k)) → IsRightIn (part_of f.graph f.seen b) b o → RestsOn o k
-    rests k None m r = absurd r
-    rests k (Some e) m r = m
+    stood : (k : ℕ) → NoneStandsOn s.supports stages (watching s.watchers k) k → (o : Option Evidence) → evidence_at s.supports a ≡ o → WatchesIts s.watchers a o → IfSome o (λ e. IsTrue (has e.edges k)) → IsRightIn (part_of f.graph f.seen b) b o → ⊥
+    stood k n None same w m r = absurd r
+    stood k n (Some e) same w m r =
+        let p = place_of_edge e.edges k m in
+        let at : IsEdgeAt e.edges p.0 k = p.1 in
+        n.each (watch_by a p.0) (subst (λ (j : ℕ). Contains (watching s.watchers j) (watch_by a p.0)) at.is (w.each p.0 at.held)) (subst (λ (x : Option Evidence). RestsAt x p.0 k) (sym same) at) stands
 
 pub side_invalidated : {f : Facts} {b : Bool} {s : SideView} (l : ℤ) (ks : List ℕ) (stages : List Stage) → ArePlacesOf (edge_vars f.graph) (var_of l) ks → AreInvalidated s.supports ks s.stages stages
     → ((k : ℕ) → IsTrue (has ks k) → NoneStandsOn s.supports stages (watching s.watchers k) k) → IsSide f b s

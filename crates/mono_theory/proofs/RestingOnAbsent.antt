@@ -15,7 +15,7 @@ use Rattle.mono_theory.specs.declared.evidence.Evidence.{Evidence}
 use Rattle.mono_theory.specs.Evidences.{only, all_but, uses, IsEvidence}
 use Rattle.mono_theory.specs.Resting.{AreAbsent, AreAlike, absent_from, absent_into, absent_out, absent_across}
 use Rattle.mono_theory.proofs.EvidenceDecides.{not_in_all_but, in_all_but}
-use Rattle.mono_theory.proofs.Pigeons.{all_has}
+use Rattle.mono_graph.proofs.Pigeons.{all_has}
 use Rattle.mono_theory.proofs.WalksAsEvidence.{all_by}
 
 -- ---- the part of all others

@@ -5,13 +5,14 @@ use Rattle.std.proofs.lemmas.Bool.{both_ways, cases_eq, or_left, or_right, false
 use Rattle.std.proofs.lemmas.List.{get_or-map, get_or-set_other, length-map, length-set, length-take-le, take_more}
 use Rattle.mono_base.specs.Literal.{has_lit}
 use Rattle.mono_base.specs.Partial.{is_partial}
+use Rattle.mono_base.specs.Worklist.{is_listed}
 use Rattle.mono_graph.specs.Digraph.{has}
 use Rattle.mono_problem.specs.declared.atom.Atom.{Atom}
 use Rattle.mono_problem.specs.declared.atom.Predicate.{Predicate}
 use Rattle.mono_problem.specs.Read.{no_atom}
 use Rattle.mono_steps.specs.Switching.{literal_of}
 use Rattle.mono_theory.specs.Bound.{Bound, edge_vars, assigned, unassigned, IsBoundOf}
-use Rattle.mono_theory.specs.DueAtoms.{PutsDue, is_due}
+use Rattle.mono_theory.specs.DueAtoms.{PutsDue}
 use Rattle.mono_theory.specs.Evidences.{shown_by}
 use Rattle.mono_theory.specs.Frames.{atom_vars}
 use Rattle.mono_theory.specs.Index.{ArePlacesOf}
@@ -57,13 +58,13 @@ settled_before t n l possible x lt at ne h =
 
 -- the last literal goes, and the atoms of its variable are due
 pub settled_back : (t : List ℤ) (n : ℕ) (l : ℤ) (ks : List ℕ) (possible : Bool) (atoms : List Atom) (shown : ℕ → Bool) (due more : List Bool) → n < length t → get_or t n l ≡ l → ArePlacesOf (atom_vars atoms) (nat_abs l) ks → length more ≡ length due
-    → ((a : ℕ) → is_due more a ≡ (is_due due a || has ks a)) → AreSettledBut (take (n + 1) t) possible atoms shown due → AreSettledBut (take n t) possible atoms shown more
+    → ((a : ℕ) → is_listed more a ≡ (is_listed due a || has ks a)) → AreSettledBut (take (n + 1) t) possible atoms shown due → AreSettledBut (take n t) possible atoms shown more
 settled_back t n l ks possible atoms shown due more lt at places size is h = record {
   size = size ∙ h.size;
   each = λ a low off on.
-      let none : (is_due due a || has ks a) ≡ false = sym (is a) ∙ off in
-      let before : is_due due a ≡ false = false_from_ne_true (is_due due a) (λ e. both_ways (is_due due a || has ks a) none (or_left (is_due due a) (has ks a) e)) in
-      let other : has ks a ≡ false = false_from_ne_true (has ks a) (λ e. both_ways (is_due due a || has ks a) none (or_right (is_due due a) (has ks a) e)) in
+      let none : (is_listed due a || has ks a) ≡ false = sym (is a) ∙ off in
+      let before : is_listed due a ≡ false = false_from_ne_true (is_listed due a) (λ e. both_ways (is_listed due a || has ks a) none (or_left (is_listed due a) (has ks a) e)) in
+      let other : has ks a ≡ false = false_from_ne_true (has ks a) (λ e. both_ways (is_listed due a || has ks a) none (or_right (is_listed due a) (has ks a) e)) in
       let its : get_or (atom_vars atoms) a 0 ≡ (atom_at atoms a).var = get_or-map (λ (x : Atom). x.var) atoms a no_atom 0 low in
       settled_before t n l possible (atom_at atoms a) lt at
       (λ e. both_ways (has ks a) other (places.all a (omega (arith, low, length-map atoms (λ (x : Atom). x.var))) (its ∙ e)))

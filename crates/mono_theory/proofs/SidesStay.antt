@@ -7,6 +7,7 @@ use Rattle.mono_problem.specs.declared.atom.Atom.{Atom}
 use Rattle.mono_theory.specs.declared.evidence.Evidence.{Evidence}
 use Rattle.mono_theory.specs.declared.stage.Stage.{Stage}
 use Rattle.mono_theory.specs.declared.stage.Stage.TheVariants as stage
+use Rattle.mono_theory.specs.declared.watch.Watch.{Watch}
 use Rattle.mono_steps.specs.declared.lemma.Witness.{Witness}
 use Rattle.mono_theory.specs.Sound.{AreSound, IsRightIn, IsSound, IsWitnessIn, atom_at, evidence_at}
 use Rattle.mono_theory.specs.Stages.{IsUpTo, shows, stage_at, undone}
@@ -99,12 +100,12 @@ side_shown {f = f} {b = b} {s = s} a e n sound h =
 
 -- ---- other watchers
 
-same_stage : (f : Facts) (b : Bool) (s : SideView) (watchers : List (List ℕ)) (x : ℕ) (y : Stage) → StageIs f b s x y → StageIs f b (record { possible = s.possible; supports = s.supports; shown = s.shown; watchers = watchers; stages = s.stages; thorough = s.thorough }) x y
+same_stage : (f : Facts) (b : Bool) (s : SideView) (watchers : List (List Watch)) (x : ℕ) (y : Stage) → StageIs f b s x y → StageIs f b (record { possible = s.possible; supports = s.supports; shown = s.shown; watchers = watchers; stages = s.stages; thorough = s.thorough }) x y
 same_stage f b s watchers x stage.Waits is = tt
 same_stage f b s watchers x stage.Supported is = is
 same_stage f b s watchers x (stage.Forcing m) is = is
 
-pub side_watched : {f : Facts} {b : Bool} {s : SideView} (watchers : List (List ℕ)) → length watchers ≡ length f.graph.edges → AreBelow (length f.atoms) watchers → AllWatch watchers s.supports (length f.atoms) → IsSide f b s
+pub side_watched : {f : Facts} {b : Bool} {s : SideView} (watchers : List (List Watch)) → length watchers ≡ length f.graph.edges → AreBelow (length f.atoms) watchers → AllWatch watchers s.supports (length f.atoms) → IsSide f b s
     → IsSide f b (record { possible = s.possible; supports = s.supports; shown = s.shown; watchers = watchers; stages = s.stages; thorough = s.thorough })
 side_watched {f = f} {b = b} {s = s} watchers len low all h = record {
   sign = h.sign;

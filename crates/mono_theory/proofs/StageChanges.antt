@@ -1,15 +1,17 @@
 -- Atoms change their stage by an exchange beside a border.
-use Rattle.std.proofs.Common.{◌≡◌, ◌≢◌, ℕ, zero, suc, ◌+◌, ◌-◌, ◌^◌, ◌<◌, ◌≤◌, ◌⊎◌, Bool, List, [], ◌∷◌, ◌++◌, length, get_or, set, map, refl, sym, ap, subst, ◌∙◌, inl, inr, arith, All}
+use Rattle.std.proofs.Common.{◌≡◌, ◌≢◌, ℕ, ◌+◌, ◌-◌, ◌<◌, ◌≤◌, ◌⊎◌, Bool, List, length, get_or, set, map, refl, sym, ap, subst, ◌∙◌, inl, inr, arith, All}
 use Rattle.std.specs.Prelude.{replicate, if◌then◌else◌}
 use Rattle.std.specs.List.{range_with_len}
 use Rattle.std.proofs.lemmas.Bool.{cases_eq, cases_lt, le-ltb, both_ways}
-use Rattle.std.proofs.lemmas.List.{length-map, length-set, length-replicate, get_or-replicate, get_or-set_same, get_or-set_other, get_or_default, get_or_read, ext_get_or}
+use Rattle.std.proofs.lemmas.List.{length-map, length-set, length-replicate, get_or-replicate, get_or-set_same, get_or-set_other, get_or_default, ext_get_or}
 use Rattle.std.proofs.Math.ListN.{get_or-map}
 use Rattle.std.proofs.Math.Seq.{map-set_same}
 use Rattle.std.proofs.lemmas.List.FromFn.{get_or-range_with_len, length-range_with_len}
 use Rattle.mono_theory.specs.declared.stage.Stage.{Stage}
 use Rattle.mono_theory.specs.declared.stage.Stage.TheVariants as stage
-use Rattle.mono_theory.specs.Stages.{stage_at, undone, IsUpTo, shows, NoneWaits, AreAll, AreInverse, stage_by, AreRuns, IsExchange, IsChange, IsTable}
+use Rattle.mono_base.specs.Ranking.{AreInverse, RankingView, exchanged, in_order}
+use Rattle.mono_base.proofs.Rankings.{inverse_new}
+use Rattle.mono_theory.specs.Stages.{stage_at, undone, IsUpTo, shows, NoneWaits, stage_by, AreRuns, IsChange, IsTable}
 
 -- ---- atoms by place
 
@@ -24,16 +26,27 @@ stage_here stages a s lt = get_or-set_same stages a s stage.Waits lt
 stage_there : (stages : List Stage) (a b : ℕ) (s : Stage) → b ≢ a → stage_at (set stages a s) b ≡ stage_at stages b
 stage_there stages a b s ne = get_or-set_other stages a b s stage.Waits ne
 
-pub changed : {items places moved : List ℕ} {p q : ℕ} (stages : List Stage) (s : Stage) → AreInverse items places → length stages ≡ length items → IsExchange items moved p q → p < length items → q < length items
+-- what stands where after an exchange
+second_there : (items : List ℕ) (p q : ℕ) → q < length items → get_or (exchanged items p q) q 0 ≡ get_or items p 0
+second_there items p q lq = get_or-set_same (set items p (get_or items q 0)) q (get_or items p 0) 0 (omega (arith, lq, length-set items p (get_or items q 0)))
+
+first_there : (items : List ℕ) (p q : ℕ) → p < length items → p ≢ q → get_or (exchanged items p q) p 0 ≡ get_or items q 0
+first_there items p q lp ne = get_or-set_other (set items p (get_or items q 0)) q p (get_or items p 0) 0 ne ∙ get_or-set_same items p (get_or items q 0) 0 lp
+
+others_there : (items : List ℕ) (p q k : ℕ) → k ≢ p → k ≢ q → get_or (exchanged items p q) k 0 ≡ get_or items k 0
+others_there items p q k np nq = get_or-set_other (set items p (get_or items q 0)) q k (get_or items p 0) 0 nq ∙ get_or-set_other items p k (get_or items q 0) 0 np
+
+pub changed : {items places : List ℕ} {p q : ℕ} (moved : List ℕ) (stages : List Stage) (s : Stage) → AreInverse items places → length stages ≡ length items → moved ≡ exchanged items p q → p < length items → q < length items
     → IsChange items stages moved (set stages (get_or items p 0) s) p q s
-changed {items} {places} {moved} {p} {q} stages s h count x lp lq =
+changed {items} {places} {p} {q} moved stages s h count e lp lq =
     let a : ℕ = get_or items p 0 in
+    let later : List Stage = set stages a s in
     let known : a < length stages = (let low = (h.listed p lp).0 in omega (arith, low, count)) in
-    record {
-      here = ap (stage_at (set stages a s)) x.second ∙ stage_here stages a s known;
-      first = λ ne. ap (stage_at (set stages a s)) x.first ∙ stage_there stages a (get_or items q 0) s (λ e. ne (sym (apart h q p lq lp e)));
-      others = λ k lt np nq. ap (stage_at (set stages a s)) (x.others k np nq) ∙ stage_there stages a (get_or items k 0) s (λ e. np (apart h k p lt lp e));
-    }
+    subst (λ (xs : List ℕ). IsChange items stages xs later p q s) (sym e) (record {
+      here = ap (stage_at later) (second_there items p q lq) ∙ stage_here stages a s known;
+      first = λ ne. ap (stage_at later) (first_there items p q lp ne) ∙ stage_there stages a (get_or items q 0) s (λ same. ne (sym (apart h q p lq lp same)));
+      others = λ k lt np nq. ap (stage_at later) (others_there items p q k np nq) ∙ stage_there stages a (get_or items k 0) s (λ same. np (apart h k p lt lp same));
+    })
 
 -- ---- the place of an atom
 
@@ -129,21 +142,14 @@ runs_wait {items} {moved} {stages} {later} {shown} {border} {p} h c count lo hi 
 
 -- ---- going back
 
-pub all_there : {items places : List ℕ} → AreInverse items places → AreAll items
-all_there {items} {places} h = record {
-  known = λ i d lt. subst (λ (a : ℕ). a < length items) (get_or_default items i 0 d lt) (h.listed i lt).0;
-  apart = λ j k lj lk e. apart h j k lj lk e;
-  each = λ a lt. (let s = h.stands a lt in (get_or places a 0, s.0, s.1));
-}
-
 -- the last atom that shows waits
-pub runs_undone : {items : List ℕ} {stages : List Stage} {shown left border : ℕ} → AreAll items → length stages ≡ length items → AreRuns items stages shown border → left + 1 ≡ shown → AreRuns items (set stages (get_or items left 0) stage.Waits) left border
-runs_undone {items} {stages} {shown} {left} {border} all count h at =
+pub runs_undone : {items places : List ℕ} {stages : List Stage} {shown left border : ℕ} → AreInverse items places → length stages ≡ length items → AreRuns items stages shown border → left + 1 ≡ shown → AreRuns items (set stages (get_or items left 0) stage.Waits) left border
+runs_undone {items} {places} {stages} {shown} {left} {border} inverse count h at =
     let a : ℕ = get_or items left 0 in
     let later : List Stage = set stages a stage.Waits in
     let known : left < length items = omega (arith, at, h.order, h.within) in
-    let here : stage_by items later left ≡ stage.Waits = stage_here stages a stage.Waits (let low = all.known left 0 known in omega (arith, low, count)) in
-    let others : (k : ℕ) → k < length items → k ≢ left → stage_by items later k ≡ stage_by items stages k = λ k lt ne. stage_there stages a (get_or items k 0) stage.Waits (λ e. ne (all.apart k left lt known e)) in
+    let here : stage_by items later left ≡ stage.Waits = stage_here stages a stage.Waits (let low = (inverse.listed left known).0 in omega (arith, low, count)) in
+    let others : (k : ℕ) → k < length items → k ≢ left → stage_by items later k ≡ stage_by items stages k = λ k lt ne. stage_there stages a (get_or items k 0) stage.Waits (λ e. ne (apart inverse k left lt known e)) in
     record {
       order = omega (arith, at, h.order);
       within = h.within;
@@ -167,11 +173,11 @@ undone_same kept stage.Supported h = refl
 undone_same kept (stage.Forcing m) h = ap (λ (b : Bool). if b then stage.Waits else stage.Forcing m) (le-ltb kept m h)
 
 -- where none shows by later literals, going back changes nothing
-pub none_later : {items : List ℕ} {stages : List Stage} {shown border : ℕ} (kept : ℕ) → AreAll items → length stages ≡ length items → AreRuns items stages shown border → (shown ≡ 0) ⊎ IsUpTo kept (stage_by items stages (shown - 1)) → map (undone kept) stages ≡ stages
-none_later {items} {stages} {shown} {border} kept all count h last =
+pub none_later : {items places : List ℕ} {stages : List Stage} {shown border : ℕ} (kept : ℕ) → AreInverse items places → length stages ≡ length items → AreRuns items stages shown border → (shown ≡ 0) ⊎ IsUpTo kept (stage_by items stages (shown - 1)) → map (undone kept) stages ≡ stages
+none_later {items} {places} {stages} {shown} {border} kept inverse count h last =
     ext_get_or stage.Waits (map (undone kept) stages) stages (length-map stages (undone kept)) (λ a less.
-    let p = all.each a (omega (arith, less, count, length-map stages (undone kept))) in
-    get_or-map (undone kept) stages a stage.Waits ∙ subst (λ (b : ℕ). undone kept (stage_at stages b) ≡ stage_at stages b) p.2 (at p.0 p.1))
+    let s = inverse.stands a (omega (arith, less, count, length-map stages (undone kept))) in
+    get_or-map (undone kept) stages a stage.Waits ∙ subst (λ (b : ℕ). undone kept (stage_at stages b) ≡ stage_at stages b) s.1 (at (get_or places a 0) s.0))
   where
     early : (k : ℕ) → k < shown → (shown ≡ 0) ⊎ IsUpTo kept (stage_by items stages (shown - 1)) → IsUpTo kept (stage_by items stages k)
     early k lt (inl none) = absurd (omega (arith, none, lt))
@@ -188,23 +194,10 @@ none_later {items} {stages} {shown} {border} kept all count h last =
 
 -- ---- a new table
 
-pub inverse_new : (n : ℕ) → AreInverse (range_with_len 0 n) (range_with_len 0 n)
-inverse_new n = record {
-  as_many = refl;
-  listed = λ k lt. at k (omega (arith, lt, length-range_with_len 0 n));
-  stands = λ k lt. at k (omega (arith, lt, length-range_with_len 0 n));
-}
-  where
-    at : (k : ℕ) → k < n → (get_or (range_with_len 0 n) k 0 < length (range_with_len 0 n)) × (get_or (range_with_len 0 n) (get_or (range_with_len 0 n) k 0) 0 ≡ k)
-    at k lt =
-        let here : get_or (range_with_len 0 n) k 0 ≡ k = get_or-range_with_len 0 n k 0 lt ∙ omega arith in
-        (omega (arith, here, lt, length-range_with_len 0 n), ap (λ (j : ℕ). get_or (range_with_len 0 n) j 0) here ∙ here)
-
-pub table_new : (n : ℕ) → n < 2 ^ 32 → IsTable (range_with_len 0 n) (range_with_len 0 n) (replicate n stage.Waits) 0 n
-table_new n small = record {
+pub table_new : (n : ℕ) → IsTable (in_order n) (replicate n stage.Waits) 0 n
+table_new n = record {
   inverse = inverse_new n;
   as_many = length-replicate n stage.Waits ∙ sym (length-range_with_len 0 n);
-  few = omega (arith, small, length-range_with_len 0 n);
   runs = record {
     order = omega arith;
     within = omega (arith, length-range_with_len 0 n);
@@ -216,23 +209,12 @@ table_new n small = record {
 }
 
 -- where the borders meet, none waits
-pub none_waits : {items places : List ℕ} {stages : List Stage} {shown border : ℕ} → IsTable items places stages shown border → shown ≡ border → NoneWaits stages
-none_waits {items} {places} {stages} {shown} {border} h meet = λ i d lt e.
+pub none_waits : {r : RankingView} {stages : List Stage} {shown border : ℕ} → IsTable r stages shown border → shown ≡ border → NoneWaits stages
+none_waits {r} {stages} {shown} {border} h meet = λ i d lt e.
     let s = h.inverse.stands i (omega (arith, lt, h.as_many)) in
-    let is : stage_by items stages (get_or places i 0) ≡ stage.Waits = ap (stage_at stages) s.1 ∙ get_or_default stages i stage.Waits d lt ∙ e in
-    let between = place_of_waiting h.runs (get_or places i 0) s.0 is in
+    let is : stage_by r.items stages (get_or r.places i 0) ≡ stage.Waits = ap (stage_at stages) s.1 ∙ get_or_default stages i stage.Waits d lt ∙ e in
+    let between = place_of_waiting h.runs (get_or r.places i 0) s.0 is in
     omega (arith, meet, between.0, between.1)
-
-range_push : (a n : ℕ) → range_with_len a n ++ (a + n) ∷ [] ≡ range_with_len a (suc n)
-range_push a zero = ap (λ (k : ℕ). k ∷ []) (omega arith)
-range_push a (suc n) = ap (λ (ks : List ℕ). a ∷ ks) (ap (λ (k : ℕ). range_with_len (a + 1) n ++ k ∷ []) (omega arith) ∙ range_push (a + 1) n)
-
--- the next number comes last
-pub range_more : (n : ℕ) → range_with_len 0 n ++ n ∷ [] ≡ range_with_len 0 (n + 1)
-range_more n =
-    let here : n ≡ 0 + n = omega arith in
-    let next : suc n ≡ n + 1 = omega arith in
-    ap (λ (k : ℕ). range_with_len 0 n ++ k ∷ []) here ∙ range_push 0 n ∙ ap (range_with_len 0) next
 
 -- ---- the table after a change
 
@@ -242,35 +224,33 @@ pub record IsPlaced (items : List ℕ) (stages : List Stage) (a p : ℕ) (s : St
   pub atom : get_or items p 0 ≡ a
   pub its : stage_by items stages p ≡ s
 
-pub placed : {items places : List ℕ} {stages : List Stage} {shown border : ℕ} (a p : ℕ) (s : Stage) → IsTable items places stages shown border → a < length stages → p ≡ get_or places a p → stage_at stages a ≡ s → IsPlaced items stages a p s
-placed {items} {places} {stages} a p s h lt e its =
+pub placed : {r : RankingView} {stages : List Stage} {shown border : ℕ} (a p : ℕ) (s : Stage) → IsTable r stages shown border → a < length stages → p ≡ get_or r.places a 0 → stage_at stages a ≡ s → IsPlaced r.items stages a p s
+placed {r} {stages} a p s h lt at its =
     let there = h.inverse.stands a (omega (arith, lt, h.as_many)) in
-    let at : p ≡ get_or places a 0 = get_or_read places a p (omega (arith, lt, h.as_many, h.inverse.as_many)) e 0 in
-    let atom : get_or items p 0 ≡ a = ap (λ (q : ℕ). get_or items q 0) at ∙ there.1 in
+    let atom : get_or r.items p 0 ≡ a = ap (λ (q : ℕ). get_or r.items q 0) at ∙ there.1 in
     record { inside = omega (arith, at, there.0); atom = atom; its = ap (stage_at stages) atom ∙ its }
 
 -- what a change leaves
-pub record IsChanged (items places : List ℕ) (stages : List Stage) (items' places' : List ℕ) (stages' : List Stage) (p q : ℕ) (s : Stage) : Type 0 where
-  pub inverse : AreInverse items' places'
-  pub as_many : length items' ≡ length items
-  pub written : stages' ≡ set stages (get_or items p 0) s
-  pub change : IsChange items stages items' stages' p q s
+pub record IsChanged (r : RankingView) (stages : List Stage) (r' : RankingView) (stages' : List Stage) (p q : ℕ) (s : Stage) : Type 0 where
+  pub inverse : AreInverse r'.items r'.places
+  pub as_many : length r'.items ≡ length r.items
+  pub written : stages' ≡ set stages (get_or r.items p 0) s
+  pub change : IsChange r.items stages r'.items stages' p q s
 
-table_with : {items places items' places' : List ℕ} {stages stages' : List Stage} {shown border shown' border' p q : ℕ} {s : Stage} → IsTable items places stages shown border → IsChanged items places stages items' places' stages' p q s → AreRuns items' stages' shown' border' → IsTable items' places' stages' shown' border'
-table_with {items} {places} {items'} {places'} {stages} {stages'} {shown} {border} {shown'} {border'} {p} {q} {s} h c runs = record {
+table_with : {r r' : RankingView} {stages stages' : List Stage} {shown border shown' border' p q : ℕ} {s : Stage} → IsTable r stages shown border → IsChanged r stages r' stages' p q s → AreRuns r'.items stages' shown' border' → IsTable r' stages' shown' border'
+table_with {r} {r'} {stages} {stages'} {shown} {border} {shown'} {border'} {p} {q} {s} h c runs = record {
   inverse = c.inverse;
-  as_many = ap length c.written ∙ length-set stages (get_or items p 0) s ∙ h.as_many ∙ sym c.as_many;
-  few = omega (arith, c.as_many, h.few);
+  as_many = ap length c.written ∙ length-set stages (get_or r.items p 0) s ∙ h.as_many ∙ sym c.as_many;
   runs = runs;
 }
 
-pub table_stand : {items places items' places' : List ℕ} {stages stages' : List Stage} {shown border a p q : ℕ} → IsTable items places stages shown border → IsPlaced items stages a p stage.Waits → q ≡ border - 1 → IsChanged items places stages items' places' stages' p q stage.Supported → IsTable items' places' stages' shown q
+pub table_stand : {r r' : RankingView} {stages stages' : List Stage} {shown border a p q : ℕ} → IsTable r stages shown border → IsPlaced r.items stages a p stage.Waits → q ≡ border - 1 → IsChanged r stages r' stages' p q stage.Supported → IsTable r' stages' shown q
 table_stand {p = p} h x at c = let between = place_of_waiting h.runs p x.inside x.its in table_with h c (runs_stand h.runs c.change c.as_many between.0 between.1 (let high = between.1 in omega (arith, high, at)))
 
-pub table_show : {items places items' places' : List ℕ} {stages stages' : List Stage} {shown border a p n : ℕ} → IsTable items places stages shown border → IsPlaced items stages a p stage.Waits → All (IsUpTo n) stages → IsChanged items places stages items' places' stages' p shown (stage.Forcing n) → IsTable items' places' stages' (shown + 1) border
-table_show {items = items} {stages = stages} {p = p} {n = n} h x low c =
+pub table_show : {r r' : RankingView} {stages stages' : List Stage} {shown border a p n : ℕ} → IsTable r stages shown border → IsPlaced r.items stages a p stage.Waits → All (IsUpTo n) stages → IsChanged r stages r' stages' p shown (stage.Forcing n) → IsTable r' stages' (shown + 1) border
+table_show {r = r} {stages = stages} {p = p} {n = n} h x low c =
     let between = place_of_waiting h.runs p x.inside x.its in
-    table_with h c (runs_show h.runs c.change c.as_many between.0 between.1 (λ k lt. low (get_or items k 0) stage.Waits (let known = (h.inverse.listed k lt).0 in omega (arith, known, h.as_many))))
+    table_with h c (runs_show h.runs c.change c.as_many between.0 between.1 (λ k lt. low (get_or r.items k 0) stage.Waits (let known = (h.inverse.listed k lt).0 in omega (arith, known, h.as_many))))
 
-pub table_wait : {items places items' places' : List ℕ} {stages stages' : List Stage} {shown border a p : ℕ} → IsTable items places stages shown border → IsPlaced items stages a p stage.Supported → IsChanged items places stages items' places' stages' p border stage.Waits → IsTable items' places' stages' shown (border + 1)
+pub table_wait : {r r' : RankingView} {stages stages' : List Stage} {shown border a p : ℕ} → IsTable r stages shown border → IsPlaced r.items stages a p stage.Supported → IsChanged r stages r' stages' p border stage.Waits → IsTable r' stages' shown (border + 1)
 table_wait {p = p} h x c = table_with h c (runs_wait h.runs c.change c.as_many (place_of_standing h.runs p x.inside x.its) x.inside)

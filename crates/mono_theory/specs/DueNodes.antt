@@ -1,16 +1,16 @@
 -- Atoms that are due since something new is known of a node of theirs.
 use Rattle.std.specs.Prelude.{◌≡◌, ℕ, ◌<◌, Bool, true, false, List, length, slice_index, IsTrue}
 use Rattle.mono_graph.specs.Digraph.{has}
-use Rattle.mono_theory.specs.DueAtoms.{is_due}
+use Rattle.mono_base.specs.Worklist.{is_listed}
 
 -- the atoms of these nodes are due, and those that were due still are
 pub record PutsNodes (node_of : List ℕ) (nodes : List ℕ) (before after : List Bool) : Type 0 where
   pub size : length after ≡ length before
-  pub stay : (a : ℕ) → is_due after a ≡ false → is_due before a ≡ false
-  pub each : (a : ℕ) → a < length node_of → IsTrue (has nodes (slice_index node_of a)) → is_due after a ≡ true
+  pub stay : (a : ℕ) → is_listed after a ≡ false → is_listed before a ≡ false
+  pub each : (a : ℕ) → a < length node_of → IsTrue (has nodes (slice_index node_of a)) → is_listed after a ≡ true
 
 -- so it is with the nodes of each of the first n rows
 pub record PutsRows (node_of : List ℕ) (nodes : ℕ → List ℕ) (n : ℕ) (before after : List Bool) : Type 0 where
   pub size : length after ≡ length before
-  pub stay : (a : ℕ) → is_due after a ≡ false → is_due before a ≡ false
-  pub each : (i a : ℕ) → i < n → a < length node_of → IsTrue (has (nodes i) (slice_index node_of a)) → is_due after a ≡ true
+  pub stay : (a : ℕ) → is_listed after a ≡ false → is_listed before a ≡ false
+  pub each : (i a : ℕ) → i < n → a < length node_of → IsTrue (has (nodes i) (slice_index node_of a)) → is_listed after a ≡ true

@@ -19,3 +19,5 @@ pub mod RowSides
 pub mod EitherSides
 pub mod SureParts
 pub mod DueNodes
+pub mod Asked
+pub mod PossibleRows

@@ -1,9 +1,9 @@
 -- Rows of what was found along the edges of one side, and of which literals they are.
 use Rattle.std.specs.Prelude.{◌≡◌, ℕ, ◌<◌, ◌≤◌, Bool, true, false, ℤ, List, take, length}
+use Rattle.mono_base.specs.Worklist.{is_listed}
 use Rattle.mono_problem.specs.declared.atom.Atom.{Atom}
 use Rattle.mono_problem.specs.declared.atom.Predicate.{Predicate}
 use Rattle.mono_theory.specs.Bound.{Bound, edge_vars, IsBoundOf}
-use Rattle.mono_theory.specs.DueAtoms.{is_due}
 use Rattle.mono_theory.specs.Evidences.{Decides, shown_by}
 use Rattle.mono_theory.specs.Supports.{AreCovered, IsSettled, atom_at, part_of}
 use Rattle.mono_theory.specs.Theories.{Facts, cut_to}
@@ -22,7 +22,7 @@ pub record DecidesRest (f : Facts) (possible : Bool) (shown : ℕ → Bool) : Ty
 -- each atom that isn't due is settled by the literals, if the rows show something of it
 pub record AreSettledBut (t : List ℤ) (possible : Bool) (atoms : List Atom) (shown : ℕ → Bool) (due : List Bool) : Type 0 where
   pub size : length due ≡ length atoms
-  pub each : (a : ℕ) → a < length atoms → is_due due a ≡ false → shown a ≡ true → IsSettled t possible (atom_at atoms a)
+  pub each : (a : ℕ) → a < length atoms → is_listed due a ≡ false → shown a ≡ true → IsSettled t possible (atom_at atoms a)
 
 -- The atoms are of the kind, and the rows are right for the literals that were looked at. So are the bounds, and each atom of
 -- which the rows show something is due or settled by these literals.

@@ -1,6 +1,7 @@
 -- What is known of each atom on one side: nothing yet, or that its support is right, or by how many first literals it is shown.
-use Rattle.std.specs.Prelude.{◌≡◌, ◌≢◌, ℕ, ◌<◌, ◌≤◌, ◌^◌, nat_lt, Bool, true, false, List, length, slice_index_or, All, if◌then◌else◌}
+use Rattle.std.specs.Prelude.{◌≡◌, ◌≢◌, ℕ, ◌<◌, ◌≤◌, nat_lt, Bool, true, false, List, length, slice_index_or, All, if◌then◌else◌}
 use Rattle.std.specs.List.{count_by}
+use Rattle.mono_base.specs.Ranking.{AreInverse, RankingView}
 use Rattle.mono_theory.specs.declared.stage.Stage.{Stage}
 use Rattle.mono_theory.specs.declared.stage.Stage.TheVariants as stage
 
@@ -44,18 +45,6 @@ waiting_count stages = count_by waits stages
 abbrev pub NoneWaits : List Stage → Type 0
 NoneWaits stages = All (λ s. s ≢ stage.Waits) stages
 
--- the atoms by place and the places by atom are inverse to one another
-pub record AreInverse (items places : List ℕ) : Type 0 where
-  pub as_many : length places ≡ length items
-  pub listed : (k : ℕ) → k < length items → (slice_index_or items k 0 < length items) × (slice_index_or places (slice_index_or items k 0) 0 ≡ k)
-  pub stands : (a : ℕ) → a < length items → (slice_index_or places a 0 < length items) × (slice_index_or items (slice_index_or places a 0) 0 ≡ a)
-
--- each atom is at one place
-pub record AreAll (items : List ℕ) : Type 0 where
-  pub known : All (λ a. a < length items) items
-  pub apart : (j k : ℕ) → j < length items → k < length items → slice_index_or items j 0 ≡ slice_index_or items k 0 → j ≡ k
-  pub each : (a : ℕ) → a < length items → (k : ℕ) × (k < length items) × (slice_index_or items k 0 ≡ a)
-
 -- the stage of the atom at a place
 abbrev pub stage_by : List ℕ → List Stage → ℕ → Stage
 stage_by items stages k = stage_at stages (slice_index_or items k 0)
@@ -70,18 +59,10 @@ pub record AreRuns (items : List ℕ) (stages : List Stage) (shown border : ℕ)
   pub later : (j k m : ℕ) → j ≤ k → k < shown → IsUpTo m (stage_by items stages k) → IsUpTo m (stage_by items stages j)
 
 -- what the fields of a table of stages keep
-pub record IsTable (items places : List ℕ) (stages : List Stage) (shown border : ℕ) : Type 0 where
-  pub inverse : AreInverse items places
-  pub as_many : length stages ≡ length items
-  pub few : length items < 2 ^ 32
-  pub runs : AreRuns items stages shown border
-
--- what an exchange of two places leaves
-pub record IsExchange (items moved : List ℕ) (p q : ℕ) : Type 0 where
-  pub as_many : length moved ≡ length items
-  pub first : slice_index_or moved p 0 ≡ slice_index_or items q 0
-  pub second : slice_index_or moved q 0 ≡ slice_index_or items p 0
-  pub others : (k : ℕ) → k ≢ p → k ≢ q → slice_index_or moved k 0 ≡ slice_index_or items k 0
+pub record IsTable (r : RankingView) (stages : List Stage) (shown border : ℕ) : Type 0 where
+  pub inverse : AreInverse r.items r.places
+  pub as_many : length stages ≡ length r.items
+  pub runs : AreRuns r.items stages shown border
 
 -- After an exchange of p and q the atom that was at p has the stage s. At q its stage is s, and at each other place a stage
 -- is the one that was there, or at p the one that was at q.

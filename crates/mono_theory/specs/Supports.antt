@@ -15,6 +15,7 @@ use Rattle.mono_theory.specs.declared.stage.Stage.{Stage}
 use Rattle.mono_theory.specs.declared.stage.Stage.TheVariants as stage
 use Rattle.mono_theory.specs.declared.theory.Force.{Force}
 use Rattle.mono_theory.specs.declared.theory.Force.TheVariants as force
+use Rattle.mono_theory.specs.declared.watch.Watch.{Watch}
 use Rattle.mono_theory.specs.Evidences.{Decides, shown_by}
 pub use Rattle.mono_theory.specs.Sound.{AllHave, atom_at}
 use Rattle.mono_theory.specs.Sound.{AreSound, IsRightIn, RestsOn, evidence_at}
@@ -30,13 +31,13 @@ part_of g t possible = if possible then over g t else under g t
 abbrev pub IsSettled : List ℤ → Bool → Atom → Type 0
 IsSettled t possible x = IsTrue (is_true_in t (literal_of (shown_by x.predicate (not possible)) x.var))
 
--- What is kept on a side, by atom: its support, what is shown of it, the atoms that watch each edge, and the stages. Also
+-- What is kept on a side, by atom: its support, what is shown of it, what watches each edge, and the stages. Also
 -- whether the side is that of the possibly present edges, and whether the predicates of settled atoms are decided too.
 pub record SideView : Type 0 where
   pub possible : Bool
   pub supports : List (Option Evidence)
   pub shown : List (Option Evidence)
-  pub watchers : List (List ℕ)
+  pub watchers : List (List Watch)
   pub stages : List Stage
   pub thorough : Bool
 
@@ -118,7 +119,7 @@ pub record IsFewer (s r : SideView) : Type 0 where
   pub alike : IsAlike s r
 
 -- nothing has changed but what atoms watch
-abbrev pub with_watchers : SideView → List (List ℕ) → SideView
+abbrev pub with_watchers : SideView → List (List Watch) → SideView
 with_watchers s watchers = record { possible = s.possible; supports = s.supports; shown = s.shown; watchers = watchers; stages = s.stages; thorough = s.thorough }
 
 -- what looking at an atom answers: one fewer waits, or it forces a literal that isn't true

@@ -1,36 +1,51 @@
--- The atoms that watch each edge.
-use Rattle.std.specs.Prelude.{◌≡◌, ◌≢◌, ℕ, ◌<◌, ◌⊎◌, List, [], Option, IfSome, length, slice_index_or, IsTrue, All}
+-- What watches each edge: an atom, and the place of the edge among those on which its support rests.
+use Rattle.std.specs.Prelude.{◌≡◌, ◌≢◌, ℕ, ◌<◌, ◌⊎◌, List, [], Option, IfSome, MatchOption, length, slice_index_or, IsTrue, All}
+use Rattle.std.specs.List.{Contains}
 use Rattle.mono_graph.specs.Digraph.{has}
 use Rattle.mono_theory.specs.declared.evidence.Evidence.{Evidence}
 use Rattle.mono_theory.specs.declared.stage.Stage.{Stage}
 use Rattle.mono_theory.specs.declared.stage.Stage.TheVariants as stage
+use Rattle.mono_theory.specs.declared.watch.Watch.{Watch}
 use Rattle.mono_theory.specs.Sound.{evidence_at, RestsOn}
 use Rattle.mono_theory.specs.Stages.{stage_at}
 
--- the atoms that watch the edge
-abbrev pub watching : List (List ℕ) → ℕ → List ℕ
+-- what watches the edge
+abbrev pub watching : List (List Watch) → ℕ → List Watch
 watching watchers k = slice_index_or watchers k []
 
+-- the atom, and the place of an edge in its support
+abbrev pub watch_by : ℕ → ℕ → Watch
+watch_by a i = record { atom = a; place = i }
+
 -- each atom that watches an edge is below the number
-abbrev pub AreBelow : ℕ → List (List ℕ) → Type 0
-AreBelow n watchers = (k : ℕ) → All (λ a. a < n) (watching watchers k)
+abbrev pub AreBelow : ℕ → List (List Watch) → Type 0
+AreBelow n watchers = (k : ℕ) → All (λ w. w.atom < n) (watching watchers k)
 
--- the atom watches each of the edges
-pub record AreWatched (watchers : List (List ℕ)) (a : ℕ) (ks : List ℕ) : Type 0 where
-  pub each : (k : ℕ) → IsTrue (has ks k) → IsTrue (has (watching watchers k) a)
+-- the atom watches each of the edges, by its place among them
+pub record AreWatched (watchers : List (List Watch)) (a : ℕ) (ks : List ℕ) : Type 0 where
+  pub each : (i : ℕ) → i < length ks → Contains (watching watchers (slice_index_or ks i 0)) (watch_by a i)
 
--- whoever watched an edge still does
-pub record IsGrown (watchers more : List (List ℕ)) : Type 0 where
+-- what watched an edge still does
+pub record IsGrown (watchers more : List (List Watch)) : Type 0 where
   pub len : length more ≡ length watchers
-  pub each : (k a : ℕ) → IsTrue (has (watching watchers k) a) → IsTrue (has (watching more k) a)
+  pub each : (k : ℕ) (w : Watch) → Contains (watching watchers k) w → Contains (watching more k) w
 
 -- the atom watches the edges of its support
-abbrev pub WatchesIts : List (List ℕ) → ℕ → Option Evidence → Type 0
+abbrev pub WatchesIts : List (List Watch) → ℕ → Option Evidence → Type 0
 WatchesIts watchers a o = IfSome o (λ e. AreWatched watchers a e.edges)
 
 -- each of the first n atoms watches the edges of its support
-pub record AllWatch (watchers : List (List ℕ)) (supports : List (Option Evidence)) (n : ℕ) : Type 0 where
+pub record AllWatch (watchers : List (List Watch)) (supports : List (Option Evidence)) (n : ℕ) : Type 0 where
   pub each : (a : ℕ) → a < n → WatchesIts watchers a (evidence_at supports a)
+
+-- the place is among those of a list, and the edge stands there
+pub record IsEdgeAt (ks : List ℕ) (i k : ℕ) : Type 0 where
+  pub held : i < length ks
+  pub is : slice_index_or ks i 0 ≡ k
+
+-- there is evidence, and the edge stands at this place among those on which it rests
+abbrev pub RestsAt : Option Evidence → ℕ → ℕ → Type 0
+RestsAt o i k = MatchOption o ⊥ (λ e. IsEdgeAt e.edges i k)
 
 -- the atom stood, and waits now; its support rests on one of the edges
 pub record IsInvalidated (supports : List (Option Evidence)) (ks : List ℕ) (before after : List Stage) (a : ℕ) : Type 0 where
@@ -45,6 +60,6 @@ pub record AreInvalidated (supports : List (Option Evidence)) (ks : List ℕ) (b
   pub len : length after ≡ length before
   pub each : (a : ℕ) → (stage_at after a ≡ stage_at before a) ⊎ IsInvalidated supports ks before after a
 
--- none of these atoms stands on the edge
-pub record NoneStandsOn (supports : List (Option Evidence)) (stages : List Stage) (atoms : List ℕ) (k : ℕ) : Type 0 where
-  pub each : (a : ℕ) → IsTrue (has atoms a) → RestsOn (evidence_at supports a) k → stage_at stages a ≢ stage.Supported
+-- no atom stands on the edge at the place by which it watches it
+pub record NoneStandsOn (supports : List (Option Evidence)) (stages : List Stage) (ws : List Watch) (k : ℕ) : Type 0 where
+  pub each : (w : Watch) → Contains ws w → RestsAt (evidence_at supports w.atom) w.place k → stage_at stages w.atom ≢ stage.Supported

@@ -3,8 +3,8 @@
 ghost use Rattle.std.specs.Prelude.{◌≡◌, ◌<◌, ◌∷◌, ◌^◌, [], IfOk, length};
 ghost use Rattle.mono_theory.specs.DueNodes.{PutsNodes};
 
-use crate::Due;
 use crate::index::Index;
+use mono_base::Worklist;
 use std::alloc::{AllocError, Global};
 use std::marker::Model;
 
@@ -33,9 +33,9 @@ impl AtomsByNode {
     }
 
     /// Puts the atoms of a node in `due`. It costs their number.
-    pub fn insert(&self, node: u32, due: &mut Due)
-        requires { length due.old ≡ length self.now }
-        ensures { PutsNodes self.now (node ∷ []) due.old due.new }
+    pub fn insert(&self, node: u32, due: &mut Worklist)
+        requires { length due.old.listed ≡ length self.now }
+        ensures { PutsNodes self.now (node ∷ []) due.old.listed due.new.listed }
     {
         due.insert_all(self.nodes.places_of(node));
     }

@@ -3,8 +3,6 @@
 //! Rows answer without a search, but take memory for each node of each row. Where a graph is large and its atoms have many
 //! first nodes, that would be more than there is. What searches found takes memory for the atoms alone.
 
-ghost use Rattle.std.specs.Prelude.{◌≡◌, ◌<◌, ◌≤◌, length, take, IfOk, IfSome};
-
 use crate::rows_side::side_of_rows;
 use crate::{Evidence, Force, Frame, KeptSide, Kind, NewSide, Rows, RowsSide, Side};
 use mono_base::Lit;

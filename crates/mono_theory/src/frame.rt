@@ -3,7 +3,7 @@
 //! The literals are over different variables that concern the theory, the two bounds are theirs, of the edges and of the
 //! atoms' own variables, and the list has room for one literal of each variable. So a literal comes without memory.
 
-ghost use Rattle.std.specs.Prelude.{◌≡◌, ◌==◌, ◌<◌, ◌≤◌, ◌++◌, ◌∷◌, ◌^◌, [], ℕ, pos, map, not, false, take, length, find, All, Some, IfOk, IfSome, IsSome, IsTrue, int_lt, slice_index_or, vec_len, vec_capacity};
+ghost use Rattle.std.specs.Prelude.{◌≡◌, ◌<◌, ◌≤◌, ◌++◌, ◌∷◌, ◌^◌, [], ℕ, pos, map, not, false, take, length, Some, IfOk, IfSome, IsSome, IsTrue, int_lt, slice_index_or, vec_len, vec_capacity};
 ghost use Rattle.std.specs.List.Sorted.{IsStrictlyIncreasing};
 ghost use Rattle.mono_base.specs.Literal.{var_of};
 ghost use Rattle.mono_base.specs.Partial.{is_true_in, is_false_in, is_open_in, is_partial};
@@ -348,7 +348,9 @@ impl Frame {
     pub fn is_settled(&self, place: usize, possible: bool) -> bool
         requires { place < length self.now.atoms }
         ensures settled { IsTrue result → IsSettled self.now.seen possible (slice_index_or self.now.atoms place no_atom) }
-        ensures open { result ≡ false → is_true_in self.now.seen (literal_of (shown_by_of (slice_index_or self.now.atoms place no_atom).predicate (not possible)) (slice_index_or self.now.atoms place no_atom).var) ≡ false }
+        ensures open { result ≡ false → is_true_in self.now.seen
+            (literal_of (shown_by_of (slice_index_or self.now.atoms place no_atom).predicate (not possible))
+            (slice_index_or self.now.atoms place no_atom).var) ≡ false }
     {
         if shown_by(self.atom_at(place).predicate, !possible) {
             self.is_true(place)

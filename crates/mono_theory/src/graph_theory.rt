@@ -5,12 +5,11 @@
 //! rests. So a literal makes work only for the atoms that rest on its edges, and an undone one only for those that lost
 //! their support.
 
-ghost use Rattle.std.specs.Prelude.{◌≡◌, ◌<◌, ◌≤◌, ◌++◌, ◌∷◌, [], pos, int_lt, true, false, not, take, map, length, All, Some, IfOk, IfSome, IsSome, IsTrue, MatchOption, slice_index_or};
+ghost use Rattle.std.specs.Prelude.{◌≡◌, ◌<◌, ◌≤◌, ◌++◌, ◌∷◌, [], pos, int_lt, true, false, not, take, map, length, All, Some, IfOk, IsTrue};
 ghost use Rattle.mono_problem.specs.Instance.{graph_at};
-ghost use Rattle.mono_problem.specs.Read.{no_atom, atom_numbered};
-ghost use Rattle.mono_problem.specs.WellFormed.{IsOver};
-ghost use Rattle.mono_theory.specs.Frames.{IsVar, AreNumbersOf};
-ghost use Rattle.mono_theory.specs.Theories.{atom_of, concerns_of, FindingIs, ForceIs, ForcesBy, IsLemmaOf};
+ghost use Rattle.mono_problem.specs.Read.{atom_numbered};
+ghost use Rattle.mono_theory.specs.Frames.{AreNumbersOf};
+ghost use Rattle.mono_theory.specs.Theories.{concerns_of, FindingIs, ForceIs, ForcesBy, IsLemmaOf};
 ghost use Rattle.mono_base.specs.Literal.{var_of};
 ghost use Rattle.mono_base.specs.Partial.{is_open_in};
 ghost use Rattle.mono_theory.specs.Evidences.{IsEvidence, side as side_of, shown_by as shown_by_of};
@@ -44,7 +43,9 @@ fn evidence_on<K: Kind, S: Side<K>>(
     requires kind { IsTrue (K.covers (atom_at frame.old.atoms place).predicate) }
     ensures size { K.nodes kind.new ≡ K.nodes kind.old }
     ensures same { frame.new ≡ frame.old }
-    ensures evidence { IfOk result (IsEvidence frame.old.graph (side_of frame.old.graph (atom_at frame.old.atoms place).predicate (take kept frame.old.seen) lit) (atom_at frame.old.atoms place).predicate) }
+    ensures evidence { IfOk result (IsEvidence frame.old.graph
+        (side_of frame.old.graph (atom_at frame.old.atoms place).predicate (take kept frame.old.seen) lit)
+        (atom_at frame.old.atoms place).predicate) }
 {
     match side.evidence(alloc, frame, place, kept)? {
         Some(evidence) => Ok(evidence),
@@ -75,7 +76,9 @@ fn evidence_for<K: Kind, S: Side<K>, P: Side<K>>(
     requires kind { IsTrue (K.covers (atom_at frame.old.atoms place).predicate) }
     ensures size { K.nodes kind.new ≡ K.nodes kind.old }
     ensures same { frame.new ≡ frame.old }
-    ensures evidence { IfOk result (IsEvidence frame.old.graph (side_of frame.old.graph (atom_at frame.old.atoms place).predicate (take kept frame.old.seen) lit) (atom_at frame.old.atoms place).predicate) }
+    ensures evidence { IfOk result (IsEvidence frame.old.graph
+        (side_of frame.old.graph (atom_at frame.old.atoms place).predicate (take kept frame.old.seen) lit)
+        (atom_at frame.old.atoms place).predicate) }
 {
     let predicate = frame.atom_at(place as usize).predicate;
     if shown_by(predicate, lit.is_positive()) {
@@ -133,7 +136,8 @@ impl<K: Kind, S: Side<K>, P: Side<K>> Model for GraphTheory<K, S, P> {
 
     ghost view = { λ s. record { graph = s.frame.graph; atoms = s.frame.atoms; seen = s.frame.seen; surely = s.surely; possibly = s.possibly } };
 
-    ghost invariant = { λ s. IsKept K.covers (K.nodes s.kind) s.frame (S.is_right s.surely) (S.possible s.surely) (P.is_right s.possibly) (P.possible s.possibly) };
+    ghost invariant = { λ s. IsKept K.covers (K.nodes s.kind) s.frame (S.is_right s.surely) (S.possible s.surely) (P.is_right s.possibly)
+        (P.possible s.possibly) };
 }
 
 /// The atoms of these numbers.

@@ -3,38 +3,39 @@
 ghost use Rattle.std.specs.Prelude.{◌≡◌, ◌≢◌, ◌<◌, ℕ, List, All, IsTrue, length};
 ghost use Rattle.mono_graph.specs.Digraph.{has};
 ghost use Rattle.mono_theory.specs.declared.stage.Stage.TheVariants as stage;
-ghost use Rattle.mono_theory.specs.Sound.{RestsOn, evidence_at};
+ghost use Rattle.mono_theory.specs.Sound.{evidence_at};
 ghost use Rattle.mono_theory.specs.Stages.{stage_at};
-ghost use Rattle.mono_theory.specs.Watching.{AreBelow, AreInvalidated, NoneStandsOn, watching};
+ghost use Rattle.mono_theory.specs.Watching.{AreBelow, AreInvalidated, NoneStandsOn, RestsAt, watching};
 
 use crate::kept_evidence::KeptEvidence;
 use crate::stages::Stages;
+use crate::watch::Watch;
 use crate::watchers::Watchers;
 
 /// The atom doesn't stand on the edge any more.
-fn invalidate_one(supports: &KeptEvidence, stages: &mut Stages, atom: u32, edge: u32)
+fn invalidate_one(supports: &KeptEvidence, stages: &mut Stages, watch: Watch, edge: u32)
     requires count { length stages.old ≡ length supports.now }
-    requires known { atom < length supports.now }
+    requires known { watch.atom < length supports.now }
     ensures fewer { (ks : List ℕ) → IsTrue (has ks edge) → AreInvalidated supports.now ks stages.old stages.new }
-    ensures gone { RestsOn (evidence_at supports.now atom) edge → stage_at stages.new atom ≢ stage.Supported }
+    ensures gone { RestsAt (evidence_at supports.now watch.atom) watch.place edge → stage_at stages.new watch.atom ≢ stage.Supported }
 {
-    if !stages.is_standing(atom) {
+    if !stages.is_standing(watch.atom) {
         return;
     }
-    if supports.rests_on(atom, edge) {
-        stages.wait(atom);
+    if supports.rests_by(watch, edge) {
+        stages.wait(watch.atom);
     }
 }
 
-/// None of these atoms stands on the edge any more.
-fn invalidate_at(supports: &KeptEvidence, stages: &mut Stages, atoms: &[u32], edge: u32)
+/// None of the atoms that watch the edge stands on it any more.
+fn invalidate_at(supports: &KeptEvidence, stages: &mut Stages, watches: &[Watch], edge: u32)
     requires count { length stages.old ≡ length supports.now }
-    requires known { All (λ a. a < length supports.now) atoms.now }
+    requires known { All (λ w. w.atom < length supports.now) watches.now }
     ensures fewer { (ks : List ℕ) → IsTrue (has ks edge) → AreInvalidated supports.now ks stages.old stages.new }
-    ensures none { NoneStandsOn supports.now stages.new atoms.now edge }
+    ensures none { NoneStandsOn supports.now stages.new watches.now edge }
 {
-    for atom in atoms {
-        invalidate_one(supports, stages, *atom, edge);
+    for watch in watches {
+        invalidate_one(supports, stages, *watch, edge);
     }
 }
 

@@ -4,8 +4,10 @@ ghost use Rattle.std.specs.Prelude.{◌≡◌, ◌↔◌, ◌<◌, ℕ, Bool, Li
 ghost use Rattle.mono_graph.specs.Digraph.{Digraph, has};
 ghost use Rattle.mono_problem.specs.declared.atom.Atom.{Atom};
 ghost use Rattle.mono_theory.specs.Sound.{AllHave, AreSound, EdgesBelow, IsRightIn, RestsOn, evidence_at};
+ghost use Rattle.mono_theory.specs.Watching.{IsEdgeAt, RestsAt};
 
 use crate::Evidence;
+use crate::watch::Watch;
 use mono_graph::Part;
 use std::alloc::{AllocError, Global};
 use std::marker::Model;
@@ -49,20 +51,22 @@ fn is_right_in(part: &Part, evidence: &Option<Evidence>, value: bool) -> bool
     }
 }
 
-/// Whether the edge is one of these.
-fn is_among(edges: &[u32], edge: u32) -> bool
-    ensures { result ≡ has edges.now edge }
+/// Whether the edge is at this place among these.
+fn is_at(edges: &[u32], place: usize, edge: u32) -> bool
+    ensures at { IsTrue result ↔ IsEdgeAt edges.now place edge }
+    ensures has { IsTrue result → IsTrue (has edges.now edge) }
 {
-    edges.iter().any(|k| *k == edge)
+    place < edges.len() && edges[place] == edge
 }
 
-/// Whether there is evidence, and it rests on the edge.
-fn rests_on(evidence: &Option<Evidence>, edge: u32) -> bool
-    ensures { IsTrue result ↔ RestsOn evidence.now edge }
+/// Whether there is evidence, and the edge is at this place among those on which it rests.
+fn rests_at(evidence: &Option<Evidence>, place: usize, edge: u32) -> bool
+    ensures at { IsTrue result ↔ RestsAt evidence.now place edge }
+    ensures on { IsTrue result → RestsOn evidence.now edge }
 {
     match evidence {
         None => false,
-        Some(known) => is_among(known.edges.as_slice(), edge),
+        Some(known) => is_at(known.edges.as_slice(), place, edge),
     }
 }
 
@@ -112,11 +116,12 @@ impl KeptEvidence {
         is_right_in(part, self.at(atom), value)
     }
 
-    /// Whether what is kept of the atom rests on the edge.
-    pub(crate) fn rests_on(&self, atom: u32, edge: u32) -> bool
-        requires { atom < length self.now }
-        ensures { IsTrue result ↔ RestsOn (evidence_at self.now atom) edge }
+    /// Whether what is kept of the atom has the edge at the place of the watch.
+    pub(crate) fn rests_by(&self, watch: Watch, edge: u32) -> bool
+        requires { watch.atom < length self.now }
+        ensures at { IsTrue result ↔ RestsAt (evidence_at self.now watch.atom) watch.place edge }
+        ensures on { IsTrue result → RestsOn (evidence_at self.now watch.atom) edge }
     {
-        rests_on(self.at(atom), edge)
+        rests_at(self.at(watch.atom), watch.place, edge)
     }
 }

@@ -4,7 +4,7 @@
 //! literal makes only those atoms wait that stand on an edge that it changes, and literals that go only those that they
 //! settled. Evidence that isn't right at present is kept, since it may be right again when literals go.
 
-ghost use Rattle.std.specs.Prelude.{◌≡◌, ◌<◌, ◌≤◌, ◌^◌, Bool, Some, None, IsSome, not, true, false, take, length, slice_set, All, IfOk, IfNone, IfSome, IsTrue, MatchOption};
+ghost use Rattle.std.specs.Prelude.{◌≡◌, ◌<◌, ◌≤◌, Bool, Some, None, IsSome, not, true, false, length, slice_set, All, IfOk, IfNone, IfSome, IsTrue, MatchOption};
 ghost use Rattle.mono_base.specs.Partial.{is_true_in};
 ghost use Rattle.mono_steps.specs.Switching.{literal_of};
 ghost use Rattle.mono_theory.specs.Evidences.{shown_by};
@@ -48,7 +48,14 @@ impl Model for KeptSide {
 
     ghost Value = { SideView };
 
-    ghost view = { λ s. record { possible = s.possible; supports = s.supports; shown = s.shown; watchers = s.watchers; stages = s.stages; thorough = s.thorough } };
+    ghost view = { λ s. record {
+      possible = s.possible;
+      supports = s.supports;
+      shown = s.shown;
+      watchers = s.watchers;
+      stages = s.stages;
+      thorough = s.thorough;
+    } };
 
     ghost invariant = { λ s. AreByAtom s.supports s.shown s.stages };
 }
@@ -134,7 +141,8 @@ impl KeptSide {
     pub(crate) fn is_settled(&self, frame: &Frame, atom: u32) -> bool
         requires { atom < length frame.now.atoms }
         ensures settled { IsTrue result → IsSettled frame.now.seen self.now.possible (atom_at frame.now.atoms atom) }
-        ensures open { result ≡ false → is_true_in frame.now.seen (literal_of (shown_by (atom_at frame.now.atoms atom).predicate (not self.now.possible)) (atom_at frame.now.atoms atom).var) ≡ false }
+        ensures open { result ≡ false → is_true_in frame.now.seen
+            (literal_of (shown_by (atom_at frame.now.atoms atom).predicate (not self.now.possible)) (atom_at frame.now.atoms atom).var) ≡ false }
     {
         frame.is_settled(atom as usize, self.possible)
     }
@@ -167,7 +175,8 @@ impl KeptSide {
     pub(crate) fn is_shown(&self, frame: &Frame, atom: u32) -> bool
         requires side { IsSide frame.now self.now.possible self.now }
         requires atom { atom < length frame.now.atoms }
-        ensures { IsTrue result → IsRightIn (part_of frame.now.graph frame.now.seen self.now.possible) (not self.now.possible) (evidence_at self.now.shown atom) }
+        ensures { IsTrue result → IsRightIn (part_of frame.now.graph frame.now.seen self.now.possible) (not self.now.possible)
+            (evidence_at self.now.shown atom) }
     {
         self.shown.is_right(self.part(frame), atom, !self.possible)
     }
@@ -175,7 +184,9 @@ impl KeptSide {
     /// An atom that waits stands on its support, which is right.
     pub(crate) fn stand(&mut self, atom: u32)
         requires next { IsNext self.old atom }
-        ensures side { (f : Facts) → IsSide f self.old.possible self.old → IsRightIn (part_of f.graph f.seen self.old.possible) self.old.possible (evidence_at self.old.supports atom) → IsSide f self.new.possible self.new }
+        ensures side { (f : Facts) → IsSide f self.old.possible self.old
+            → IsRightIn (part_of f.graph f.seen self.old.possible) self.old.possible (evidence_at self.old.supports atom)
+            → IsSide f self.new.possible self.new }
         ensures fewer { IsFewer self.old self.new }
     {
         self.stages.stand(atom);
@@ -186,7 +197,8 @@ impl KeptSide {
         requires side { IsSide frame.now self.old.possible self.old }
         requires next { IsNext self.old atom }
         requires settled { IsSettled frame.now.seen self.old.possible (atom_at frame.now.atoms atom) }
-        requires right { self.old.thorough ≡ true → IsRightIn (part_of frame.now.graph frame.now.seen self.old.possible) (not self.old.possible) (evidence_at self.old.shown atom) }
+        requires right { self.old.thorough ≡ true
+            → IsRightIn (part_of frame.now.graph frame.now.seen self.old.possible) (not self.old.possible) (evidence_at self.old.shown atom) }
         ensures side { IsSide frame.now self.new.possible self.new }
         ensures fewer { IsFewer self.old self.new }
     {
@@ -221,7 +233,8 @@ impl KeptSide {
     fn put_support(&mut self, atom: u32, support: Evidence)
         requires next { IsNext self.old atom }
         requires watched { AreWatched self.old.watchers atom support.edges }
-        ensures side { (f : Facts) → IsSound f.graph (atom_at f.atoms atom).predicate self.old.possible support → IsSide f self.old.possible self.old → IsSide f self.new.possible self.new }
+        ensures side { (f : Facts) → IsSound f.graph (atom_at f.atoms atom).predicate self.old.possible support → IsSide f self.old.possible self.old
+            → IsSide f self.new.possible self.new }
         ensures same { self.new ≡ record self.old { supports = slice_set self.old.supports atom (Some support) } }
     {
         self.supports.put(atom, support);
@@ -253,7 +266,8 @@ impl KeptSide {
     /// This is shown of an atom that waits.
     pub(crate) fn put_shown(&mut self, atom: u32, shown: Evidence)
         requires next { IsNext self.old atom }
-        ensures side { (f : Facts) → IsSound f.graph (atom_at f.atoms atom).predicate (not self.old.possible) shown → IsSide f self.old.possible self.old → IsSide f self.new.possible self.new }
+        ensures side { (f : Facts) → IsSound f.graph (atom_at f.atoms atom).predicate (not self.old.possible) shown
+            → IsSide f self.old.possible self.old → IsSide f self.new.possible self.new }
         ensures same { self.new ≡ record self.old { shown = slice_set self.old.shown atom (Some shown) } }
     {
         self.shown.put(atom, shown);
@@ -282,7 +296,8 @@ impl KeptSide {
         ensures none { (f : Facts) → (possible : Bool) → IsSide f possible self.now → IfNone result (stage_at self.now.stages atom ≢ stage.Supported) }
         ensures stands { IsSome result → stage_at self.now.stages atom ≡ stage.Supported }
         ensures its { IfSome result (λ w. MatchOption (evidence_at self.now.supports atom) ⊥ (λ e. w.now ≡ e.witness)) }
-        ensures right { IfSome result (λ w. (f : Facts) → (possible : Bool) → IsSide f possible self.now → IsWitnessIn f.graph (part_of f.graph f.seen possible) (atom_at f.atoms atom).predicate possible w.now) }
+        ensures right { IfSome result (λ w. (f : Facts) → (possible : Bool) → IsSide f possible self.now
+            → IsWitnessIn f.graph (part_of f.graph f.seen possible) (atom_at f.atoms atom).predicate possible w.now) }
     {
         match self.stage(atom) {
             Stage::Supported => witness_of(self.supports.at(atom)),
@@ -294,10 +309,12 @@ impl KeptSide {
     /// surely present. Where the predicates of settled atoms are decided, it is `None` exactly where the atom doesn't show.
     pub fn shown_witness(&self, atom: u32) -> Option<&Witness>
         requires { atom < length self.now.stages }
-        ensures none { (f : Facts) → (possible : Bool) → IsSide f possible self.now → self.now.thorough ≡ true → IfNone result (shows (stage_at self.now.stages atom) ≡ false) }
+        ensures none { (f : Facts) → (possible : Bool) → IsSide f possible self.now → self.now.thorough ≡ true
+            → IfNone result (shows (stage_at self.now.stages atom) ≡ false) }
         ensures shows { IsSome result → shows (stage_at self.now.stages atom) ≡ true }
         ensures its { IfSome result (λ w. MatchOption (evidence_at self.now.shown atom) ⊥ (λ e. w.now ≡ e.witness)) }
-        ensures right { IfSome result (λ w. (f : Facts) → (possible : Bool) → IsSide f possible self.now → IsWitnessIn f.graph (part_of f.graph f.seen possible) (atom_at f.atoms atom).predicate (not possible) w.now) }
+        ensures right { IfSome result (λ w. (f : Facts) → (possible : Bool) → IsSide f possible self.now
+            → IsWitnessIn f.graph (part_of f.graph f.seen possible) (atom_at f.atoms atom).predicate (not possible) w.now) }
     {
         if !self.thorough {
             return None;
@@ -345,17 +362,6 @@ impl<K: Kind> Side<K> for KeptSide {
 
     fn force(&mut self, alloc: Global, kind: &mut K, frame: &Frame) -> Result<Force, AllocError> {
         force_by::<K>(alloc, kind, frame, self)
-    }
-
-    fn evidence(
-        &self,
-        alloc: Global,
-        frame: &Frame,
-        place: u32,
-        kept: usize,
-    ) -> Result<Option<Evidence>, AllocError> {
-        let _ = (alloc, frame.seen(), place, kept);
-        Ok(None)
     }
 
     fn shown(&self, frame: &Frame, place: u32) -> Option<&Evidence> {

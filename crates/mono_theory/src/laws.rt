@@ -19,13 +19,16 @@ ghost use Rattle.mono_theory.specs.Theories.{IsLemmaOf, IsLemmaFor};
 /// them, and the last one that is undone leaves them. Over the variables of a graph's edges they are its two bounds.
 pub fn bounds_are_those_of_the_list()
     ensures assigned { (b : Bound) (vs : List ℕ) (t : List ℤ) (l : ℤ) → IsTrue (is_lit l) → IsBoundOf b vs t → IsBoundOf (assigned b l) vs (t ++ l ∷ []) }
-    ensures undone { (b : Bound) (vs : List ℕ) (t : List ℤ) (l : ℤ) → IsTrue (is_lit l) → has_var t (var_of l) ≡ false → IsBoundOf b vs (t ++ l ∷ []) → IsBoundOf (unassigned b l) vs t }
+    ensures undone { (b : Bound) (vs : List ℕ) (t : List ℤ) (l : ℤ) → IsTrue (is_lit l) → has_var t (var_of l) ≡ false → IsBoundOf b vs (t ++ l ∷ [])
+        → IsBoundOf (unassigned b l) vs t }
     ensures under { (b : Bound) (g : Digraph) (t : List ℤ) → IsBoundOf b (edge_vars g) t → b.under ≡ under g t }
     ensures over { (b : Bound) (g : Digraph) (t : List ℤ) → IsBoundOf b (edge_vars g) t → b.over ≡ over g t }
 {}
 
 /// Where a theory's graph and atoms are those of a problem, each lemma that it finds or explains is justified there.
 pub fn lemmas_of_theories_are_justified()
-    ensures found { (covers : Predicate → Bool) (p : Instance) (k : ℕ) (ns : List ℕ) (t : List ℤ) (m : Lemma) → IsInstance p → k < length p.graphs → AreNumbersOf covers p k ns → IsLemmaFor (graph_at p k) (map (atom_numbered p) ns) t m → IsTrue (justifies p m) }
-    ensures explained { (covers : Predicate → Bool) (p : Instance) (k : ℕ) (ns : List ℕ) (t : List ℤ) (n : ℕ) (l : ℤ) (m : Lemma) → IsInstance p → k < length p.graphs → AreNumbersOf covers p k ns → IsLemmaOf (graph_at p k) (map (atom_numbered p) ns) t n l m → IsTrue (justifies p m) }
+    ensures found { (covers : Predicate → Bool) (p : Instance) (k : ℕ) (ns : List ℕ) (t : List ℤ) (m : Lemma) → IsInstance p → k < length p.graphs
+        → AreNumbersOf covers p k ns → IsLemmaFor (graph_at p k) (map (atom_numbered p) ns) t m → IsTrue (justifies p m) }
+    ensures explained { (covers : Predicate → Bool) (p : Instance) (k : ℕ) (ns : List ℕ) (t : List ℤ) (n : ℕ) (l : ℤ) (m : Lemma) → IsInstance p
+        → k < length p.graphs → AreNumbersOf covers p k ns → IsLemmaOf (graph_at p k) (map (atom_numbered p) ns) t n l m → IsTrue (justifies p m) }
 {}

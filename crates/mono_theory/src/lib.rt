@@ -1,12 +1,12 @@
 //! Theories of predicates over one graph: what they answer, and all that they share (Bayless et al. 2015).
 #![tactic(auto)]
 
+/// What predicates ask for that ask for a walk.
+mod asked;
 /// Atoms by a node of theirs.
 mod atoms_by_node;
 /// The edges that are surely and possibly present.
 mod bounds;
-/// The atoms that are due.
-mod due;
 /// Places in the order of their keys.
 mod entries;
 /// What shows that a predicate holds or fails, as a lemma.
@@ -35,6 +35,8 @@ mod node_marks;
 mod past;
 /// Rows where they are few, and what searches found where they are many.
 mod either_side;
+/// Rows of the walks along the possibly present edges.
+mod possible_rows;
 /// What is kept of searches along the edges of one side.
 mod rows;
 /// Rows and the literals that they are of.
@@ -49,6 +51,8 @@ mod stages;
 mod theory;
 /// The edges that atoms would have present.
 mod wanting;
+/// An atom that watches an edge.
+mod watch;
 /// The atoms that watch each edge.
 mod watchers;
 /// Evidence from walks.
@@ -56,9 +60,9 @@ pub mod walks;
 /// Rows of lemmas that were worked by hand.
 pub mod worked;
 
+pub use asked::{Asked, AsksWalk, sources_of, targets_of};
 pub use atoms_by_node::AtomsByNode;
 pub use bounds::Bounds;
-pub use due::Due;
 pub use either_side::EitherSide;
 pub use evidence::{Evidence, literal, shown_by};
 pub use frame::Frame;
@@ -66,6 +70,7 @@ pub use graph_theory::GraphTheory;
 pub use kept_side::KeptSide;
 pub use kind::Kind;
 pub use node_marks::NodeMarks;
+pub use possible_rows::PossibleRows;
 pub use rows::Rows;
 pub use rows_side::RowsSide;
 pub use side::{NewSide, Side};

@@ -39,7 +39,8 @@ fn push_leaving(
     requires part { IsPartOf part.now graph.now }
     requires node { node < graph.now.nodes }
     requires len { length marks.now ≡ graph.now.nodes }
-    ensures { (nodes : List ℕ) → ((u : ℕ) → slice_index_or marks.now u false ≡ has nodes u) → IfOk result (λ _. edges.new.items ≡ edges.old.items ++ absent_from graph.now part.now nodes node) }
+    ensures { (nodes : List ℕ) → ((u : ℕ) → slice_index_or marks.now u false ≡ has nodes u)
+        → IfOk result (λ _. edges.new.items ≡ edges.old.items ++ absent_from graph.now part.now nodes node) }
 {
     for place in graph.leaving(node) {
         let edge = graph.edge(*place);
@@ -61,7 +62,8 @@ fn push_entering(
     requires part { IsPartOf part.now graph.now }
     requires node { node < graph.now.nodes }
     requires len { length marks.now ≡ graph.now.nodes }
-    ensures { (nodes : List ℕ) → ((u : ℕ) → slice_index_or marks.now u false ≡ has nodes u) → IfOk result (λ _. edges.new.items ≡ edges.old.items ++ absent_into graph.now part.now nodes node) }
+    ensures { (nodes : List ℕ) → ((u : ℕ) → slice_index_or marks.now u false ≡ has nodes u)
+        → IfOk result (λ _. edges.new.items ≡ edges.old.items ++ absent_into graph.now part.now nodes node) }
 {
     for place in graph.entering(node) {
         let edge = graph.edge(*place);

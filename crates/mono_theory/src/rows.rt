@@ -2,8 +2,8 @@
 
 ghost use Rattle.std.specs.Prelude.{◌<◌, ◌≤◌, ◌+◌, ◌≡◌, false, not, length, slice_index_or, take, true, IfOk, IfSome, IsTrue, OnErr, OnOk};
 
-use crate::{Bounds, Due, Evidence, Frame, Kind};
-use mono_base::Lit;
+use crate::{Bounds, Evidence, Frame, Kind};
+use mono_base::{Lit, Worklist};
 use std::alloc::{AllocError, Global};
 
 /// Rows of what was found along the surely present edges, or along the possibly present ones, by the first nodes of the atoms of
@@ -53,17 +53,17 @@ pub trait Rows<K: Kind>: Drop {
         bounds: &Bounds,
         looked: usize,
         lit: Lit,
-        due: &mut Due,
+        due: &mut Worklist,
     ) -> Result<(), AllocError>
         requires right { are_right self.old (cut_to looked frame.now) }
         requires covered { AreCovered K.covers frame.now.atoms }
         requires more { looked < length frame.now.seen }
         requires next { slice_index_or frame.now.seen looked lit ≡ lit }
         requires bounds { IsBoundOf bounds.now (edge_vars frame.now.graph) (take (looked + 1) frame.now.seen) }
-        requires size { length due.old ≡ length frame.now.atoms }
+        requires size { length due.old.listed ≡ length frame.now.atoms }
         ensures looked { OnOk result (are_right self.new (cut_to (looked + 1) frame.now)) }
         ensures unlooked { OnErr result (are_right self.new (cut_to looked frame.now)) }
-        ensures due { PutsDue (length frame.now.atoms) (shown self.old) (shown self.new) due.old due.new };
+        ensures due { PutsDue (length frame.now.atoms) (shown self.old) (shown self.new) due.old.listed due.new.listed };
 
     /// Brings the rows up to date for the first `looked` literals, whose bounds are given, and puts the atoms in `due` of which
     /// that shows something new. What is shown of no atom is then decided the other way. Where memory is missing, some rows may
@@ -74,17 +74,17 @@ pub trait Rows<K: Kind>: Drop {
         frame: &Frame,
         bounds: &Bounds,
         looked: usize,
-        due: &mut Due,
+        due: &mut Worklist,
     ) -> Result<(), AllocError>
         requires right { are_right self.old (cut_to looked frame.now) }
         requires covered { AreCovered K.covers frame.now.atoms }
         requires looked { looked ≤ length frame.now.seen }
         requires bounds { IsBoundOf bounds.now (edge_vars frame.now.graph) (take looked frame.now.seen) }
-        requires size { length due.old ≡ length frame.now.atoms }
+        requires size { length due.old.listed ≡ length frame.now.atoms }
         ensures right { are_right self.new (cut_to looked frame.now) }
         ensures stand { OnOk result (stand self.new (cut_to looked frame.now)) }
         ensures rest { OnOk result (DecidesRest (cut_to looked frame.now) IS_POSSIBLE (shown self.new)) }
-        ensures due { PutsDue (length frame.now.atoms) (shown self.old) (shown self.new) due.old due.new };
+        ensures due { PutsDue (length frame.now.atoms) (shown self.old) (shown self.new) due.old.listed due.new.listed };
 
     /// Goes back from the first `looked` literals to the first `kept`, and shows nothing new. It takes no memory.
     fn undo_to(&mut self, frame: &Frame, looked: usize, kept: usize)
@@ -103,10 +103,11 @@ pub trait Rows<K: Kind>: Drop {
         requires covered { AreCovered K.covers frame.now.atoms }
         requires place { place < length frame.now.atoms }
         ensures shown { result ≡ shown self.now place }
-        ensures decides { IsTrue result → Decides frame.now.graph (part_of frame.now.graph (take looked frame.now.seen) IS_POSSIBLE) (atom_at frame.now.atoms place).predicate (shown_by (atom_at frame.now.atoms place).predicate (not IS_POSSIBLE)) };
+        ensures decides { IsTrue result → Decides frame.now.graph (part_of frame.now.graph (take looked frame.now.seen) IS_POSSIBLE)
+            (atom_at frame.now.atoms place).predicate (shown_by (atom_at frame.now.atoms place).predicate (not IS_POSSIBLE)) };
 
     /// What shows that the predicate of the atom at a place holds or fails with the edges of this side of the first `kept`
-    /// literals, if what is kept shows it.
+    /// literals, if what is kept shows it. Else a search finds it.
     fn evidence(
         &self,
         alloc: Global,
@@ -120,7 +121,13 @@ pub trait Rows<K: Kind>: Drop {
         requires covered { AreCovered K.covers frame.now.atoms }
         requires place { place < length frame.now.atoms }
         requires kept { kept ≤ length frame.now.seen }
-        ensures { IfOk result (λ found. IfSome found (IsEvidence frame.now.graph (part_of frame.now.graph (take kept frame.now.seen) IS_POSSIBLE) (atom_at frame.now.atoms place).predicate)) };
+        ensures { IfOk result (λ found. IfSome found
+            (IsEvidence frame.now.graph (part_of frame.now.graph (take kept frame.now.seen) IS_POSSIBLE)
+            (atom_at frame.now.atoms place).predicate)) }
+    {
+        let _ = (alloc, frame.seen(), looked, place, kept);
+        Ok(None)
+    }
 
     /// Whether the variable would better be decided true. The answer is free: nothing rests on it but how long a search takes.
     fn prefers(&self, frame: &Frame, looked: usize, var: u32) -> bool

@@ -7,17 +7,17 @@
 //! atom that owes nothing only owes something when the rows show something new of it, or when its own literal goes: it is put
 //! in a set of atoms that are due, and only these are asked. An atom that owes its literal stays due until that is true.
 
-ghost use Rattle.std.specs.Prelude.{[], ◌≡◌, ◌+◌, ◌<◌, ◌≤◌, ℕ, Bool, false, not, length, min, slice_index_or, take, true, IfOk, IfSome, IsTrue, OnOk};
+ghost use Rattle.std.specs.Prelude.{[], ◌≡◌, ◌+◌, ◌<◌, ◌≤◌, ℕ, Bool, false, not, length, min, replicate, take, true, IfOk, IsTrue, OnOk};
 ghost use Rattle.mono_base.specs.Partial.{is_true_in};
 ghost use Rattle.mono_steps.specs.Switching.{literal_of};
-ghost use Rattle.mono_theory.specs.Bound.{edge_vars, IsBoundOf};
+ghost use Rattle.mono_theory.specs.Bound.{IsBoundOf};
 ghost use Rattle.mono_theory.specs.Evidences.{Decides, shown_by as shown_by_of};
 ghost use Rattle.mono_theory.specs.RowSides.{AreRowsFor, AreSettledBut, DecidesRest};
 ghost use Rattle.mono_theory.specs.Supports.{AreCovered, IsSettled, SideIs, atom_at, part_of};
-ghost use Rattle.mono_theory.specs.Theories.{Facts, cut_to};
+ghost use Rattle.mono_theory.specs.Theories.{cut_to};
 
-use crate::{Bounds, Due, Evidence, Force, Frame, Kind, Rows, Side, literal, shown_by};
-use mono_base::Lit;
+use crate::{Bounds, Evidence, Force, Frame, Kind, Rows, Side, literal, shown_by};
+use mono_base::{Lit, Worklist};
 use std::alloc::{AllocError, Global};
 use std::marker::Model;
 
@@ -32,7 +32,7 @@ pub struct RowsSide<R> {
     looked: usize,
     rows: R,
     /// The atoms that may owe a literal. All others owe nothing.
-    due: Due,
+    due: Worklist,
 }
 
 impl<R> Model for RowsSide<R> {
@@ -40,7 +40,7 @@ impl<R> Model for RowsSide<R> {
 
     ghost Value = { RowsView R };
 
-    ghost view = { λ s. record { bounds = s.bounds; looked = s.looked; rows = s.rows; due = s.due } };
+    ghost view = { λ s. record { bounds = s.bounds; looked = s.looked; rows = s.rows; due = s.due.listed } };
 }
 
 /// The bounds go back from the first literals to fewer.
@@ -59,11 +59,12 @@ fn undo_bounds_to(frame: &Frame, bounds: &mut Bounds, looked: usize, kept: usize
 }
 
 /// The atoms are due whose own literals aren't among the first `kept` literals any more.
-fn undo_due_to(frame: &Frame, due: &mut Due, looked: usize, kept: usize)
+fn undo_due_to(frame: &Frame, due: &mut Worklist, looked: usize, kept: usize)
     requires looked { looked ≤ length frame.now.seen }
     requires kept { kept ≤ looked }
-    requires size { length due.old ≡ length frame.now.atoms }
-    ensures { (possible : Bool) → (shown : ℕ → Bool) → AreSettledBut (take looked frame.now.seen) possible frame.now.atoms shown due.old → AreSettledBut (take kept frame.now.seen) possible frame.now.atoms shown due.new }
+    requires size { length due.old.listed ≡ length frame.now.atoms }
+    ensures { (possible : Bool) → (shown : ℕ → Bool) → AreSettledBut (take looked frame.now.seen) possible frame.now.atoms shown due.old.listed
+        → AreSettledBut (take kept frame.now.seen) possible frame.now.atoms shown due.new.listed }
 {
     let _ = frame.seen();
     let mut at = looked;
@@ -135,8 +136,10 @@ fn owes<K: Kind, R: Rows<K>>(rows: &R, frame: &Frame, place: usize) -> bool
     requires right { R.are_right rows.now (cut_to (length frame.now.seen) frame.now) }
     requires covered { AreCovered K.covers frame.now.atoms }
     requires place { place < length frame.now.atoms }
-    ensures shown { IsTrue result → Decides frame.now.graph (part_of frame.now.graph frame.now.seen R.IS_POSSIBLE) (atom_at frame.now.atoms place).predicate (shown_by_of (atom_at frame.now.atoms place).predicate (not R.IS_POSSIBLE)) }
-    ensures open { IsTrue result → is_true_in frame.now.seen (literal_of (shown_by_of (atom_at frame.now.atoms place).predicate (not R.IS_POSSIBLE)) (atom_at frame.now.atoms place).var) ≡ false }
+    ensures shown { IsTrue result → Decides frame.now.graph (part_of frame.now.graph frame.now.seen R.IS_POSSIBLE)
+        (atom_at frame.now.atoms place).predicate (shown_by_of (atom_at frame.now.atoms place).predicate (not R.IS_POSSIBLE)) }
+    ensures open { IsTrue result → is_true_in frame.now.seen
+        (literal_of (shown_by_of (atom_at frame.now.atoms place).predicate (not R.IS_POSSIBLE)) (atom_at frame.now.atoms place).var) ≡ false }
     ensures settled { result ≡ false → R.shown rows.now place ≡ true → IsSettled frame.now.seen R.IS_POSSIBLE (atom_at frame.now.atoms place) }
 {
     if frame.is_settled(place, R::IS_POSSIBLE) {
@@ -146,18 +149,18 @@ fn owes<K: Kind, R: Rows<K>>(rows: &R, frame: &Frame, place: usize) -> bool
 }
 
 /// The literal of an atom that is due and owes it. Atoms that owe nothing aren't due any more.
-fn first_owed<K: Kind, R: Rows<K>>(rows: &R, frame: &Frame, due: &mut Due) -> Force
+fn first_owed<K: Kind, R: Rows<K>>(rows: &R, frame: &Frame, due: &mut Worklist) -> Force
     requires right { R.are_right rows.now (cut_to (length frame.now.seen) frame.now) }
     requires covered { AreCovered K.covers frame.now.atoms }
     requires rest { DecidesRest frame.now R.IS_POSSIBLE (R.shown rows.now) }
-    requires due { AreSettledBut frame.now.seen R.IS_POSSIBLE frame.now.atoms (R.shown rows.now) due.old }
-    ensures due { AreSettledBut frame.now.seen R.IS_POSSIBLE frame.now.atoms (R.shown rows.now) due.new }
+    requires due { AreSettledBut frame.now.seen R.IS_POSSIBLE frame.now.atoms (R.shown rows.now) due.old.listed }
+    ensures due { AreSettledBut frame.now.seen R.IS_POSSIBLE frame.now.atoms (R.shown rows.now) due.new.listed }
     ensures answer { SideIs frame.now R.IS_POSSIBLE result }
 {
     'atoms: while let Some(place) = due.take_next() {
-        if owes::<K, R>(rows, frame, place as usize) {
+        if owes::<K, R>(rows, frame, place) {
             due.insert(place);
-            let atom = frame.atom_at(place as usize);
+            let atom = frame.atom_at(place);
             return Force::Literal {
                 atom: atom.number,
                 lit: literal(atom.var, shown_by(atom.predicate, !R::IS_POSSIBLE)),
@@ -183,6 +186,15 @@ impl<R> RowsSide<R> {
     }
 }
 
+/// All of so many atoms are due, the first of them first.
+fn all_due(alloc: Global, count: usize) -> Result<Worklist, AllocError>
+    ensures { IfOk result (λ due. due.listed ≡ replicate count true) }
+{
+    let mut due = Worklist::empty(alloc, count)?;
+    due.fill();
+    Ok(due)
+}
+
 /// The rows of a frame that has seen nothing. All atoms are due.
 pub(crate) fn side_of_rows<K: Kind, R: Rows<K>>(
     alloc: Global,
@@ -193,7 +205,7 @@ pub(crate) fn side_of_rows<K: Kind, R: Rows<K>>(
     ensures { IfOk result (AreRowsFor K.covers R.IS_POSSIBLE R.are_right R.shown frame.now) }
 {
     let bounds = Bounds::new(alloc, frame.graph())?;
-    let due = Due::new(alloc, frame.atom_count() as u32)?;
+    let due = all_due(alloc, frame.atom_count())?;
     let rows = R::of_frame(alloc, frame)?;
     Ok(RowsSide {
         bounds,

@@ -65,7 +65,7 @@ pub trait Side<K: Kind>: Drop {
         ensures decided { IfOk result (λ answer. answer ≡ Force.Quiet → decides self.new frame.now) };
 
     /// What shows that the predicate of the atom at a place holds or fails with the edges of the side under the first `kept`
-    /// literals, where it is kept.
+    /// literals, where it is kept. Else a search finds it.
     fn evidence(
         &self,
         alloc: Global,
@@ -76,7 +76,13 @@ pub trait Side<K: Kind>: Drop {
         requires right { is_right self.now frame.now }
         requires place { place < length frame.now.atoms }
         requires within { kept ≤ length frame.now.seen }
-        ensures evidence { IfOk result (λ found. IfSome found (IsEvidence frame.now.graph (part_of frame.now.graph (take kept frame.now.seen) (possible self.now)) (atom_at frame.now.atoms place).predicate)) };
+        ensures evidence { IfOk result (λ found. IfSome found
+            (IsEvidence frame.now.graph (part_of frame.now.graph (take kept frame.now.seen) (possible self.now))
+            (atom_at frame.now.atoms place).predicate)) }
+    {
+        let _ = (alloc, frame.seen(), place, kept);
+        Ok(None)
+    }
 
     /// Evidence that is kept of the atom at a place, if there is some: on the side of the surely present edges it rests on present
     /// edges, on that of the possibly present ones on absent edges. It is right wherever these edges are so.

@@ -1,15 +1,16 @@
 //! The stages of the atoms on one side, and which atom to look at next.
 //!
-//! All atoms are listed in one array: first those that show, in the order of their literals, then those that wait, then those
-//! that stand. A second array has the place of each atom. So an atom changes its stage by an exchange with the one beside a
-//! border, and going back moves a border over the atoms that no longer show. No call but `new` takes memory.
+//! All atoms stand in one ranking: first those that show, in the order of their literals, then those that wait, then those
+//! that stand. So an atom changes its stage by an exchange with the one beside a border, and going back moves a border over
+//! the atoms that no longer show. No call but `new` takes memory.
 
-ghost use Rattle.std.specs.Prelude.{◌≡◌, ◌≢◌, ◌⊎◌, ◌<◌, ◌≤◌, ◌-◌, ◌^◌, ℕ, false, map, length, replicate, slice_set, slice_index_or, All, IfOk, IfNone, IfSome, MatchOption, IsTrue};
-ghost use Rattle.std.specs.List.{range_with_len};
+ghost use Rattle.std.specs.Prelude.{◌≡◌, ◌≢◌, ◌⊎◌, ◌<◌, ◌≤◌, ◌-◌, ℕ, false, map, length, replicate, slice_set, slice_index_or, All, IfOk, IfNone, IfSome, MatchOption, IsTrue};
+ghost use Rattle.mono_base.specs.Ranking.{AreInverse};
 ghost use Rattle.mono_theory.specs.declared.stage.Stage.TheVariants as stage;
-ghost use Rattle.mono_theory.specs.Stages.{AreAll, AreInverse, AreRuns, IsChange, IsExchange, IsTable, IsUpTo, NoneWaits, shows, stage_at, stage_by, undone, waiting};
+ghost use Rattle.mono_theory.specs.Stages.{AreRuns, IsChange, IsUpTo, NoneWaits, stage_at, stage_by, undone, waiting};
 
 use crate::Stage;
+use mono_base::Ranking;
 use std::alloc::{AllocError, Global};
 use std::marker::Model;
 
@@ -18,9 +19,7 @@ use std::marker::Model;
 pub(crate) struct Stages {
     stages: Vec<Stage>,
     /// All atoms: those that show, then those that wait, then those that stand.
-    items: Vec<u32>,
-    /// The place of each atom among these.
-    places: Vec<u32>,
+    ranking: Ranking,
     /// How many show.
     shown: usize,
     /// How many don't stand.
@@ -36,58 +35,22 @@ impl Model for Stages {
 
     ghost view = { λ s. s.stages.items };
 
-    ghost invariant = { λ s. IsTable s.items.items s.places.items s.stages.items s.shown s.border };
-}
-
-/// The numbers from 0 up to so many.
-fn numbers(alloc: Global, count: u32) -> Result<Vec<u32>, AllocError>
-    ensures { IfOk result (λ all. all.items ≡ range_with_len 0 count) }
-{
-    let mut all = Vec::with_capacity(alloc, count as usize)?;
-    for number in 0..count {
-        all.push(number)?;
-    }
-    Ok(all)
-}
-
-/// The atoms at two places change places.
-fn exchange(items: &mut Vec<u32>, places: &mut Vec<u32>, first: usize, second: usize)
-    requires inverse { AreInverse items.old.items places.old.items }
-    requires few { length items.old.items < 2 ^ 32 }
-    requires first { first < length items.old.items }
-    requires second { second < length items.old.items }
-    ensures inverse { AreInverse items.new.items places.new.items }
-    ensures exchange { IsExchange items.old.items items.new.items first second }
-{
-    let at_first = items[first];
-    let at_second = items[second];
-    items[first] = at_second;
-    items[second] = at_first;
-    places[at_second as usize] = first as u32;
-    places[at_first as usize] = second as u32;
+    ghost invariant = { λ s. IsTable s.ranking s.stages.items s.shown s.border };
 }
 
 /// The atom at a place moves to another one by an exchange, and has another stage there.
-fn change(
-    items: &mut Vec<u32>,
-    places: &mut Vec<u32>,
-    stages: &mut Vec<Stage>,
-    place: usize,
-    target: usize,
-    its: Stage,
-)
-    requires inverse { AreInverse items.old.items places.old.items }
-    requires as_many { length stages.old.items ≡ length items.old.items }
-    requires few { length items.old.items < 2 ^ 32 }
-    requires place { place < length items.old.items }
-    requires target { target < length items.old.items }
-    ensures inverse { AreInverse items.new.items places.new.items }
-    ensures as_many { length items.new.items ≡ length items.old.items }
-    ensures stages { stages.new.items ≡ slice_set stages.old.items (slice_index_or items.old.items place 0) its }
-    ensures change { IsChange items.old.items stages.old.items items.new.items stages.new.items place target its }
+fn change(ranking: &mut Ranking, stages: &mut Vec<Stage>, place: usize, target: usize, its: Stage)
+    requires inverse { AreInverse ranking.old.items ranking.old.places }
+    requires as_many { length stages.old.items ≡ length ranking.old.items }
+    requires place { place < length ranking.old.items }
+    requires target { target < length ranking.old.items }
+    ensures inverse { AreInverse ranking.new.items ranking.new.places }
+    ensures as_many { length ranking.new.items ≡ length ranking.old.items }
+    ensures stages { stages.new.items ≡ slice_set stages.old.items (slice_index_or ranking.old.items place 0) its }
+    ensures change { IsChange ranking.old.items stages.old.items ranking.new.items stages.new.items place target its }
 {
-    let atom = items[place];
-    exchange(items, places, place, target);
+    let atom = ranking.item(place);
+    ranking.exchange(place, target);
     stages[atom as usize] = its;
 }
 
@@ -112,17 +75,17 @@ fn is_after(its: Stage, kept: usize) -> bool
 }
 
 /// The last atom that shows, if it does so only by literals after the first `kept`.
-fn last_after(items: &[u32], stages: &Vec<Stage>, shown: usize, kept: usize) -> Option<u32>
-    requires all { AreAll items.now }
-    requires as_many { length stages.now.items ≡ length items.now }
-    requires within { shown ≤ length items.now }
-    ensures none { IfNone result ((shown ≡ 0) ⊎ IsUpTo kept (stage_by items.now stages.now.items (shown - 1))) }
-    ensures some { IfSome result (λ a. (0 < shown) × (a ≡ slice_index_or items.now (shown - 1) 0) × (undone kept (stage_at stages.now.items a) ≡ stage.Waits)) }
+fn last_after(ranking: &Ranking, stages: &Vec<Stage>, shown: usize, kept: usize) -> Option<u32>
+    requires as_many { length stages.now.items ≡ length ranking.now.items }
+    requires within { shown ≤ length ranking.now.items }
+    ensures none { IfNone result ((shown ≡ 0) ⊎ IsUpTo kept (stage_by ranking.now.items stages.now.items (shown - 1))) }
+    ensures some { IfSome result (λ a. (0 < shown) × (a ≡ slice_index_or ranking.now.items (shown - 1) 0)
+        × (undone kept (stage_at stages.now.items a) ≡ stage.Waits)) }
 {
     if shown == 0 {
         return None;
     }
-    let atom = items[shown - 1];
+    let atom = ranking.item(shown - 1);
     if is_after(stages[atom as usize], kept) {
         Some(atom)
     } else {
@@ -131,15 +94,15 @@ fn last_after(items: &[u32], stages: &Vec<Stage>, shown: usize, kept: usize) -> 
 }
 
 /// The atoms that show only by literals after the first `kept` wait.
-fn undo_stages_to(items: &[u32], stages: &mut Vec<Stage>, shown: usize, kept: usize) -> usize
-    requires all { AreAll items.now }
-    requires as_many { length stages.old.items ≡ length items.now }
-    requires runs { (border : ℕ) × AreRuns items.now stages.old.items shown border }
-    ensures runs { (border : ℕ) → AreRuns items.now stages.old.items shown border → AreRuns items.now stages.new.items result border }
+fn undo_stages_to(ranking: &Ranking, stages: &mut Vec<Stage>, shown: usize, kept: usize) -> usize
+    requires inverse { AreInverse ranking.now.items ranking.now.places }
+    requires as_many { length stages.old.items ≡ length ranking.now.items }
+    requires runs { (border : ℕ) × AreRuns ranking.now.items stages.old.items shown border }
+    ensures runs { (border : ℕ) → AreRuns ranking.now.items stages.old.items shown border → AreRuns ranking.now.items stages.new.items result border }
     ensures stages { stages.new.items ≡ map (undone kept) stages.old.items }
 {
     let mut left = shown;
-    while let Some(atom) = last_after(items, stages, left, kept) {
+    while let Some(atom) = last_after(ranking, stages, left, kept) {
         stages[atom as usize] = Stage::Waits;
         left -= 1;
     }
@@ -152,12 +115,10 @@ impl Stages {
         ensures { IfOk result (λ s. s ≡ replicate atoms stage.Waits) }
     {
         let stages = vec![in alloc; Stage::Waits; atoms as usize]?;
-        let items = numbers(alloc, atoms)?;
-        let places = numbers(alloc, atoms)?;
+        let ranking = Ranking::new(alloc, atoms)?;
         Ok(Stages {
             stages,
-            items,
-            places,
+            ranking,
             shown: 0,
             border: atoms as usize,
         })
@@ -186,7 +147,7 @@ impl Stages {
         if self.shown == self.border {
             return None;
         }
-        Some(self.items[self.shown])
+        Some(self.ranking.item(self.shown))
     }
 
     /// An atom that waits stands.
@@ -195,11 +156,10 @@ impl Stages {
         requires waits { stage_at self.old atom ≡ stage.Waits }
         ensures { self.new ≡ slice_set self.old atom stage.Supported }
     {
-        let place = self.places[atom as usize] as usize;
+        let place = self.ranking.place(atom);
         let last = self.border - 1;
         change(
-            &mut self.items,
-            &mut self.places,
+            &mut self.ranking,
             &mut self.stages,
             place,
             last,
@@ -215,10 +175,9 @@ impl Stages {
         requires latest { All (IsUpTo count) self.old }
         ensures { self.new ≡ slice_set self.old atom (stage.Forcing count) }
     {
-        let place = self.places[atom as usize] as usize;
+        let place = self.ranking.place(atom);
         change(
-            &mut self.items,
-            &mut self.places,
+            &mut self.ranking,
             &mut self.stages,
             place,
             self.shown,
@@ -235,10 +194,9 @@ impl Stages {
         if !is_standing(self.stages[atom as usize]) {
             return;
         }
-        let place = self.places[atom as usize] as usize;
+        let place = self.ranking.place(atom);
         change(
-            &mut self.items,
-            &mut self.places,
+            &mut self.ranking,
             &mut self.stages,
             place,
             self.border,
@@ -251,6 +209,6 @@ impl Stages {
     pub(crate) fn undo_to(&mut self, kept: usize)
         ensures { self.new ≡ map (undone kept) self.old }
     {
-        self.shown = undo_stages_to(&self.items, &mut self.stages, self.shown, kept);
+        self.shown = undo_stages_to(&self.ranking, &mut self.stages, self.shown, kept);
     }
 }

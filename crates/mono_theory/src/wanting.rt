@@ -5,15 +5,16 @@ ghost use Rattle.mono_theory.specs.Watching.{AreBelow};
 
 use crate::frame::Frame;
 use crate::kept_evidence::KeptEvidence;
+use crate::watch::Watch;
 use crate::watchers::Watchers;
 
-/// Whether the support of one of these atoms whose variable is true has the edge.
-fn wants(frame: &Frame, supports: &KeptEvidence, atoms: &[u32], edge: u32) -> bool
+/// Whether one of the atoms that watch the edge has it in its support, and its variable is true. Each of them takes one look.
+fn wants(frame: &Frame, supports: &KeptEvidence, watches: &[Watch], edge: u32) -> bool
     requires count { length supports.now ≡ length frame.now.atoms }
-    requires known { All (λ a. a < length frame.now.atoms) atoms.now }
+    requires known { All (λ w. w.atom < length frame.now.atoms) watches.now }
 {
-    for atom in atoms {
-        if frame.is_true(*atom as usize) && supports.rests_on(*atom, edge) {
+    for watch in watches {
+        if frame.is_true(watch.atom as usize) && supports.rests_by(*watch, edge) {
             return true;
         }
     }

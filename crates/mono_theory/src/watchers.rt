@@ -1,7 +1,8 @@
 //! The atoms that watch each edge: those whose support has it.
 //!
-//! An atom whose support changes goes on watching the edges of the old one. So the lists are made anew from the supports
-//! when they have grown to more than twice what these need.
+//! A watch names the place that the edge has in the support, so whether an atom rests on an edge is one look, however long its
+//! support is. An atom whose support changes goes on watching the edges of the old one. So the lists are made anew from the
+//! supports when they have grown to more than twice what these need.
 
 ghost use Rattle.std.specs.Prelude.{◌≡◌, ◌<◌, ◌^◌, ℕ, List, All, IfOk, length};
 ghost use Rattle.mono_theory.specs.Sound.{EdgesBelow, evidence_at};
@@ -9,14 +10,15 @@ ghost use Rattle.mono_theory.specs.Watching.{watching, AreBelow, AreWatched, All
 
 use crate::Evidence;
 use crate::kept_evidence::KeptEvidence;
-use mono_graph::Buckets;
+use crate::watch::Watch;
+use mono_base::Buckets;
 use std::alloc::{AllocError, Global};
 use std::marker::Model;
 
-/// A list of atoms for each edge.
+/// A list of watches for each edge.
 #[derive(Drop)]
 pub(crate) struct Watchers {
-    lists: Buckets<u32>,
+    lists: Buckets<Watch>,
     /// How many entries the lists have.
     entries: usize,
     /// How many they may have before they are made anew.
@@ -24,29 +26,31 @@ pub(crate) struct Watchers {
 }
 
 impl Model for Watchers {
-    ghost use Rattle.std.specs.Prelude.{List, ℕ};
+    ghost use Rattle.std.specs.Prelude.{List};
+    ghost use Rattle.mono_theory.specs.declared.watch.Watch.{Watch};
 
-    ghost Value = { List (List ℕ) };
+    ghost Value = { List (List Watch) };
 
     ghost view = { λ w. w.lists };
 }
 
 /// The atom watches each of the edges.
-fn watch_all(lists: &mut Buckets<u32>, atom: u32, edges: &[u32]) -> Result<(), AllocError>
+fn watch_all(lists: &mut Buckets<Watch>, atom: u32, edges: &[u32]) -> Result<(), AllocError>
     requires edges { All (λ k. k < length lists.old) edges.now }
     ensures grown { IsGrown lists.old lists.new }
     ensures below { (n : ℕ) → atom < n → AreBelow n lists.old → AreBelow n lists.new }
     ensures watched { IfOk result (λ _. AreWatched lists.new atom edges.now) }
 {
-    for edge in edges {
-        lists.push(*edge, atom)?;
+    for place in 0..edges.len() {
+        let edge = edges[place];
+        lists.push(edge, Watch { atom, place })?;
     }
     Ok(())
 }
 
 /// The atom watches the edges of its support.
 fn watch_support(
-    lists: &mut Buckets<u32>,
+    lists: &mut Buckets<Watch>,
     atom: u32,
     support: &Option<Evidence>,
 ) -> Result<usize, AllocError>
@@ -92,8 +96,8 @@ impl Watchers {
         })
     }
 
-    /// The atoms that watch the edge.
-    pub(crate) fn list(&self, edge: u32) -> &[u32]
+    /// What watches the edge.
+    pub(crate) fn list(&self, edge: u32) -> &[Watch]
         requires { edge < length self.now }
         ensures { result.now ≡ watching self.now edge }
     {

@@ -1,14 +1,14 @@
 -- Which variables wait, through an exchange of two places and a move of the border.
-use Rattle.std.proofs.Common.{◌≡◌, ◌≢◌, ℕ, zero, suc, ◌+◌, ◌-◌, ◌<◌, ◌≤◌, Bool, true, false, List, [], ◌∷◌, ◌++◌, length, get_or, set, map, refl, sym, ◌∙◌, ap, arith, ◌⊎◌, inl, inr}
-use Rattle.std.specs.Prelude.{nat_lt, replicate, Vec}
+use Rattle.std.proofs.Common.{◌≡◌, ◌≢◌, ℕ, suc, ◌+◌, ◌-◌, ◌<◌, ◌≤◌, Bool, true, false, List, length, get_or, set, map, sym, ◌∙◌, ap, arith, ◌⊎◌, inl, inr}
+use Rattle.std.specs.Prelude.{nat_lt, replicate}
 use Rattle.std.specs.List.{range_with_len}
-use Rattle.std.specs.Vec.{with_items}
 use Rattle.std.proofs.lemmas.Bool.{cases_eq, cases_lt, lt-ltb, le-ltb}
-use Rattle.std.proofs.lemmas.List.{length-map, length-set, length-replicate, get_or-replicate, get_or-set_same, get_or-set_other, get_or_default, get_or_read, set-get_or, with_items_is, ext_get_or}
+use Rattle.std.proofs.lemmas.List.{length-map, length-set, length-replicate, get_or-replicate, get_or-set_same, get_or-set_other, get_or_default, set-get_or, ext_get_or}
 use Rattle.std.proofs.Math.ListN.{get_or-map}
 use Rattle.std.proofs.Math.Seq.{map-set_same}
 use Rattle.std.proofs.lemmas.List.FromFn.{get_or-range_with_len, length-range_with_len}
-use Rattle.mono_trail.specs.Heap.{AreInverse, IsHeap, waits_of}
+use Rattle.mono_base.specs.Ranking.{RankingView, AreInverse}
+use Rattle.mono_trail.specs.Heap.{IsHeap, waits_of}
 use Rattle.mono_trail.specs.Moves.{IsVar}
 
 pub waits_after_exchange : (items places : List ℕ) (first second n : ℕ) → AreInverse items places → first < length items → second < length items → nat_lt first n ≡ nat_lt second n
@@ -62,30 +62,24 @@ joins_last items places n inverse lt = border items places (n + 1) n n true inve
 -- ---- what the calls do
 
 -- a variable has a place
-pub index_inside : {items places : List ℕ} {count activities : ℕ} (v : ℕ) → IsHeap items places count activities → IsVar (length (waits_of count places)) v → v - 1 < length items
-index_inside {items} {places} {count} v h r = omega (arith, r.0, r.1, length-map places (λ p. nat_lt p count), h.inverse.as_many)
-
-pub place_inside : {items places : List ℕ} {count activities : ℕ} (v p : ℕ) → IsHeap items places count activities → IsVar (length (waits_of count places)) v → p ≡ get_or places (v - 1) p → p < length items
-place_inside {items} {places} v p h r e =
-    let inside = index_inside v h r in
-    omega (arith, (h.inverse.stands (v - 1) inside).0, get_or_read places (v - 1) p (omega (arith, inside, h.inverse.as_many)) e 0)
+pub index_inside : {r : RankingView} {count activities : ℕ} (v : ℕ) → IsHeap r count activities → IsVar (length (waits_of count r.places)) v → v - 1 < length r.items
+index_inside {r} {count} v h is = omega (arith, is.0, is.1, length-map r.places (λ p. nat_lt p count), h.inverse.as_many)
 
 -- a variable that waits already
-pub waits_already : (places : List ℕ) (count v p : ℕ) → v < length places → p ≡ get_or places v p → p < count → waits_of count places ≡ set (waits_of count places) v true
+pub waits_already : (places : List ℕ) (count v p : ℕ) → v < length places → p ≡ get_or places v 0 → p < count → waits_of count places ≡ set (waits_of count places) v true
 waits_already places count v p inside at lt =
-    let here : get_or (waits_of count places) v (nat_lt 0 count) ≡ true = get_or-map (λ q. nat_lt q count) places v 0 ∙ lt-ltb (get_or places v 0) count (omega (arith, lt, get_or_read places v p inside at 0)) in
+    let here : get_or (waits_of count places) v (nat_lt 0 count) ≡ true = get_or-map (λ q. nat_lt q count) places v 0 ∙ lt-ltb (get_or places v 0) count (omega (arith, lt, at)) in
     sym (ap (set (waits_of count places) v) (sym here) ∙ set-get_or (waits_of count places) v (nat_lt 0 count))
 
 -- a variable joins
-pub inserted : (items places items' places' last_places : List ℕ) (count v place : ℕ) → AreInverse items places → v < length items → place ≡ get_or places v place → count ≤ place
+pub inserted : (items places items' places' last_places : List ℕ) (count v place : ℕ) → AreInverse items places → v < length items → place ≡ get_or places v 0 → count ≤ place
     → AreInverse items' places' → length items' ≡ length items → get_or items' count 0 ≡ get_or items place 0 → ((n : ℕ) → nat_lt place n ≡ nat_lt count n → waits_of n places' ≡ waits_of n places)
     → waits_of (count + 1) last_places ≡ waits_of (count + 1) places' → waits_of (count + 1) last_places ≡ set (waits_of count places) v true
 inserted items places items' places' last_places count v place inverse inside at past inverse' as_many moved_there same sifted =
     let there = inverse.stands v inside in
-    let here : place ≡ get_or places v 0 = get_or_read places v place (omega (arith, inside, inverse.as_many)) at 0 in
-    let joined_is : get_or items' count 0 ≡ v = moved_there ∙ ap (λ (p : ℕ). get_or items p 0) here ∙ there.1 in
+    let joined_is : get_or items' count 0 ≡ v = moved_there ∙ ap (λ (p : ℕ). get_or items p 0) at ∙ there.1 in
     let unmoved : waits_of count places' ≡ waits_of count places = same count (le-ltb place count past ∙ sym (le-ltb count count (omega arith))) in
-    sifted ∙ joins_last items' places' count inverse' (omega (arith, as_many, here, there.0, past)) ∙ ap (λ (ws : List Bool). set ws (get_or items' count 0) true) unmoved ∙ ap (λ (q : ℕ). set (waits_of count places) q true) joined_is
+    sifted ∙ joins_last items' places' count inverse' (omega (arith, as_many, at, there.0, past)) ∙ ap (λ (ws : List Bool). set ws (get_or items' count 0) true) unmoved ∙ ap (λ (q : ℕ). set (waits_of count places) q true) joined_is
 
 -- the variable at the top leaves
 pub record LeavesHeap (places : List ℕ) (count v : ℕ) (waits : List Bool) : Type 0 where
@@ -95,10 +89,9 @@ pub record LeavesHeap (places : List ℕ) (count v : ℕ) (waits : List Bool) : 
 
 pub popped : (items places items' places' last_places : List ℕ) (count v : ℕ) → AreInverse items places → 0 < count → count ≤ length items
     → AreInverse items' places' → length items' ≡ length items → get_or items' (count - 1) 0 ≡ get_or items 0 0 → ((n : ℕ) → nat_lt 0 n ≡ nat_lt (count - 1) n → waits_of n places' ≡ waits_of n places)
-    → v ≡ get_or items' (count - 1) v → waits_of (count - 1) last_places ≡ waits_of (count - 1) places' → LeavesHeap places count v (waits_of (count - 1) last_places)
-popped items places items' places' last_places count v inverse some within inverse' as_many moved_there same at sifted =
+    → v ≡ get_or items' (count - 1) 0 → waits_of (count - 1) last_places ≡ waits_of (count - 1) places' → LeavesHeap places count v (waits_of (count - 1) last_places)
+popped items places items' places' last_places count v inverse some within inverse' as_many moved_there same here sifted =
     let border_in : count - 1 < length items' = omega (arith, as_many, some, within) in
-    let here : v ≡ get_or items' (count - 1) 0 = get_or_read items' (count - 1) v border_in at 0 in
     let top = inverse.listed 0 (omega (arith, some, within)) in
     let back : count - 1 + 1 ≡ count = omega (arith, some) in
     let inside : v < length places = omega (arith, here, moved_there, top.0, inverse.as_many) in
@@ -110,56 +103,10 @@ popped items places items' places' last_places count v inverse some within inver
       left = sifted ∙ leaves_last items' places' (count - 1) inverse' border_in ∙ ap (λ (n : ℕ). set (waits_of n places') (get_or items' (count - 1) 0) false) back ∙ ap (λ (ws : List Bool). set ws (get_or items' (count - 1) 0) false) unmoved ∙ ap (λ (q : ℕ). set (waits_of count places) q false) (sym here);
     }
 
--- ---- what an exchange and a sift leave in the two vectors
-
-pub record AreWritten {Z : Type 0} (items places : Vec ℕ Z) (items' places' items'' places'' : List ℕ) : Type 0 where
-  pub places_between : (with_items places places').items ≡ places'
-  pub items_are : (with_items (with_items items items') items'').items ≡ items''
-  pub places_are : (with_items (with_items places places') places'').items ≡ places''
-  pub between : length items' ≡ length items.items
-  pub as_many : length items'' ≡ length items.items
-
-pub are_written : {Z : Type 0} (items places : Vec ℕ Z) (items' places' items'' places'' start middle : List ℕ) → AreInverse items.items places.items → AreInverse items' places' → AreInverse items'' places''
-    → length items' ≡ length start → start ≡ items.items → length items'' ≡ length middle → middle ≡ (with_items items items').items → AreWritten items places items' places' items'' places''
-are_written items places items' places' items'' places'' start middle a b c first at_first second at_second =
-    let one : length items' ≡ length items.items = first ∙ ap length at_first in
-    let between : middle ≡ items' = at_second ∙ with_items_is items items' (one ∙ sym items.ok.0) in
-    let two : length items'' ≡ length items.items = second ∙ ap length between ∙ one in
-    record {
-      places_between = with_items_is places places' (b.as_many ∙ one ∙ sym a.as_many ∙ sym places.ok.0);
-      items_are = with_items_is (with_items items items') items'' (two ∙ sym items.ok.0);
-      places_are = with_items_is (with_items places places') places'' (c.as_many ∙ two ∙ sym a.as_many ∙ sym places.ok.0);
-      between = one;
-      as_many = two;
-    }
-
-pub heap_is : (items places items' places' : List ℕ) (count count' activities : ℕ) → IsHeap items places count activities → AreInverse items' places' → length items' ≡ length items → count' ≤ length items → IsHeap items' places' count' activities
-heap_is items places items' places' count count' activities h inverse as_many within = record { inverse = inverse; within = omega (arith, as_many, within); scored = h.scored ∙ sym as_many; few = omega (arith, as_many, h.few) }
+pub heap_is : (r s : RankingView) (count more activities : ℕ) → IsHeap r count activities → AreInverse s.items s.places → length s.items ≡ length r.items → more ≤ length r.items → IsHeap s more activities
+heap_is r s count more activities h inverse as_many within = record { inverse = inverse; within = omega (arith, as_many, within); scored = h.scored ∙ sym as_many; few = omega (arith, as_many, h.few) }
 
 -- ---- a heap in which all wait
-
-range_push : (a n : ℕ) → range_with_len a n ++ (a + n) ∷ [] ≡ range_with_len a (suc n)
-range_push a zero = ap (λ (k : ℕ). k ∷ []) (omega arith)
-range_push a (suc n) = ap (λ (ks : List ℕ). a ∷ ks) (ap (λ (k : ℕ). range_with_len (a + 1) n ++ k ∷ []) (omega arith) ∙ range_push (a + 1) n)
-
--- the next number comes last
-pub range_more : (n : ℕ) → range_with_len 0 n ++ n ∷ [] ≡ range_with_len 0 (n + 1)
-range_more n =
-    let here : n ≡ 0 + n = omega arith in
-    let next : suc n ≡ n + 1 = omega arith in
-    ap (λ (k : ℕ). range_with_len 0 n ++ k ∷ []) here ∙ range_push 0 n ∙ ap (range_with_len 0) next
-
-pub inverse_new : (n : ℕ) → AreInverse (range_with_len 0 n) (range_with_len 0 n)
-inverse_new n = record {
-  as_many = refl;
-  listed = λ k lt. at k (omega (arith, lt, length-range_with_len 0 n));
-  stands = λ k lt. at k (omega (arith, lt, length-range_with_len 0 n));
-}
-  where
-    at : (k : ℕ) → k < n → (get_or (range_with_len 0 n) k 0 < length (range_with_len 0 n)) × (get_or (range_with_len 0 n) (get_or (range_with_len 0 n) k 0) 0 ≡ k)
-    at k lt =
-        let here : get_or (range_with_len 0 n) k 0 ≡ k = get_or-range_with_len 0 n k 0 lt ∙ omega arith in
-        (omega (arith, here, lt, length-range_with_len 0 n), ap (λ (j : ℕ). get_or (range_with_len 0 n) j 0) here ∙ here)
 
 same_tests : (count : ℕ) (places : List ℕ) (b : Bool) → ((i : ℕ) → i < length places → nat_lt (get_or places i 0) count ≡ b) → waits_of count places ≡ replicate (length places) b
 same_tests count places b h = ext_get_or (nat_lt 0 count) (waits_of count places) (replicate (length places) b) (length-map places (λ p. nat_lt p count) ∙ sym (length-replicate (length places) b)) (λ i lt.

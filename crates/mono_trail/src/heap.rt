@@ -1,15 +1,15 @@
 //! The variables that wait, the most active first.
 //!
-//! All variables stand in one array, and those that wait come first and are a binary heap there. A second array says
-//! where each variable stands. So a variable joins or leaves by an exchange with the one beside the border, and no array
-//! ever grows.
+//! All variables stand in one ranking, and those that wait come first and are a binary heap there. So a variable joins or
+//! leaves by an exchange with the one beside the border, and nothing ever grows.
 
 ghost use Rattle.std.specs.Prelude.{◌≡◌, ◌≤◌, ◌+◌, ◌-◌, ◌<◌, ◌^◌, ℕ, nat_lt, length, replicate, true, false, All, IfOk, IfSome, IfNone, IsTrue, slice_set, slice_index_or};
-ghost use Rattle.std.specs.List.{range_with_len};
 ghost use Rattle.mono_base.specs.Literal.{value_in};
-ghost use Rattle.mono_trail.specs.Heap.{AreInverse, waits_of};
+ghost use Rattle.mono_base.specs.Ranking.{AreInverse};
+ghost use Rattle.mono_trail.specs.Heap.{waits_of};
 ghost use Rattle.mono_trail.specs.Moves.{IsVar};
 
+use mono_base::Ranking;
 use mono_base::limits::MAX_VARS;
 use std::alloc::{AllocError, Global};
 use std::marker::Model;
@@ -26,9 +26,7 @@ const SCALE: u32 = 40;
 #[derive(Drop)]
 pub struct Heap {
     /// All variables, counted from 0; those that wait come first.
-    items: Vec<u32>,
-    /// Where each variable stands.
-    places: Vec<u32>,
+    ranking: Ranking,
     /// How many variables wait.
     count: usize,
     /// By variable, counted from 0.
@@ -43,9 +41,9 @@ impl Model for Heap {
 
     ghost Value = { List Bool };
 
-    ghost view = { λ h. waits_of h.count h.places.items };
+    ghost view = { λ h. waits_of h.count h.ranking.places };
 
-    ghost invariant = { λ h. IsHeap h.items.items h.places.items h.count (length h.activities.items) };
+    ghost invariant = { λ h. IsHeap h.ranking h.count (length h.activities.items) };
 }
 
 impl Heap {
@@ -54,12 +52,10 @@ impl Heap {
         requires { vars ≤ MAX_VARS }
         ensures { IfOk result (λ h. h ≡ replicate vars true) }
     {
-        let items = numbers(alloc, vars)?;
-        let places = numbers(alloc, vars)?;
+        let ranking = Ranking::new(alloc, vars)?;
         let activities = zeros(alloc, vars as usize)?;
         Ok(Heap {
-            items,
-            places,
+            ranking,
             count: vars as usize,
             activities,
             increment: FIRST_INCREMENT,
@@ -75,10 +71,10 @@ impl Heap {
             return None;
         }
         let last = self.count - 1;
-        exchange(&mut self.items, &mut self.places, 0, last);
-        let index = self.items[last];
+        exchange(&mut self.ranking, 0, last);
+        let index = self.ranking.item(last);
         self.count = last;
-        sift_down(&mut self.items, &mut self.places, &self.activities, last);
+        sift_down(&mut self.ranking, &self.activities, last);
         Some(index + 1)
     }
 
@@ -87,20 +83,14 @@ impl Heap {
         requires { IsVar (length self.old) var }
         ensures { self.new ≡ slice_set self.old (var - 1) true }
     {
-        let place = self.places[var as usize - 1] as usize;
+        let place = self.ranking.place(var - 1);
         if place < self.count {
             return;
         }
         let last = self.count;
-        exchange(&mut self.items, &mut self.places, place, last);
+        exchange(&mut self.ranking, place, last);
         self.count = last + 1;
-        sift_up(
-            &mut self.items,
-            &mut self.places,
-            &self.activities,
-            last,
-            self.count,
-        );
+        sift_up(&mut self.ranking, &self.activities, last, self.count);
     }
 
     /// The variable becomes more active.
@@ -111,15 +101,9 @@ impl Heap {
         let index = var as usize - 1;
         make_room(&mut self.activities, &mut self.increment, index);
         self.activities[index] += self.increment;
-        let place = self.places[index] as usize;
+        let place = self.ranking.place(var - 1);
         if place < self.count {
-            sift_up(
-                &mut self.items,
-                &mut self.places,
-                &self.activities,
-                place,
-                self.count,
-            );
+            sift_up(&mut self.ranking, &self.activities, place, self.count);
         }
     }
 
@@ -130,18 +114,6 @@ impl Heap {
         halve_range(&mut self.activities, &mut self.increment);
         self.increment += self.increment / 16;
     }
-}
-
-/// The numbers from 0 up to so many.
-fn numbers(alloc: Global, count: u32) -> Result<Vec<u32>, AllocError>
-    requires { count ≤ MAX_VARS }
-    ensures { IfOk result (λ all. all.items ≡ range_with_len 0 count) }
-{
-    let mut all = Vec::with_capacity(alloc, count as usize)?;
-    for number in 0..count {
-        all.push(number)?;
-    }
-    Ok(all)
 }
 
 /// So many zeros.
@@ -185,71 +157,65 @@ fn scale_down(activities: &mut [u64], increment: &mut u64)
 }
 
 /// The variables at two places change places.
-fn exchange(items: &mut [u32], places: &mut [u32], first: usize, second: usize)
-    requires inverse { AreInverse items.old places.old }
-    requires few { length items.old ≤ MAX_VARS }
-    requires first { first < length items.old }
-    requires second { second < length items.old }
-    ensures inverse { AreInverse items.new places.new }
-    ensures as_many { length items.new ≡ length items.old }
-    ensures moved { slice_index_or items.new second 0 ≡ slice_index_or items.old first 0 }
-    ensures waits { (n : ℕ) → nat_lt first n ≡ nat_lt second n → waits_of n places.new ≡ waits_of n places.old }
+fn exchange(ranking: &mut Ranking, first: usize, second: usize)
+    requires inverse { AreInverse ranking.old.items ranking.old.places }
+    requires first { first < length ranking.old.items }
+    requires second { second < length ranking.old.items }
+    ensures inverse { AreInverse ranking.new.items ranking.new.places }
+    ensures as_many { length ranking.new.items ≡ length ranking.old.items }
+    ensures moved { slice_index_or ranking.new.items second 0 ≡ slice_index_or ranking.old.items first 0 }
+    ensures waits { (n : ℕ) → nat_lt first n ≡ nat_lt second n → waits_of n ranking.new.places ≡ waits_of n ranking.old.places }
 {
-    let at_first = items[first];
-    let at_second = items[second];
-    items[first] = at_second;
-    items[second] = at_first;
-    places[at_second as usize] = first as u32;
-    places[at_first as usize] = second as u32;
+    ranking.exchange(first, second);
 }
 
 /// The variable at a place of the heap goes up until none above it is less active.
-fn sift_up(items: &mut [u32], places: &mut [u32], activities: &[u64], start: usize, count: usize)
-    requires inverse { AreInverse items.old places.old }
-    requires few { length items.old ≤ MAX_VARS }
-    requires scored { length activities.now ≡ length items.old }
+fn sift_up(ranking: &mut Ranking, activities: &[u64], start: usize, count: usize)
+    requires inverse { AreInverse ranking.old.items ranking.old.places }
+    requires few { length ranking.old.items ≤ MAX_VARS }
+    requires scored { length activities.now ≡ length ranking.old.items }
     requires start { start < count }
-    requires count { count ≤ length items.old }
-    ensures inverse { AreInverse items.new places.new }
-    ensures as_many { length items.new ≡ length items.old }
-    ensures waits { waits_of count places.new ≡ waits_of count places.old }
+    requires count { count ≤ length ranking.old.items }
+    ensures inverse { AreInverse ranking.new.items ranking.new.places }
+    ensures as_many { length ranking.new.items ≡ length ranking.old.items }
+    ensures waits { waits_of count ranking.new.places ≡ waits_of count ranking.old.places }
 {
     let mut place = start;
     while place > 0 {
         let parent = (place - 1) / 2;
-        if !is_before(items, activities, place, parent) {
+        if !is_before(ranking, activities, place, parent) {
             return;
         }
-        exchange(items, places, place, parent);
+        exchange(ranking, place, parent);
         place = parent;
     }
 }
 
 /// The variable at the top of the heap goes down until none below it is more active.
-fn sift_down(items: &mut [u32], places: &mut [u32], activities: &[u64], count: usize)
-    requires inverse { AreInverse items.old places.old }
-    requires few { length items.old ≤ MAX_VARS }
-    requires scored { length activities.now ≡ length items.old }
-    requires count { count ≤ length items.old }
-    ensures inverse { AreInverse items.new places.new }
-    ensures as_many { length items.new ≡ length items.old }
-    ensures waits { waits_of count places.new ≡ waits_of count places.old }
+fn sift_down(ranking: &mut Ranking, activities: &[u64], count: usize)
+    requires inverse { AreInverse ranking.old.items ranking.old.places }
+    requires few { length ranking.old.items ≤ MAX_VARS }
+    requires scored { length activities.now ≡ length ranking.old.items }
+    requires count { count ≤ length ranking.old.items }
+    ensures inverse { AreInverse ranking.new.items ranking.new.places }
+    ensures as_many { length ranking.new.items ≡ length ranking.old.items }
+    ensures waits { waits_of count ranking.new.places ≡ waits_of count ranking.old.places }
 {
     let mut place = 0;
-    while let Some(child) = child_of(items, activities, place, count) {
-        if !is_before(items, activities, child, place) {
+    while let Some(child) = child_of(ranking, activities, place, count) {
+        if !is_before(ranking, activities, child, place) {
             return;
         }
-        exchange(items, places, place, child);
+        exchange(ranking, place, child);
         place = child;
     }
 }
 
 /// The more active of the variables right below a place: `None` where there is none.
-fn child_of(items: &[u32], activities: &[u64], place: usize, count: usize) -> Option<usize>
-    requires listed { All (λ i. i < length activities.now) items.now }
-    requires few { length items.now ≤ MAX_VARS }
-    requires count { count ≤ length items.now }
+fn child_of(ranking: &Ranking, activities: &[u64], place: usize, count: usize) -> Option<usize>
+    requires scored { length activities.now ≡ length ranking.now.items }
+    requires few { length ranking.now.items ≤ MAX_VARS }
+    requires count { count ≤ length ranking.now.items }
     requires place { place ≤ count }
     ensures { IfSome result (λ child. (place < child) × (child < count)) }
 {
@@ -258,17 +224,17 @@ fn child_of(items: &[u32], activities: &[u64], place: usize, count: usize) -> Op
         return None;
     }
     let right = left + 1;
-    if right < count && is_before(items, activities, right, left) {
+    if right < count && is_before(ranking, activities, right, left) {
         return Some(right);
     }
     Some(left)
 }
 
 /// Whether the variable at the first place is more active than the one at the second.
-fn is_before(items: &[u32], activities: &[u64], first: usize, second: usize) -> bool
-    requires listed { All (λ i. i < length activities.now) items.now }
-    requires first { first < length items.now }
-    requires second { second < length items.now }
+fn is_before(ranking: &Ranking, activities: &[u64], first: usize, second: usize) -> bool
+    requires scored { length activities.now ≡ length ranking.now.items }
+    requires first { first < length ranking.now.items }
+    requires second { second < length ranking.now.items }
 {
-    activities[items[first] as usize] > activities[items[second] as usize]
+    activities[ranking.item(first) as usize] > activities[ranking.item(second) as usize]
 }

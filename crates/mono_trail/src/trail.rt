@@ -54,7 +54,14 @@ impl Model for Trail {
 
     ghost view = { λ s. record { vars = s.vars; lits = s.lits.items; marks = s.marks.items; level = s.level; given = s.given } };
 
-    ghost invariant = { λ s. IsKept (record { vars = s.vars; lits = s.lits.items; marks = s.marks.items; level = s.level; given = s.given }) s.values.items s.places.items s.starts.items (vec_capacity s.lits) (vec_capacity s.marks) (vec_capacity s.starts) × IsUnseen s.seen.items };
+    ghost invariant = { λ s. IsKept (record {
+      vars = s.vars;
+      lits = s.lits.items;
+      marks = s.marks.items;
+      level = s.level;
+      given = s.given;
+    }) s.values.items s.places.items s.starts.items (vec_capacity s.lits) (vec_capacity s.marks) (vec_capacity s.starts)
+        × IsUnseen s.seen.items };
 }
 
 impl Trail {

@@ -14,7 +14,7 @@ use Rattle.mono_theory.specs.Evidences.{only, IsEvidence}
 use Rattle.mono_theory.specs.Resting.{AreAbsent, AreAlike, absent_across}
 use Rattle.mono_theory.specs.Walked.{numbers_of}
 use Rattle.mono_theory.proofs.EvidenceDecides.{in_only}
-use Rattle.mono_theory.proofs.Pigeons.{all_has}
+use Rattle.mono_graph.proofs.Pigeons.{all_has}
 use Rattle.mono_theory.proofs.RestingOnAbsent.{alike_none, crossing_are_absent, resting_evidence}
 use Rattle.mono_theory.proofs.WalksAsEvidence.{numbers-known, placed-numbers, nodes-known, all_by}
 use Rattle.mono_tree.specs.Spanning.{tree_evidence, split_evidence, is_unbridged, IsLeastEvidence}

@@ -30,7 +30,8 @@ fn choose(
     requires nodes { length components.old ≡ graph.now.nodes }
     requires place { place < length graph.now.edges }
     ensures nodes { length components.new ≡ graph.now.nodes }
-    ensures grown { OnOk result ((done : List ℕ) → IsGrown graph.now done chosen.old.items components.old → AreNoHeavier graph.now done (edge_at graph.now place).weight → IsGrown graph.now (done ++ place ∷ []) chosen.new.items components.new) }
+    ensures grown { OnOk result ((done : List ℕ) → IsGrown graph.now done chosen.old.items components.old
+        → AreNoHeavier graph.now done (edge_at graph.now place).weight → IsGrown graph.now (done ++ place ∷ []) chosen.new.items components.new) }
 {
     let edge = graph.edge(place);
     if components.are_joined(edge.from, edge.to) {

@@ -10,7 +10,8 @@ use crate::TreeFound;
 
 /// What a search found decides whether a spanning tree is within the bound: it is a tree exactly where there is one.
 pub fn found_tree_decides()
-    ensures { (g : Digraph) (P : List Bool) (most : ℤ) (found : TreeFound) → Passes g P most found → IsTrue (is_tree_found found) ↔ ((tree : List ℕ) × IsTrue (is_tree g P most tree)) }
+    ensures { (g : Digraph) (P : List Bool) (most : ℤ) (found : TreeFound) → Passes g P most found → IsTrue (is_tree_found found)
+        ↔ ((tree : List ℕ) × IsTrue (is_tree g P most tree)) }
 {}
 
 /// The places and nodes of what was found are the graph's, so that it can be tested.

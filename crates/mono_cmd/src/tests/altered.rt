@@ -8,11 +8,16 @@ use std::test::Fail;
 const INPUT: &str =
     "digraph int 3 2 0\nedge 0 0 1 1\nedge 0 1 2 2\nreach 0 0 2 3\n1 0\n2 0\n-3 0\n";
 
+/// One edge, and a walk along it within weight 0.
+const LABELLED: &str =
+    "digraph int 2 1 0\nedge 0 0 1 1\nweighted_distance_leq 0 0 1 2 0\n1 0\n2 0\n";
+
 #[test]
-fn a_refutation_that_ends_early(rt: HostRuntime) -> Result<(), Fail> {
+fn altered_refutations_are_judged(rt: HostRuntime) -> Result<(), Fail> {
     judges(
         &rt,
         &[
+            // It ends early.
             (
                 INPUT,
                 "s UNSATISFIABLE\npath 1 -1 -2 3 0 1 2\nchain 0 4 1 2 3\n",
@@ -46,15 +51,7 @@ fn a_refutation_that_ends_early(rt: HostRuntime) -> Result<(), Fail> {
                 "s UNSATISFIABLE\r\npath 1 -1 -2 3 0 1 2\r\nchain 0 4 1 2 3\r\n",
                 "accepted refutation\n",
             ),
-        ],
-    )
-}
-
-#[test]
-fn a_refutation_whose_last_line_is_another(rt: HostRuntime) -> Result<(), Fail> {
-    judges(
-        &rt,
-        &[
+            // Its last line is another.
             (
                 INPUT,
                 "s UNSATISFIABLE\npath 1 -1 -2 3 0 1 2\nchain\n",
@@ -90,15 +87,7 @@ fn a_refutation_whose_last_line_is_another(rt: HostRuntime) -> Result<(), Fail> 
                 "s UNSATISFIABLE\npath 1 -1 -2 3 0 1 2\nchain 0 4 1 2 3\npath 1 -1 -2 3 0 1 2\n",
                 "rejected 4 NoEmptyClause\n",
             ),
-        ],
-    )
-}
-
-#[test]
-fn each_reason_of_a_rejected_refutation(rt: HostRuntime) -> Result<(), Fail> {
-    judges(
-        &rt,
-        &[
+            // Each reason of a rejection.
             (
                 INPUT,
                 "s UNSATISFIABLE\npath 2 3 0\n",
@@ -144,10 +133,11 @@ fn each_reason_of_a_rejected_refutation(rt: HostRuntime) -> Result<(), Fail> {
 }
 
 #[test]
-fn each_reason_of_a_rejected_model(rt: HostRuntime) -> Result<(), Fail> {
+fn altered_models_and_labels_are_judged(rt: HostRuntime) -> Result<(), Fail> {
     judges(
         &rt,
         &[
+            // Each reason of a rejected model.
             (INPUT, "", "rejected 1 NotAnswer\n"),
             (INPUT, "c x\nv 1 0\n", "rejected 2 NotAnswer\n"),
             (INPUT, "s SATISFIABLE\nv 1 2 -3\n", "rejected 2 BadLine\n"),
@@ -171,29 +161,19 @@ fn each_reason_of_a_rejected_model(rt: HostRuntime) -> Result<(), Fail> {
                 "s SATISFIABLE\nv 1 2 -3 0\n",
                 "rejected 2 AtomWrong 1\n",
             ),
-        ],
-    )
-}
-
-/// The greatest label is 2^60.
-#[test]
-fn labels_go_up_to_their_limit(rt: HostRuntime) -> Result<(), Fail> {
-    let input = "digraph int 2 1 0\nedge 0 0 1 1\nweighted_distance_leq 0 0 1 2 0\n1 0\n2 0\n";
-    judges(
-        &rt,
-        &[
+            // The greatest label is 2^60.
             (
-                input,
+                LABELLED,
                 "s UNKNOWN\nlabel 1 1 -2 0 0 0 1 1152921504606846976\n",
                 "accepted progress 0\n",
             ),
             (
-                input,
+                LABELLED,
                 "s UNKNOWN\nlabel 1 -2 0 0 0 1 1152921504606846976\n",
                 "rejected 2 MissingLiteral\n",
             ),
             (
-                input,
+                LABELLED,
                 "s UNKNOWN\nlabel 1 1 -2 0 0 0 1 1152921504606846977\n",
                 "rejected 2 BadLine\n",
             ),

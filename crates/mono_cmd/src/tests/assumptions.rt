@@ -97,24 +97,3 @@ fn refutations_rest_on_their_assumptions(rt: HostRuntime) -> Result<(), Fail> {
     assert_eq!(rt; fewer.status, Status::Rejected);
     Ok(())
 }
-
-/// Words that are no literals are no command; neither is a form without any.
-#[test]
-fn assumptions_are_literals(rt: HostRuntime) -> Result<(), Fail> {
-    let rows: &[&[&str]] = &[
-        &["core", "f"],
-        &["core", "f", "0"],
-        &["core", "f", "-0"],
-        &["core", "f", "1", "x"],
-        &["core", "f", "1000001"],
-        &["core", "-f", "1"],
-        &["check-with", "f", "a"],
-        &["check-with", "f", "1"],
-        &["check-with", "f", "-a", "1"],
-    ];
-    for line in rows {
-        let found = outcome_of(rt.alloc(), line, NO_ROUTE, b"")?;
-        assert_eq!(rt; found.status, Status::Words);
-    }
-    Ok(())
-}

@@ -6,30 +6,30 @@ use std::process::Abort;
 use std::test::Fail;
 
 /// Two edges from node 0 to node 1, of the weights 3 and 4, and the flow over them.
-const PARALLEL: &[u8] =
-    b"digraph int 2 2 0\nedge 0 0 1 1 3\nedge 0 0 1 2 4\nmaximum_flow_geq 0 0 1 3 7\nmaximum_flow_geq 0 0 1 4 8\n";
+const PARALLEL: &str =
+    "digraph int 2 2 0\nedge 0 0 1 1 3\nedge 0 0 1 2 4\nmaximum_flow_geq 0 0 1 3 7\nmaximum_flow_geq 0 0 1 4 8\n";
 /// The two edges and their flows, where the first edge is absent.
-const ALONE: &[u8] =
-    b"digraph int 2 2 0\nedge 0 0 1 1 3\nedge 0 0 1 2 4\nmaximum_flow_geq 0 0 1 3 7\nmaximum_flow_geq 0 0 1 4 8\n-1 0\n";
+const ALONE: &str =
+    "digraph int 2 2 0\nedge 0 0 1 1 3\nedge 0 0 1 2 4\nmaximum_flow_geq 0 0 1 3 7\nmaximum_flow_geq 0 0 1 4 8\n-1 0\n";
 /// A detour of the weight 10, and a direct edge of the weight 3.
-const TRIANGLE: &[u8] =
-    b"digraph int 3 3 0\nedge 0 0 1 1 5\nedge 0 1 2 2 5\nedge 0 0 2 3 3\nweighted_distance_leq 0 0 2 4 8\n";
+const TRIANGLE: &str =
+    "digraph int 3 3 0\nedge 0 0 1 1 5\nedge 0 1 2 2 5\nedge 0 0 2 3 3\nweighted_distance_leq 0 0 2 4 8\n";
 /// The detour without the direct edge.
-const DETOUR: &[u8] =
-    b"digraph int 3 3 0\nedge 0 0 1 1 5\nedge 0 1 2 2 5\nedge 0 0 2 3 3\nweighted_distance_leq 0 0 2 4 8\n-3 0\n";
+const DETOUR: &str =
+    "digraph int 3 3 0\nedge 0 0 1 1 5\nedge 0 1 2 2 5\nedge 0 0 2 3 3\nweighted_distance_leq 0 0 2 4 8\n-3 0\n";
 
-const NO_WAY: &[u8] =
-    b"digraph int 3 3 0\nedge 0 0 1 1 5\nedge 0 1 2 2 5\nedge 0 0 2 3 3\nweighted_distance_leq 0 0 2 4 8\n-3 0\n-1 0\n";
+const NO_WAY: &str =
+    "digraph int 3 3 0\nedge 0 0 1 1 5\nedge 0 1 2 2 5\nedge 0 0 2 3 3\nweighted_distance_leq 0 0 2 4 8\n-3 0\n-1 0\n";
 /// One edge of the greatest weight.
-const WIDE: &[u8] =
-    b"digraph int 2 1 0\nedge 0 0 1 1 18446744073709551615\nmaximum_flow_geq 0 0 1 2 7\n";
+const WIDE: &str =
+    "digraph int 2 1 0\nedge 0 0 1 1 18446744073709551615\nmaximum_flow_geq 0 0 1 2 7\n";
 /// A walk of no edge, and a tree of one node.
-const NOTHING: &[u8] = b"digraph int 1 0 0\ndistance_leq 0 0 0 1 5\nmst_weight_leq 0 2 5\n";
+const NOTHING: &str = "digraph int 1 0 0\ndistance_leq 0 0 0 1 5\nmst_weight_leq 0 2 5\n";
 
 /// Each row has an input, the predicate, how what `best` writes begins, the bound that `ask` is asked for, and the verdict.
 #[test]
 fn best_bounds_are_accepted(rt: HostRuntime) -> Result<(), Fail> {
-    let rows: &[(&[u8], &str, &[u8], Status, &str, &[u8])] = &[
+    let rows: &[(&str, &str, &[u8], Status, &str, &[u8])] = &[
         (
             PARALLEL,
             "1",
@@ -96,10 +96,15 @@ fn best_bounds_are_accepted(rt: HostRuntime) -> Result<(), Fail> {
         ),
     ];
     for (input, atom, beginning, status, bound, verdict) in rows {
-        let found = outcome_of(rt.alloc(), &["best", "f", atom], input, b"")?;
+        let found = outcome_of(rt.alloc(), &["best", "f", atom], input.as_bytes(), b"")?;
         assert_eq!(rt; found.status, *status);
         assert!(rt; found.text.as_slice().starts_with(beginning));
-        let asked = outcome_of(rt.alloc(), &["ask", "f", atom, bound], input, b"")?;
+        let asked = outcome_of(
+            rt.alloc(),
+            &["ask", "f", atom, bound],
+            input.as_bytes(),
+            b"",
+        )?;
         assert_eq!(rt; asked.status, Status::Printed);
         let judged = outcome_of(
             rt.alloc(),
@@ -112,43 +117,73 @@ fn best_bounds_are_accepted(rt: HostRuntime) -> Result<(), Fail> {
     Ok(())
 }
 
-/// What is asked for has the predicate once more, with a new variable that has to be true.
-#[test]
-fn asked_bounds_are_printed(rt: HostRuntime) -> Result<(), Fail> {
-    let found = outcome_of(rt.alloc(), &["ask", "f", "1", "8"], PARALLEL, b"")?;
-    let text =
-        b"p gnf 5 1\ndigraph int 2 2 0\nedge 0 0 1 1 3\nedge 0 0 1 2 4\nmaximum_flow_geq 0 0 1 3 7\nmaximum_flow_geq 0 0 1 4 8\nmaximum_flow_geq 0 0 1 5 8\n5 0\n";
-    assert_outcome(&rt, &found, text, Status::Printed);
-    Ok(())
-}
+/// Walks, a cycle, a tree and a flow over one edge.
+const REACHES: &str =
+    "digraph int 2 1 0\nedge 0 0 1 1\nreach 0 0 1 2\nacyclic 0 3\nmst_weight_leq 0 4 5\nmaximum_flow_geq 0 0 1 5 1\n";
 
-/// Each row has words, and what is refused: the predicate comes before the bound.
+/// Each row has words, an input and what is written: the predicate of what is asked for once more, with a new variable that has to
+/// be true, or why it is refused. The predicate comes before the bound.
 #[test]
-fn bounds_are_refused(rt: HostRuntime) -> Result<(), Fail> {
-    const REACHES: &[u8] =
-        b"digraph int 2 1 0\nedge 0 0 1 1\nreach 0 0 1 2\nacyclic 0 3\nmst_weight_leq 0 4 5\nmaximum_flow_geq 0 0 1 5 1\n";
-    let rows: &[(&[&str], &[u8])] = &[
-        (&["best", "f", "1"], b"refused 0 BadAtom\n"),
-        (&["best", "f", "2"], b"refused 0 BadAtom\n"),
-        (&["best", "f", "5"], b"refused 0 BadAtom\n"),
-        (&["ask", "f", "1", "-7"], b"refused 0 BadAtom\n"),
-        (&["ask", "f", "3", "-2"], b"refused 0 BadBound\n"),
+fn bounds_are_asked_for_or_refused(rt: HostRuntime) -> Result<(), Fail> {
+    let rows: &[(&[&str], &str, &str, Status)] = &[
+        (
+            &["ask", "f", "1", "8"],
+            PARALLEL,
+            "p gnf 5 1\ndigraph int 2 2 0\nedge 0 0 1 1 3\nedge 0 0 1 2 4\nmaximum_flow_geq 0 0 1 3 7\nmaximum_flow_geq 0 0 1 4 8\nmaximum_flow_geq 0 0 1 5 8\n5 0\n",
+            Status::Printed,
+        ),
+        (
+            &["best", "f", "1"],
+            REACHES,
+            "refused 0 BadAtom\n",
+            Status::Refused,
+        ),
+        (
+            &["best", "f", "2"],
+            REACHES,
+            "refused 0 BadAtom\n",
+            Status::Refused,
+        ),
+        (
+            &["best", "f", "5"],
+            REACHES,
+            "refused 0 BadAtom\n",
+            Status::Refused,
+        ),
+        (
+            &["ask", "f", "1", "-7"],
+            REACHES,
+            "refused 0 BadAtom\n",
+            Status::Refused,
+        ),
+        (
+            &["ask", "f", "3", "-2"],
+            REACHES,
+            "refused 0 BadBound\n",
+            Status::Refused,
+        ),
         (
             &["ask", "f", "3", "9007199254740993"],
-            b"refused 0 BadBound\n",
+            REACHES,
+            "refused 0 BadBound\n",
+            Status::Refused,
         ),
-        (&["ask", "f", "4", "-1"], b"refused 0 BadBound\n"),
+        (
+            &["ask", "f", "4", "-1"],
+            REACHES,
+            "refused 0 BadBound\n",
+            Status::Refused,
+        ),
+        (
+            &["best", "f", "1"],
+            "digraph int 1 0 0\nmst_weight_leq 0 1000000 5\n",
+            "refused 0 TooMany\n",
+            Status::Refused,
+        ),
     ];
-    for (line, text) in rows {
-        let found = outcome_of(rt.alloc(), line, REACHES, b"")?;
-        assert_outcome(&rt, &found, text, Status::Refused);
+    for (line, input, text, status) in rows {
+        let found = outcome_of(rt.alloc(), line, input.as_bytes(), b"")?;
+        assert_outcome(&rt, &found, text.as_bytes(), *status);
     }
-    let full = outcome_of(
-        rt.alloc(),
-        &["best", "f", "1"],
-        b"digraph int 1 0 0\nmst_weight_leq 0 1000000 5\n",
-        b"",
-    )?;
-    assert_outcome(&rt, &full, b"refused 0 TooMany\n", Status::Refused);
     Ok(())
 }

@@ -1,4 +1,4 @@
-//! Files that can't be read, outputs that can't be written, and files that are too long.
+//! Files that can't be read, outputs that can't be written, and files at their limits and beyond.
 
 ghost use Rattle.std.specs.Prelude.{◌≤◌};
 
@@ -12,13 +12,22 @@ use std::alloc::{AllocError, Global};
 use std::process::Abort;
 use std::test::Fail;
 
-const INPUT: &[u8] = b"1 2 0\n-1 0\n";
+const INPUT: &str = "1 2 0\n-1 0\n";
 
-const MODEL: &[u8] = b"s SATISFIABLE\nv -1 2 0\n";
+const MODEL: &str = "s SATISFIABLE\nv -1 2 0\n";
 
-const OTHER: &[u8] = b"s SATISFIABLE\nv 1 2 0\n";
+const OTHER: &str = "s SATISFIABLE\nv 1 2 0\n";
 
-const BAD: &[u8] = b"bad\n\n\n\n\n\n\n\n";
+const BAD: &str = "bad\n\n\n\n\n\n\n\n";
+
+/// Two edges in a row that are there, and a predicate that denies that they lead on.
+const DENIED: &str =
+    "digraph int 3 2 0\nedge 0 0 1 1\nedge 0 1 2 2\nreach 0 0 2 3\n1 0\n2 0\n-3 0\n";
+
+const REFUTATION: &str = "s UNSATISFIABLE\npath 1 -1 -2 3 0 1 2\nchain 0 4 1 2 3\n";
+
+/// The line of two edges and its predicate, of which nothing is denied.
+const ROUTE: &str = "digraph int 3 2 0\nedge 0 0 1 1\nedge 0 1 2 2\nreach 0 0 2 3\n1 0\n2 0\n";
 
 /// The run of these words writes this text into the output, and ends so.
 fn ends_in(
@@ -36,7 +45,7 @@ fn ends_in(
 }
 
 /// How a run ends whose output takes so many bytes.
-pub(super) fn ends_within(
+fn ends_within(
     rt: &(impl Abort + AllocGlobal),
     line: &[&str],
     shelf: &mut MemoryShelf,
@@ -49,14 +58,14 @@ pub(super) fn ends_within(
 }
 
 /// A shelf that holds the file `f` alone.
-pub(super) fn shelf_of_input(alloc: Global, input: &[u8]) -> Result<MemoryShelf, AllocError> {
+fn shelf_of_input(alloc: Global, input: &[u8]) -> Result<MemoryShelf, AllocError> {
     let mut shelf = MemoryShelf::new(alloc);
     shelf.put("f", input)?;
     Ok(shelf)
 }
 
 /// The run of these words over a shelf that holds the file `f` alone ends so.
-pub(super) fn ends_without_answer(
+fn ends_without_answer(
     rt: &(impl Abort + AllocGlobal),
     line: &[&str],
     input: &[u8],
@@ -67,45 +76,86 @@ pub(super) fn ends_without_answer(
     ends_within(rt, line, &mut shelf, 100, text, status)
 }
 
+/// Each row has words, the input and how the run ends: a fault of the input is told before a missing answer.
 #[test]
 fn a_missing_file_is_a_read_fault(rt: HostRuntime) -> Result<(), Fail> {
-    let text = b"read fault\n";
-    ends_without_answer(
-        &rt,
-        &["check", "missing", "f"],
-        INPUT,
-        text,
-        Status::ReadFault,
-    )?;
-    ends_without_answer(
-        &rt,
-        &["check", "f", "missing"],
-        INPUT,
-        text,
-        Status::ReadFault,
-    )
+    let rows: &[(&[&str], &str, &str, Status)] = &[
+        (
+            &["check", "missing", "f"],
+            INPUT,
+            "read fault\n",
+            Status::ReadFault,
+        ),
+        (
+            &["check", "f", "missing"],
+            INPUT,
+            "read fault\n",
+            Status::ReadFault,
+        ),
+        (
+            &["check", "f", "missing"],
+            "1 0\nbogus\n",
+            "refused 2 UnknownWord\n",
+            Status::Refused,
+        ),
+        (&["solve", "missing"], "", "read fault\n", Status::ReadFault),
+        (&["print", "missing"], "", "read fault\n", Status::ReadFault),
+        (
+            &["migrate", "f", "b", "2"],
+            DENIED,
+            "read fault\n",
+            Status::ReadFault,
+        ),
+        (
+            &["migrate", "f", "b", "2"],
+            "1 x 0\n",
+            "refused 1 NotNumber\n",
+            Status::Refused,
+        ),
+    ];
+    for (line, input, text, status) in rows {
+        ends_without_answer(&rt, line, input.as_bytes(), text.as_bytes(), *status)?;
+    }
+    Ok(())
 }
 
-#[test]
-fn a_fault_of_the_input_comes_before_a_missing_answer(rt: HostRuntime) -> Result<(), Fail> {
-    ends_without_answer(
-        &rt,
-        &["check", "f", "missing"],
-        b"1 0\nbogus\n",
-        b"refused 2 UnknownWord\n",
-        Status::Refused,
-    )
+/// Each row has words, and how their run over this input ends.
+fn each_ends(
+    rt: &(impl Abort + AllocGlobal),
+    input: &[u8],
+    rows: &[(&[&str], &str, Status)],
+) -> Result<(), Fail> {
+    for (line, text, status) in rows {
+        ends_without_answer(rt, line, input, text.as_bytes(), *status)?;
+    }
+    Ok(())
 }
 
+/// An input may have 2^28 bytes.
 #[test]
-fn an_input_beyond_its_limit_comes_before_a_missing_answer(rt: HostRuntime) -> Result<(), Fail> {
-    let spaces = vec![in rt.alloc(); b' '; (1 << 28) + 1]?;
-    ends_without_answer(
+fn an_input_at_its_limit_is_read(rt: HostRuntime) -> Result<(), Fail> {
+    let spaces = vec![in rt.alloc(); b' '; 1 << 28]?;
+    each_ends(
         &rt,
-        &["check", "f", "missing"],
         spaces.as_slice(),
-        b"too long\n",
-        Status::TooLong,
+        &[
+            (&["print", "f"], "p gnf 0 0\n", Status::Printed),
+            (&["solve", "f"], "s SATISFIABLE\nv 0\n", Status::Satisfiable),
+        ],
+    )
+}
+
+/// One that has more is told before a missing answer.
+#[test]
+fn an_input_beyond_its_limit_is_too_long(rt: HostRuntime) -> Result<(), Fail> {
+    let spaces = vec![in rt.alloc(); b' '; (1 << 28) + 1]?;
+    each_ends(
+        &rt,
+        spaces.as_slice(),
+        &[
+            (&["solve", "f"], "too long\n", Status::TooLong),
+            (&["check", "f", "missing"], "too long\n", Status::TooLong),
+        ],
     )
 }
 
@@ -126,7 +176,7 @@ fn prepare(
 }
 
 /// A shelf of which this call fails.
-pub(super) fn failing_shelf(
+fn failing_shelf(
     alloc: Global,
     input: &[u8],
     answer: &[u8],
@@ -138,61 +188,96 @@ pub(super) fn failing_shelf(
     Ok(shelf)
 }
 
-/// The run of these words over the shelf ends with a read fault, and says so.
-fn is_read_fault(
-    rt: &(impl Abort + AllocGlobal),
-    line: &[&str],
-    shelf: &mut MemoryShelf,
-) -> Result<(), Fail> {
-    let text = b"read fault\n".as_slice();
-    ends_within(rt, line, shelf, 100, text, Status::ReadFault)
-}
-
-/// The run of these words over the shelf ends so.
-fn is_read(
-    rt: &(impl Abort + AllocGlobal),
-    line: &[&str],
-    shelf: &mut MemoryShelf,
-    status: Status,
-) -> Result<(), Fail> {
-    let mut out = MemorySink::new(rt.alloc(), 100)?;
-    let found = run_words(rt.alloc(), line, shelf, &mut out)?;
-    assert_eq!(rt; found, status);
-    Ok(())
-}
-
-/// Each call on the shelf fails in turn, until a run makes no further call.
+/// Each call on the shelf fails in turn, until a run makes no further call: it writes this, and ends so.
 fn each_read_fails(
     rt: &(impl Abort + AllocGlobal),
     line: &[&str],
-    answer: &[u8],
+    input: &str,
+    answer: &str,
     most: usize,
     calls: u64,
+    text: &str,
     status: Status,
 ) -> Result<(), Fail> {
-    for call in 1..calls {
-        let mut shelf = failing_shelf(rt.alloc(), INPUT, answer, most, call)?;
-        is_read_fault(rt, line, &mut shelf)?;
+    for call in 1..=calls {
+        let (due, written) = if call < calls {
+            (Status::ReadFault, "read fault\n")
+        } else {
+            (status, text)
+        };
+        let mut shelf = failing_shelf(rt.alloc(), input.as_bytes(), answer.as_bytes(), most, call)?;
+        ends_within(rt, line, &mut shelf, 100, written.as_bytes(), due)?;
     }
-    let mut shelf = failing_shelf(rt.alloc(), INPUT, answer, most, calls)?;
-    is_read(rt, line, &mut shelf, status)
+    Ok(())
 }
 
+/// A file is begun once and read to its end: two calls, and one more for the end. It is read to its end behind a line at fault
+/// too. 11 and 23 bytes in pieces of 7: begin, two or four pieces, the end.
 #[test]
 fn each_call_on_the_shelf_may_fail(rt: HostRuntime) -> Result<(), Fail> {
-    let check = ["check", "f", "a"];
-    // A file is begun once and read to its end: two calls, and one more for the end. It is read to its end behind a line
-    // at fault too.
-    // 11 and 23 bytes in pieces of 7: begin, two or four pieces, the end.
-    for (answer, most, calls, status) in [
-        (MODEL, 0, 7, Status::Accepted),
-        (OTHER, 0, 7, Status::Rejected),
-        (BAD, 7, 9, Status::Rejected),
-        (MODEL, 7, 11, Status::Accepted),
-    ] {
-        each_read_fails(&rt, &check, answer, most, calls, status)?;
+    let check: &[&str] = &["check", "f", "a"];
+    let solve: &[&str] = &["solve", "f"];
+    let rows: &[(&[&str], &str, &str, usize, u64, &str, Status)] = &[
+        (
+            check,
+            INPUT,
+            MODEL,
+            0,
+            7,
+            "accepted model\n",
+            Status::Accepted,
+        ),
+        (
+            check,
+            INPUT,
+            OTHER,
+            0,
+            7,
+            "rejected 2 ClauseFalse 2\n",
+            Status::Rejected,
+        ),
+        (
+            check,
+            INPUT,
+            BAD,
+            7,
+            9,
+            "rejected 1 NotAnswer\n",
+            Status::Rejected,
+        ),
+        (
+            check,
+            INPUT,
+            MODEL,
+            7,
+            11,
+            "accepted model\n",
+            Status::Accepted,
+        ),
+        (solve, INPUT, "", 0, 4, MODEL, Status::Satisfiable),
+        (
+            check,
+            DENIED,
+            REFUTATION,
+            0,
+            7,
+            "accepted refutation\n",
+            Status::Accepted,
+        ),
+        (
+            solve,
+            ROUTE,
+            "",
+            0,
+            4,
+            "s SATISFIABLE\nv 1 2 3 0\n",
+            Status::Satisfiable,
+        ),
+    ];
+    for (line, input, answer, most, calls, text, status) in rows {
+        each_read_fails(&rt, line, input, answer, *most, *calls, text, *status)?;
     }
-    each_read_fails(&rt, &["solve", "f"], b"", 0, 4, Status::Satisfiable)
+    Ok(())
 }
 
 /// An output that takes three bytes at a time, and of which this write fails.
@@ -204,7 +289,7 @@ fn failing_sink(alloc: Global, call: u64) -> Result<MemorySink, AllocError> {
 }
 
 /// This write fails: what was written before it stays.
-pub(super) fn write_fails(
+fn write_fails(
     rt: &(impl Abort + AllocGlobal),
     line: &[&str],
     shelf: &mut MemoryShelf,
@@ -222,8 +307,9 @@ pub(super) fn write_fails(
 fn each_write_fails(
     rt: &(impl Abort + AllocGlobal),
     line: &[&str],
-    answer: &[u8],
-    text: &[u8],
+    input: &str,
+    answer: &str,
+    text: &str,
     writes: u64,
     status: Status,
 ) -> Result<(), Fail> {
@@ -233,32 +319,56 @@ fn each_write_fails(
         } else {
             status
         };
-        let mut shelf = shelf_of(rt.alloc(), INPUT, answer)?;
-        write_fails(rt, line, &mut shelf, text, call, due)?;
+        let mut shelf = shelf_of(rt.alloc(), input.as_bytes(), answer.as_bytes())?;
+        write_fails(rt, line, &mut shelf, text.as_bytes(), call, due)?;
     }
     Ok(())
 }
 
 #[test]
 fn each_write_may_fail(rt: HostRuntime) -> Result<(), Fail> {
-    let check = ["check", "f", "a"];
-    each_write_fails(&rt, &check, MODEL, b"accepted model\n", 6, Status::Accepted)?;
-    each_write_fails(
-        &rt,
-        &check,
-        OTHER,
-        b"rejected 2 ClauseFalse 2\n",
-        10,
-        Status::Rejected,
-    )?;
-    each_write_fails(
-        &rt,
-        &["solve", "f"],
-        b"",
-        b"s SATISFIABLE\nv -1 2 0\n",
-        9,
-        Status::Satisfiable,
-    )
+    let check: &[&str] = &["check", "f", "a"];
+    let solve: &[&str] = &["solve", "f"];
+    let rows: &[(&[&str], &str, &str, &str, u64, Status)] = &[
+        (check, INPUT, MODEL, "accepted model\n", 6, Status::Accepted),
+        (
+            check,
+            INPUT,
+            OTHER,
+            "rejected 2 ClauseFalse 2\n",
+            10,
+            Status::Rejected,
+        ),
+        (solve, INPUT, "", MODEL, 9, Status::Satisfiable),
+        (
+            solve,
+            "",
+            "",
+            "s SATISFIABLE\nv 0\n",
+            7,
+            Status::Satisfiable,
+        ),
+    ];
+    for (line, input, answer, text, writes, status) in rows {
+        each_write_fails(&rt, line, input, answer, text, *writes, *status)?;
+    }
+    Ok(())
+}
+
+/// Each row has a form, the room of its output, and what its run over an empty file writes into it.
+#[test]
+fn a_full_output_keeps_a_prefix(rt: HostRuntime) -> Result<(), Fail> {
+    for (form, room, text, status) in [
+        ("print", 4, "p gn", Status::WriteFault),
+        ("solve", 0, "", Status::WriteFault),
+        ("solve", 10, "s SATISFIA", Status::WriteFault),
+        ("solve", 17, "s SATISFIABLE\nv 0", Status::WriteFault),
+        ("solve", 18, "s SATISFIABLE\nv 0\n", Status::Satisfiable),
+    ] {
+        let mut shelf = shelf_of_input(rt.alloc(), b"")?;
+        ends_within(&rt, &[form, "f"], &mut shelf, room, text.as_bytes(), status)?;
+    }
+    Ok(())
 }
 
 /// The verdict on a text for the problem, read up to a limit.
@@ -303,30 +413,4 @@ fn an_answer_beyond_its_limit_is_told_before_its_faults(rt: HostRuntime) -> Resu
     );
     assert_eq!(rt; verdict_within(rt.alloc(), line, 21), rejected);
     Ok(())
-}
-
-#[test]
-fn a_full_output_keeps_a_prefix(rt: HostRuntime) -> Result<(), Fail> {
-    let mut shelf = shelf_of_input(rt.alloc(), b"")?;
-    let text = b"p gn".as_slice();
-    ends_within(
-        &rt,
-        &["print", "f"],
-        &mut shelf,
-        4,
-        text,
-        Status::WriteFault,
-    )
-}
-
-#[test]
-fn a_file_at_its_limit_is_read(rt: HostRuntime) -> Result<(), Fail> {
-    let spaces = vec![in rt.alloc(); b' '; 1 << 28]?;
-    ends_without_answer(
-        &rt,
-        &["print", "f"],
-        spaces.as_slice(),
-        b"p gnf 0 0\n",
-        Status::Printed,
-    )
 }

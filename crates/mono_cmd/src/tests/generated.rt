@@ -1,7 +1,10 @@
-//! Inputs that are generated, solved and summed up.
+//! Inputs that are generated, solved and summed up, how large they are, and what one conflict teaches.
 
 use super::{assert_outcome, checks, outcome_of};
 use crate::status::Status;
+use mono_gnf::read_gnf;
+use mono_problem::Problem;
+use mono_text::Lines;
 use std::process::Abort;
 use std::test::Fail;
 
@@ -45,13 +48,33 @@ fn solves(
 }
 
 #[test]
-fn a_wall_of_two_rows_is_printed(rt: HostRuntime) -> Result<(), Fail> {
-    writes(
-        &rt,
-        &["gen", "wall", "2", "7"],
-        b"p gnf 9 3\ndigraph int 4 8 0\nedge 0 0 1 1 1\nedge 0 0 2 2 2\nedge 0 1 3 3 9\nedge 0 1 0 4 3\nedge 0 2 3 5 5\nedge 0 2 0 6 2\nedge 0 3 2 7 6\nedge 0 3 1 8 3\nreach 0 0 3 9\n9 0\n-1 0\n-5 0\n",
-        Status::Printed,
-    )
+fn generated_inputs_are_printed_and_summed_up(rt: HostRuntime) -> Result<(), Fail> {
+    let rows: &[(&[&str], &str, Status)] = &[
+        (
+            &["gen", "wall", "2", "7"],
+            "p gnf 9 3\ndigraph int 4 8 0\nedge 0 0 1 1 1\nedge 0 0 2 2 2\nedge 0 1 3 3 9\nedge 0 1 0 4 3\nedge 0 2 3 5 5\nedge 0 2 0 6 2\nedge 0 3 2 7 6\nedge 0 3 1 8 3\nreach 0 0 3 9\n9 0\n-1 0\n-5 0\n",
+            Status::Printed,
+        ),
+        (
+            &["gen", "grid", "10", "7", "--solve"],
+            "variables 363\nclauses 400\nedges 360\npredicates 3\nresult satisfiable\nverdict accepted model\n",
+            Status::Satisfiable,
+        ),
+        (
+            &["gen", "wall", "10", "7", "--solve"],
+            "variables 361\nclauses 11\nedges 360\npredicates 1\nresult unsatisfiable\nverdict accepted refutation\n",
+            Status::Unsatisfiable,
+        ),
+        (
+            &["gen", "grid", "30", "7", "--solve"],
+            "variables 3483\nclauses 3600\nedges 3480\npredicates 3\nresult satisfiable\nverdict accepted model\n",
+            Status::Satisfiable,
+        ),
+    ];
+    for (line, text, status) in rows {
+        writes(&rt, line, text.as_bytes(), *status)?;
+    }
+    Ok(())
 }
 
 #[test]
@@ -88,24 +111,72 @@ fn generated_inputs_are_solved(rt: HostRuntime) -> Result<(), Fail> {
     )
 }
 
+/// The problem has so many variables, clauses, edges and predicates.
+fn assert_counts(
+    rt: &impl Abort,
+    problem: &Problem,
+    variables: u32,
+    clauses: u32,
+    edges: u32,
+    predicates: u32,
+) {
+    assert_eq!(rt; problem.vars(), variables);
+    assert_eq!(rt; problem.clause_count(), clauses);
+    assert_eq!(rt; problem.edge_count(), edges);
+    assert_eq!(rt; problem.atom_count(), predicates);
+}
+
 #[test]
-fn generated_inputs_are_summed_up(rt: HostRuntime) -> Result<(), Fail> {
-    writes(
-        &rt,
-        &["gen", "grid", "10", "7", "--solve"],
-        b"variables 363\nclauses 400\nedges 360\npredicates 3\nresult satisfiable\nverdict accepted model\n",
-        Status::Satisfiable,
-    )?;
-    writes(
-        &rt,
-        &["gen", "wall", "10", "7", "--solve"],
-        b"variables 361\nclauses 11\nedges 360\npredicates 1\nresult unsatisfiable\nverdict accepted refutation\n",
-        Status::Unsatisfiable,
-    )?;
-    writes(
-        &rt,
-        &["gen", "grid", "30", "7", "--solve"],
-        b"variables 3483\nclauses 3600\nedges 3480\npredicates 3\nresult satisfiable\nverdict accepted model\n",
-        Status::Satisfiable,
-    )
+fn generated_inputs_have_their_sizes(rt: HostRuntime) -> Result<(), Fail> {
+    for (kind, size, variables, clauses, edges, predicates) in [
+        ("grid", "2", 11, 16, 8, 3),
+        ("grid", "10", 363, 400, 360, 3),
+        ("grid", "100", 39603, 40000, 39600, 3),
+        ("wall", "2", 9, 3, 8, 1),
+        ("wall", "10", 361, 11, 360, 1),
+    ] {
+        let found = outcome_of(rt.alloc(), &["gen", kind, size, "7"], b"", b"")?;
+        let problem = read_gnf(rt.alloc(), found.text.as_slice())?;
+        assert_counts(&rt, &problem, variables, clauses, edges, predicates);
+    }
+    Ok(())
+}
+
+/// All clauses over three variables: no assignment satisfies them.
+const EIGHT: &[u8] =
+    b"1 2 3 0\n1 2 -3 0\n1 -2 3 0\n1 -2 -3 0\n-1 2 3 0\n-1 2 -3 0\n-1 -2 3 0\n-1 -2 -3 0\n";
+
+/// Whether the token stands there, and is this word.
+fn is(token: Option<&[u8]>, word: &[u8]) -> bool {
+    match token {
+        Some(token) => token == word,
+        None => false,
+    }
+}
+
+/// Whether behind the first line there is one line alone, a chain with a clause of two literals.
+fn has_one_chain_of_two(text: &[u8]) -> bool {
+    let mut lines = Lines::new(text);
+    let _ = lines.next();
+    let Some(line) = lines.next() else {
+        return false;
+    };
+    if lines.next().is_some() {
+        return false;
+    }
+    let mut tokens = line.tokens();
+    is(tokens.next(), b"chain")
+        && !is(tokens.next(), b"0")
+        && !is(tokens.next(), b"0")
+        && is(tokens.next(), b"0")
+}
+
+#[test]
+fn one_conflict_teaches_a_clause_of_two_literals(rt: HostRuntime) -> Result<(), Fail> {
+    let line = ["solve", "f", "--conflicts", "1"];
+    let found = outcome_of(rt.alloc(), &line, EIGHT, b"")?;
+    assert_eq!(rt; found.status, Status::Unknown);
+    assert!(rt; found.text.as_slice().starts_with(b"s UNKNOWN\n"));
+    assert!(rt; has_one_chain_of_two(found.text.as_slice()));
+    Ok(())
 }

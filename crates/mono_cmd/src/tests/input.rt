@@ -1,16 +1,20 @@
 //! Inputs, read, refused and printed.
 
-use super::{assert_outcome, checks, outcome_of, prints, prints_each, refuses};
+use super::{USAGE, assert_outcome, checks, outcome_of, prints, prints_each, refuses};
 use crate::status::Status;
 use mono_text::push_natural;
 use std::alloc::{AllocError, Global};
 use std::process::Abort;
 use std::test::Fail;
 
-const USAGE: &[u8] =
-    b"usage: solve FILE [--conflicts N] | check FILE ANSWER | print FILE | gen KIND SIZE SEED [--solve] | migrate FILE ANSWER VERSION | core FILE LIT.. | check-with FILE ANSWER LIT.. | best FILE ATOM | ask FILE ATOM B | team FILE K R\n";
-
 const GRAPH: &[u8] = b"digraph int 2 1 0\n";
+
+/// Edges are printed in the order of their numbers.
+const MIXED: &str =
+    "digraph int 2 0 7\ndigraph int 3 0 3\nedge 7 0 1 1 5\nedge 3 2 0 2\nmst_weight_lt 3 9 4\nedge 7 1 0 1 0\n1 -9 0\n";
+
+const ORDERED: &str =
+    "p gnf 9 1\ndigraph int 2 2 7\ndigraph int 3 1 3\nedge 7 0 1 1 5\nedge 3 2 0 2 1\nedge 7 1 0 1 0\nmst_weight_leq 3 9 3\n1 -9 0\n";
 
 #[test]
 fn an_input_is_printed_in_one_form(rt: HostRuntime) -> Result<(), Fail> {
@@ -45,17 +49,24 @@ fn an_input_is_printed_in_one_form(rt: HostRuntime) -> Result<(), Fail> {
                 "digraph int 2 1 0\nedge 0 0 1 1 18446744073709551615\n",
                 "p gnf 1 0\ndigraph int 2 1 0\nedge 0 0 1 1 18446744073709551615\n",
             ),
+            (MIXED, ORDERED),
+            (ORDERED, ORDERED),
+            // Weights of 32 bits and more.
+            (
+                "digraph int 2 1 0\nedge 0 0 1 1 4294967295\n",
+                "p gnf 1 0\ndigraph int 2 1 0\nedge 0 0 1 1 4294967295\n",
+            ),
+            (
+                "digraph int 2 1 0\nedge 0 0 1 1 4294967296\n",
+                "p gnf 1 0\ndigraph int 2 1 0\nedge 0 0 1 1 4294967296\n",
+            ),
+            (
+                "digraph 2 0 7\nacyclic 07 3\n1 0\n",
+                "p gnf 3 1\ndigraph int 2 0 7\nacyclic 7 3\n1 0\n",
+            ),
+            ("1\t2\r\n-000003 0", "p gnf 3 1\n1 2 -3 0\n"),
         ],
     )
-}
-
-#[test]
-fn edges_are_printed_in_the_order_of_their_numbers(rt: HostRuntime) -> Result<(), Fail> {
-    let text =
-        "p gnf 9 1\ndigraph int 2 2 7\ndigraph int 3 1 3\nedge 7 0 1 1 5\nedge 3 2 0 2 1\nedge 7 1 0 1 0\nmst_weight_leq 3 9 3\n1 -9 0\n";
-    let input =
-        "digraph int 2 0 7\ndigraph int 3 0 3\nedge 7 0 1 1 5\nedge 3 2 0 2\nmst_weight_lt 3 9 4\nedge 7 1 0 1 0\n1 -9 0\n";
-    prints_each(&rt, &[(input, text), (text, text)])
 }
 
 #[test]
@@ -81,6 +92,27 @@ fn the_first_malformed_line_is_named(rt: HostRuntime) -> Result<(), Fail> {
                 "digraph int 2 1 0\nedge 0 5 0 0\n",
                 "refused 2 NodeOutOfRange\n",
             ),
+            // Words, weights and names that other tools write.
+            ("node 0 1\n", "refused 1 UnknownWord\n"),
+            ("%\n", "refused 1 UnknownWord\n"),
+            ("digraph 0 0 0\n", "refused 1 NodeOutOfRange\n"),
+            ("digraph 2 1 0 name\n", "refused 1 WeightWord\n"),
+            ("digraph rational 2 1 0\n", "refused 1 WeightWord\n"),
+            (
+                "digraph int 2 1 0\nedge 0 0 1 1 -1\n",
+                "refused 2 NotNumber\n",
+            ),
+            // A clause ends before another line begins.
+            ("1 2\nreach 0 0 1 3\n-3 0\n", "refused 2 OpenClause\n"),
+            (
+                "1 2\nreach 0 0 1 3\nc middle\n-3 0\n",
+                "refused 2 OpenClause\n",
+            ),
+            ("1 2\nc middle\n-3\n", "refused 3 UnfinishedClause\n"),
+            ("digraph 1 0 0\nacyclic 0\n", "refused 2 FieldCount\n"),
+            ("digraph 1 0 0\nacyclic 0 1 2\n", "refused 2 FieldCount\n"),
+            ("digraph 1 0 0\nacyclic 1 1\n", "refused 2 UnknownGraph\n"),
+            ("digraph 1 0 0\nacyclic 0 0\n", "refused 2 BadVariable\n"),
         ],
     )
 }
@@ -120,15 +152,7 @@ fn the_first_check_that_fails_names_the_fault(rt: HostRuntime) -> Result<(), Fai
                 "refused 2 NodeOutOfRange\n",
             ),
             ("cfoo\n", "refused 1 UnknownWord\n"),
-        ],
-    )
-}
-
-#[test]
-fn a_number_line_is_judged_token_by_token(rt: HostRuntime) -> Result<(), Fail> {
-    refuses(
-        &rt,
-        &[
+            // A line of numbers is judged token by token.
             ("-\n", "refused 1 NotNumber\n"),
             ("--1 0\n", "refused 1 NotNumber\n"),
             ("1x 0\n", "refused 1 NotNumber\n"),
@@ -137,8 +161,7 @@ fn a_number_line_is_judged_token_by_token(rt: HostRuntime) -> Result<(), Fail> {
             ("1 x 1000001 0\n", "refused 1 NotNumber\n"),
             ("1 \x0b2 0\n", "refused 1 NotNumber\n"),
         ],
-    )?;
-    prints_each(&rt, &[("1\t2\r\n-000003 0", "p gnf 3 1\n1 2 -3 0\n")])
+    )
 }
 
 /// So many graphs, each with an identity of its own.
@@ -210,11 +233,39 @@ fn other_words_are_no_command(rt: HostRuntime) -> Result<(), Fail> {
         "gen grid 10 7 solve",
         "gen --solve grid 10 7",
         "print grid 10 7 --solve",
+        "core f",
+        "core f 0",
+        "core f -0",
+        "core f 1 x",
+        "core f 1000001",
+        "core -f 1",
+        "check-with f a",
+        "check-with f 1",
+        "check-with f -a 1",
+        "team f 2",
+        "team f 0 1",
+        "team f 9 1",
+        "team f 1 0",
+        "team f 1 101",
+        "team -f 1 1",
+        "team f 1 1 1",
+        "team f +1 1",
+        "migrate f a 0",
+        "migrate f a 3",
+        "migrate f a 02",
+        "migrate f a two",
     ];
     for line in &words {
         is_no_command(&rt, line)?;
     }
-    let empty = outcome_of(rt.alloc(), &["print", ""], GRAPH, b"")?;
-    assert_eq!(rt; empty.status, Status::Words);
+    let others: [&[&str]; 3] = [
+        &["print", ""],
+        &["migrate", "f", "a", "1 "],
+        &["migrate", "f", "a", ""],
+    ];
+    for line in others {
+        let found = outcome_of(rt.alloc(), line, GRAPH, b"")?;
+        assert_outcome(&rt, &found, USAGE, Status::Words);
+    }
     Ok(())
 }

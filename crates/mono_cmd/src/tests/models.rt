@@ -5,11 +5,22 @@ use std::test::Fail;
 
 const INPUT: &str = "1 2 0\n-1 0\n";
 
+/// An edge without a predicate is a free variable.
+const FREE_EDGE: &str = "digraph int 2 1 0\nedge 0 0 1 2\n1 0\n";
+
+/// One edge, and what says whether it leads on.
+const ONE_EDGE: &str = "digraph int 2 1 0\nedge 0 0 1 1\nreach 0 0 1 2\n1 0\n";
+
+/// A graph has all edges of the file, also those behind its predicates.
+const EDGE_BEHIND: &str = "digraph int 2 1 0\nreach 0 0 1 2\nedge 0 0 1 1\n1 0\n";
+
+/// Each clause has to be true, and a model may be laid out in any way.
 #[test]
-fn a_model_is_accepted_where_each_clause_is_true(rt: HostRuntime) -> Result<(), Fail> {
+fn models_are_judged(rt: HostRuntime) -> Result<(), Fail> {
     judges(
         &rt,
         &[
+            // Clauses.
             (INPUT, "s SATISFIABLE\nv -1 2 0\n", "accepted model\n"),
             (
                 INPUT,
@@ -23,15 +34,7 @@ fn a_model_is_accepted_where_each_clause_is_true(rt: HostRuntime) -> Result<(), 
             ),
             ("", "s SATISFIABLE\nv 0\n", "accepted model\n"),
             ("0\n", "s SATISFIABLE\nv 0\n", "rejected 2 ClauseFalse 1\n"),
-        ],
-    )
-}
-
-#[test]
-fn a_model_may_be_laid_out_in_any_way(rt: HostRuntime) -> Result<(), Fail> {
-    judges(
-        &rt,
-        &[
+            // Layouts.
             (
                 INPUT,
                 "c x\n\ns SATISFIABLE\nv 2\nc y\nv -1\nv 0\nv\n",
@@ -42,6 +45,26 @@ fn a_model_may_be_laid_out_in_any_way(rt: HostRuntime) -> Result<(), Fail> {
                 INPUT,
                 "s SATISFIABLE\nv\nv 1 2\nv 0\nv\n",
                 "rejected 4 ClauseFalse 2\n",
+            ),
+            // Edges and predicates.
+            (FREE_EDGE, "s SATISFIABLE\nv 1 -2 0\n", "accepted model\n"),
+            (FREE_EDGE, "s SATISFIABLE\nv 1 2 0\n", "accepted model\n"),
+            (ONE_EDGE, "s SATISFIABLE\nv 1 2 0\n", "accepted model\n"),
+            (
+                ONE_EDGE,
+                "s SATISFIABLE\nv 1 -2 0\n",
+                "rejected 2 AtomWrong 1\n",
+            ),
+            (
+                ONE_EDGE,
+                "s SATISFIABLE\nv -1 2 0\n",
+                "rejected 2 ClauseFalse 1\n",
+            ),
+            (EDGE_BEHIND, "s SATISFIABLE\nv 1 2 0\n", "accepted model\n"),
+            (
+                EDGE_BEHIND,
+                "s SATISFIABLE\nv 1 -2 0\n",
+                "rejected 2 AtomWrong 1\n",
             ),
         ],
     )
@@ -99,39 +122,6 @@ fn a_faulty_model_is_rejected_by_its_first_fault(rt: HostRuntime) -> Result<(), 
                 "rejected 3 BadLine\n",
             ),
             (INPUT, "s SATISFIABLE\npath 1 0\n", "rejected 2 BadLine\n"),
-        ],
-    )
-}
-
-#[test]
-fn edges_without_predicates_are_free_variables(rt: HostRuntime) -> Result<(), Fail> {
-    let input = "digraph int 2 1 0\nedge 0 0 1 2\n1 0\n";
-    judges(
-        &rt,
-        &[
-            (input, "s SATISFIABLE\nv 1 -2 0\n", "accepted model\n"),
-            (input, "s SATISFIABLE\nv 1 2 0\n", "accepted model\n"),
-        ],
-    )
-}
-
-#[test]
-fn models_of_predicates_are_judged(rt: HostRuntime) -> Result<(), Fail> {
-    let input = "digraph int 2 1 0\nedge 0 0 1 1\nreach 0 0 1 2\n1 0\n";
-    judges(
-        &rt,
-        &[
-            (input, "s SATISFIABLE\nv 1 2 0\n", "accepted model\n"),
-            (
-                input,
-                "s SATISFIABLE\nv 1 -2 0\n",
-                "rejected 2 AtomWrong 1\n",
-            ),
-            (
-                input,
-                "s SATISFIABLE\nv -1 2 0\n",
-                "rejected 2 ClauseFalse 1\n",
-            ),
         ],
     )
 }

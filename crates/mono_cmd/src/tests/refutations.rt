@@ -3,60 +3,54 @@
 use super::judges;
 use std::test::Fail;
 
+const INPUT: &str = "1 0\n-1 0\n";
+
 #[test]
-fn a_refutation_by_chains_is_accepted(rt: HostRuntime) -> Result<(), Fail> {
-    let input = "1 0\n-1 0\n";
+fn chains_are_judged(rt: HostRuntime) -> Result<(), Fail> {
     judges(
         &rt,
         &[
+            // The empty clause has to be the last one.
             (
-                input,
+                INPUT,
                 "s UNSATISFIABLE\nchain 0 1 2\n",
                 "accepted refutation\n",
             ),
-            (input, "s UNSATISFIABLE\n", "rejected 1 NoEmptyClause\n"),
+            (INPUT, "s UNSATISFIABLE\n", "rejected 1 NoEmptyClause\n"),
             (
-                input,
+                INPUT,
                 "s UNSATISFIABLE\nchain 1 0 1\nc end\n",
                 "rejected 2 NoEmptyClause\n",
             ),
             (
-                input,
+                INPUT,
                 "s UNSATISFIABLE\npath 1 1 0\n",
                 "rejected 2 UnknownAtom\n",
             ),
             (
-                input,
+                INPUT,
                 "s UNSATISFIABLE\nchain 0 1\n",
                 "rejected 2 NotCovered\n",
             ),
             (
-                input,
+                INPUT,
                 "s UNSATISFIABLE\nchain 0 3\n",
                 "rejected 2 UnknownNumber\n",
             ),
             (
-                input,
+                INPUT,
                 "s UNSATISFIABLE\nchain 0 0\n",
                 "rejected 2 UnknownNumber\n",
             ),
-            (input, "s UNSATISFIABLE\nchain 0\n", "rejected 2 BadLine\n"),
-            (input, "s UNSATISFIABLE\nchain 1\n", "rejected 2 BadLine\n"),
-            (input, "s UNSATISFIABLE\nv 1 0\n", "rejected 2 BadLine\n"),
+            (INPUT, "s UNSATISFIABLE\nchain 0\n", "rejected 2 BadLine\n"),
+            (INPUT, "s UNSATISFIABLE\nchain 1\n", "rejected 2 BadLine\n"),
+            (INPUT, "s UNSATISFIABLE\nv 1 0\n", "rejected 2 BadLine\n"),
             (
                 "0\n",
                 "s UNSATISFIABLE\nchain 0 1\n",
                 "accepted refutation\n",
             ),
-        ],
-    )
-}
-
-#[test]
-fn a_chain_resolves_on_the_one_variable_that_clashes(rt: HostRuntime) -> Result<(), Fail> {
-    judges(
-        &rt,
-        &[
+            // A chain resolves on the one variable that clashes.
             (
                 "1 2 0\n-1 -2 0\n",
                 "s UNSATISFIABLE\nchain 0 1 2\n",
@@ -83,46 +77,41 @@ fn a_chain_resolves_on_the_one_variable_that_clashes(rt: HostRuntime) -> Result<
                 "rejected 3 NotCovered\n",
             ),
             ("1 0\n", "s UNKNOWN\n", "accepted progress 0\n"),
-        ],
-    )
-}
-
-#[test]
-fn numbers_of_clauses_go_up_to_the_last_word(rt: HostRuntime) -> Result<(), Fail> {
-    let input = "1 0\n-1 0\n";
-    judges(
-        &rt,
-        &[
+            // Numbers of clauses go up to the last word.
             (
-                input,
+                INPUT,
                 "s UNSATISFIABLE\nchain 0 18446744073709551615\n",
                 "rejected 2 UnknownNumber\n",
             ),
             (
-                input,
+                INPUT,
                 "s UNSATISFIABLE\nchain 0 18446744073709551616\n",
                 "rejected 2 BadLine\n",
             ),
             (
-                input,
+                INPUT,
                 "s UNSATISFIABLE\nchain 0 0000000000000000000000000000000000000001 2\n",
                 "accepted refutation\n",
             ),
             (
-                input,
+                INPUT,
                 "s UNSATISFIABLE\nchain 2 0 1 2\n",
                 "rejected 2 UnknownNumber\n",
             ),
             (
-                input,
+                INPUT,
                 "s UNSATISFIABLE\nchain 1 0 1\nchain 0 3 2\n",
                 "accepted refutation\n",
             ),
             (
-                input,
+                INPUT,
                 "s UNSATISFIABLE\nchain 0 3\n",
                 "rejected 2 UnknownNumber\n",
             ),
+            // Progress may have no steps.
+            ("1 0\n-1 0\n", "s UNKNOWN\n", "accepted progress 0\n"),
+            ("1 2 0\n-1 2 0\n", "s UNKNOWN\n", "accepted progress 0\n"),
+            ("1 -1 0\n1 0\n", "s UNKNOWN\n", "accepted progress 0\n"),
         ],
     )
 }

@@ -1,5 +1,8 @@
 //! Problems solved, and each answer handed to `check`.
 
+use super::acyclic::{
+    BESIDE, DENIED, NO_EDGE, ONE_WAY, OWN_EDGE, OWN_LOOP, PARALLEL, ROUND_TRIP, TWO_GRAPHS,
+};
 use super::{assert_outcome, checks, outcome_of};
 use crate::status::Status;
 use std::alloc::{AllocError, Global};
@@ -44,12 +47,6 @@ fn joined(alloc: Global, parts: &[&str]) -> Result<String, AllocError> {
     for part in parts {
         text.push_str(part)?;
     }
-    Ok(text)
-}
-
-/// The number in decimal.
-fn decimal(alloc: Global, number: u64) -> Result<String, Fail> {
-    let text = format!(in alloc; "{number}")?;
     Ok(text)
 }
 
@@ -99,10 +96,29 @@ fn finds_each(rt: &(impl Abort + AllocGlobal), rows: &[(&str, &str, &str)]) -> R
     Ok(())
 }
 
+/// Two edges side by side that carry 7 together, both there, with flows of 7 and of 8; that of 7 is denied.
+const DENIED_FLOW: &str =
+    "digraph int 2 2 0\nedge 0 0 1 1 3\nedge 0 0 1 2 4\nmaximum_flow_geq 0 0 1 3 7\nmaximum_flow_geq 0 0 1 4 8\n1 0\n2 0\n-3 0\n";
+
+/// A light edge to node 2 that is missing, and a way over node 1 that weighs 10 where at most 8 is asked for.
+const HEAVY_WAY: &str =
+    "digraph int 3 3 0\nedge 0 0 1 1 5\nedge 0 1 2 2 5\nedge 0 0 2 3 3\nweighted_distance_leq 0 0 2 4 8\n-3 0\n4 0\n";
+
+/// A triangle of which an edge of weight 0 is missing, and a spanning tree of weight 1 is asked for.
+const HEAVY_TREE: &str =
+    "digraph int 3 3 0\nedge 0 0 1 1\nedge 0 1 2 2\nedge 0 2 0 3 0\nmst_weight_leq 0 4 1\n4 0\n-3 0\n";
+
+/// A triangle whose spanning trees weigh 2, and one of weight 1 is asked for. The clauses share a line.
+const TIED_TREES: &str =
+    "digraph int 3 3 0\nedge 0 0 1 1\nedge 0 1 2 2\nedge 0 2 0 3\nmst_weight_leq 0 4 1\n1 0 2 0 3 0\n4 0\n";
+
+/// A triangle of free edges with a bound on its spanning trees, of which nothing is asked for.
+const FREE_TREES: &str =
+    "digraph int 3 3 0\nedge 0 0 1 1\nedge 0 1 2 2\nedge 0 2 0 3\nmst_weight_leq 0 4 1\n1 0 2 0 3 0\n";
+
 #[test]
-fn clauses_are_solved(rt: HostRuntime) -> Result<(), Fail> {
+fn inputs_with_one_model_are_solved(rt: HostRuntime) -> Result<(), Fail> {
     finds(&rt, b"", b"s SATISFIABLE\nv 0\n")?;
-    finds_each(&rt, &[("-1 0\n1 2 2 0\n", "3 -3 0 3 0\n", "-1 2 3")])?;
     answers(
         &rt,
         &["solve", "f"],
@@ -110,33 +126,18 @@ fn clauses_are_solved(rt: HostRuntime) -> Result<(), Fail> {
         Status::Satisfiable,
         b"accepted model\n",
     )?;
-    refutes_each(
-        &rt,
-        &[("0\n", ""), ("1 0\n", "-1 0\n"), (EIGHT, ""), (PIGEONS, "")],
-    )
-}
-
-#[test]
-fn inputs_with_one_model_are_solved(rt: HostRuntime) -> Result<(), Fail> {
     finds_each(
         &rt,
         &[
+            ("-1 0\n1 2 2 0\n", "3 -3 0 3 0\n", "-1 2 3"),
             (ROUTE, "1 0\n2 0\n", "1 2 3"),
             (GRAPHS, "reach 0 0 1 2\nreach 1 0 1 3\n2 0\n", "1 2 3"),
             ("digraph int 2 1 0\nedge 0 0 1 1\n", "1 0\n", "1"),
             (LOOP, "1 0\n2 0\n", "1 2 3"),
             (PIPES, "3 0\n", "1 2 3 -4"),
             (TRIANGLE, "1 0\n2 0\n3 0\n", "1 2 3 -4"),
-        ],
-    )
-}
-
-/// Cycles are those of the predicate's graph alone, parallel edges make none, and a predicate may be the variable of its edges.
-#[test]
-fn cycles_are_found(rt: HostRuntime) -> Result<(), Fail> {
-    finds_each(
-        &rt,
-        &[
+            (FREE_TREES, "", "1 2 3 -4"),
+            // Cycles are those of the predicate's graph alone, parallel edges make none, and a predicate may be the variable of its edges.
             (CIRCLE, "1 0\n2 0\n", "1 2 -3"),
             (CIRCLE, "3 0\n2 0\n", "-1 2 3"),
             (
@@ -156,20 +157,9 @@ fn cycles_are_found(rt: HostRuntime) -> Result<(), Fail> {
             ),
             (ROUND, "1 0\n2 0\n3 0\n", "1 2 3 4 5 -6"),
             (ROUND, "4 0\n6 0\n5 0\n", "1 2 -3 4 5 6"),
-        ],
-    )?;
-    refutes_each(
-        &rt,
-        &[
-            (CIRCLE, "1 0\n2 0\n3 0\n"),
-            (CIRCLE, "-1 0\n-3 0\n"),
-            (CIRCLE, "reach 0 0 1 4\nreach 0 1 0 5\n3 0\n4 0\n5 0\n"),
-            ("digraph int 1 0 0\n", "acyclic 0 1\n-1 0\n"),
-            (
-                "digraph int 1 1 0\nedge 0 0 0 1\n",
-                "acyclic 0 2\n1 0\n2 0\n",
-            ),
-            ("digraph int 1 1 0\nedge 0 0 0 1\n", "acyclic 0 1\n"),
+            (ROUND_TRIP, "", "1 2 -3"),
+            (TWO_GRAPHS, "", "1 2 3 -4"),
+            (BESIDE, "", "1 -2 3 4 5"),
         ],
     )
 }
@@ -179,6 +169,10 @@ fn inputs_without_a_model_are_refuted(rt: HostRuntime) -> Result<(), Fail> {
     refutes_each(
         &rt,
         &[
+            ("0\n", ""),
+            ("1 0\n", "-1 0\n"),
+            (EIGHT, ""),
+            (PIGEONS, ""),
             (ROUTE, "1 0\n2 0\n-3 0\n"),
             (ROUTE, "-1 0\n3 0\n"),
             ("digraph int 1 0 0\n", "reach 0 0 0 1\n-1 0\n"),
@@ -186,6 +180,25 @@ fn inputs_without_a_model_are_refuted(rt: HostRuntime) -> Result<(), Fail> {
             (PIPES, "4 0\n"),
             (TRIANGLE, "1 0\n2 0\n3 0\n4 0\n"),
             ("digraph int 1 0 0\n", "mst_weight_leq 0 1 0\n-1 0\n"),
+            (DENIED_FLOW, ""),
+            (HEAVY_WAY, ""),
+            (HEAVY_TREE, ""),
+            (TIED_TREES, ""),
+            (CIRCLE, "1 0\n2 0\n3 0\n"),
+            (CIRCLE, "-1 0\n-3 0\n"),
+            (CIRCLE, "reach 0 0 1 4\nreach 0 1 0 5\n3 0\n4 0\n5 0\n"),
+            ("digraph int 1 0 0\n", "acyclic 0 1\n-1 0\n"),
+            (
+                "digraph int 1 1 0\nedge 0 0 0 1\n",
+                "acyclic 0 2\n1 0\n2 0\n",
+            ),
+            ("digraph int 1 1 0\nedge 0 0 0 1\n", "acyclic 0 1\n"),
+            (DENIED, ""),
+            (ONE_WAY, ""),
+            (OWN_LOOP, ""),
+            (NO_EDGE, ""),
+            (PARALLEL, ""),
+            (OWN_EDGE, ""),
         ],
     )
 }
@@ -307,17 +320,34 @@ fn spends(rt: &(impl Abort + AllocGlobal), budget: &str, enough: bool) -> Result
 /// Three conflicts above level 0 are met, whatever is decided.
 #[test]
 fn a_budget_is_spent_or_enough(rt: HostRuntime) -> Result<(), Fail> {
-    for budget in 1..=27u64 {
-        let number = decimal(rt.alloc(), budget)?;
-        spends(&rt, number.as_str(), budget >= 3)?;
+    for budget in ["1", "2"] {
+        spends(&rt, budget, false)?;
     }
+    for budget in [
+        "3", "4", "5", "6", "7", "8", "9", "10", "11", "12", "13", "14", "15", "16", "17", "18",
+        "19", "20", "21", "22", "23", "24", "25", "26", "27",
+    ] {
+        spends(&rt, budget, true)?;
+    }
+    Ok(())
+}
+
+/// Two runs over the input write the same.
+fn writes_the_same(
+    rt: &(impl Abort + AllocGlobal),
+    input: &[u8],
+    status: Status,
+) -> Result<(), Fail> {
+    let first = outcome_of(rt.alloc(), &["solve", "f"], input, b"")?;
+    let second = outcome_of(rt.alloc(), &["solve", "f"], input, b"")?;
+    assert_eq!(rt; first.status, status);
+    assert_outcome(rt, &second, first.text.as_slice(), status);
     Ok(())
 }
 
 #[test]
 fn two_runs_write_the_same(rt: HostRuntime) -> Result<(), Fail> {
-    let first = outcome_of(rt.alloc(), &["solve", "f"], PIGEONS.as_bytes(), b"")?;
-    let second = outcome_of(rt.alloc(), &["solve", "f"], PIGEONS.as_bytes(), b"")?;
-    assert_eq!(rt; first.text.as_slice(), second.text.as_slice());
-    Ok(())
+    let grid = outcome_of(rt.alloc(), &["gen", "grid", "10", "7"], b"", b"")?;
+    writes_the_same(&rt, PIGEONS.as_bytes(), Status::Unsatisfiable)?;
+    writes_the_same(&rt, grid.text.as_slice(), Status::Satisfiable)
 }

@@ -21,15 +21,16 @@ fn played(alloc: Global, input: &[u8], workers: &str, rounds: &str) -> Result<Ou
     outcome_of(alloc, &["team", "f", workers, rounds], input, b"")
 }
 
-/// Each row has an input, how `team` ends, and what `check` says of its text.
+/// Each row has an input, how `team` ends, how its text begins, and what `check` says of it. One model has one text.
 #[test]
 fn answers_of_teams_are_accepted(rt: HostRuntime) -> Result<(), Fail> {
-    let rows: &[(&[u8], &str, &str, Status, &[u8])] = &[
+    let rows: &[(&[u8], &str, &str, Status, &[u8], &[u8])] = &[
         (
             EIGHT,
             "2",
             "1",
             Status::Unsatisfiable,
+            b"s UNSATISFIABLE\n",
             b"accepted refutation\n",
         ),
         (
@@ -37,21 +38,38 @@ fn answers_of_teams_are_accepted(rt: HostRuntime) -> Result<(), Fail> {
             "8",
             "100",
             Status::Unsatisfiable,
+            b"s UNSATISFIABLE\n",
             b"accepted refutation\n",
         ),
-        (ROUTE, "2", "1", Status::Satisfiable, b"accepted model\n"),
+        (
+            ROUTE,
+            "2",
+            "1",
+            Status::Satisfiable,
+            b"s SATISFIABLE\nv 1 2 3 0\n",
+            b"accepted model\n",
+        ),
         (
             NO_ROUTE,
             "1",
             "1",
             Status::Unsatisfiable,
+            b"s UNSATISFIABLE\n",
             b"accepted refutation\n",
         ),
-        (b"", "3", "2", Status::Satisfiable, b"accepted model\n"),
+        (
+            b"",
+            "3",
+            "2",
+            Status::Satisfiable,
+            b"s SATISFIABLE\nv 0\n",
+            b"accepted model\n",
+        ),
     ];
-    for (input, workers, rounds, status, verdict) in rows {
+    for (input, workers, rounds, status, beginning, verdict) in rows {
         let found = played(rt.alloc(), input, workers, rounds)?;
         assert_eq!(rt; found.status, *status);
+        assert!(rt; found.text.as_slice().starts_with(beginning));
         let judged = outcome_of(
             rt.alloc(),
             &["check", "f", "a"],
@@ -59,39 +77,6 @@ fn answers_of_teams_are_accepted(rt: HostRuntime) -> Result<(), Fail> {
             found.text.as_slice(),
         )?;
         assert_outcome(&rt, &judged, verdict, Status::Accepted);
-    }
-    Ok(())
-}
-
-/// One model has one text.
-#[test]
-fn the_only_model_is_written(rt: HostRuntime) -> Result<(), Fail> {
-    let found = played(rt.alloc(), ROUTE, "2", "1")?;
-    assert_outcome(
-        &rt,
-        &found,
-        b"s SATISFIABLE\nv 1 2 3 0\n",
-        Status::Satisfiable,
-    );
-    Ok(())
-}
-
-/// Workers and rounds have their limits.
-#[test]
-fn teams_are_of_one_to_eight(rt: HostRuntime) -> Result<(), Fail> {
-    let rows: &[&[&str]] = &[
-        &["team", "f", "2"],
-        &["team", "f", "0", "1"],
-        &["team", "f", "9", "1"],
-        &["team", "f", "1", "0"],
-        &["team", "f", "1", "101"],
-        &["team", "-f", "1", "1"],
-        &["team", "f", "1", "1", "1"],
-        &["team", "f", "+1", "1"],
-    ];
-    for line in rows {
-        let found = outcome_of(rt.alloc(), line, EIGHT, b"")?;
-        assert_eq!(rt; found.status, Status::Words);
     }
     Ok(())
 }

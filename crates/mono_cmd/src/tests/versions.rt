@@ -1,6 +1,6 @@
 //! Answers of version 2, whose chains count backwards, and answers migrated from one version to the other.
 
-use super::{assert_outcome, judges, outcome_by, outcome_of};
+use super::{assert_outcome, judges, outcome_by};
 use crate::status::Status;
 use std::test::Fail;
 
@@ -109,30 +109,6 @@ fn migrated_answers(rt: HostRuntime) -> Result<(), Fail> {
         let words = ["migrate", "f", "a", *version];
         let found = outcome_by(rt.alloc(), &words, input.as_bytes(), answer.as_bytes(), 7)?;
         assert_outcome(&rt, &found, text.as_bytes(), *status);
-    }
-    Ok(())
-}
-
-#[test]
-fn a_missing_answer_is_told_behind_the_inputs_fault(rt: HostRuntime) -> Result<(), Fail> {
-    let words = ["migrate", "f", "b", "2"];
-    let rows: [(&str, &[u8], Status); 2] = [
-        (INPUT, b"read fault\n", Status::ReadFault),
-        ("1 x 0\n", b"refused 1 NotNumber\n", Status::Refused),
-    ];
-    for (input, text, status) in rows {
-        let found = outcome_of(rt.alloc(), &words, input.as_bytes(), b"")?;
-        assert_outcome(&rt, &found, text, status);
-    }
-    Ok(())
-}
-
-#[test]
-fn words_that_name_no_version(rt: HostRuntime) -> Result<(), Fail> {
-    for version in ["0", "3", "02", "1 ", "", "two"] {
-        let words = ["migrate", "f", "a", version];
-        let found = outcome_of(rt.alloc(), &words, INPUT.as_bytes(), ONE.as_bytes())?;
-        assert_eq!(rt; found.status, Status::Words);
     }
     Ok(())
 }

@@ -20,11 +20,37 @@ const NO_LOOP: &str =
 const TWO_WAYS: &str =
     "digraph int 3 3 0\nedge 0 0 1 1 5\nedge 0 1 2 2 5\nedge 0 0 2 3 3\nweighted_distance_leq 0 0 2 4 8\n-3 0\n4 0\n";
 
+/// The variable of a predicate is that of its own edge: it holds and fails with it.
+const SHARED: &str = "digraph int 2 1 0\nedge 0 0 1 1\nreach 0 0 1 1\n";
+
+/// Two edges side by side that carry 7 together, flows of 7 and of 8, and the second is asked for.
+const TOO_MUCH: &str =
+    "digraph int 2 2 0\nedge 0 0 1 1 3\nedge 0 0 1 2 4\nmaximum_flow_geq 0 0 1 3 7\nmaximum_flow_geq 0 0 1 4 8\n4 0\n";
+
+/// The first is asked for without one of its edges.
+const TOO_LITTLE: &str =
+    "digraph int 2 2 0\nedge 0 0 1 1 3\nedge 0 0 1 2 4\nmaximum_flow_geq 0 0 1 3 7\nmaximum_flow_geq 0 0 1 4 8\n-1 0\n3 0\n";
+
+const ENOUGH: &str =
+    "digraph int 2 2 0\nedge 0 0 1 1 3\nedge 0 0 1 2 4\nmaximum_flow_geq 0 0 1 3 7\nmaximum_flow_geq 0 0 1 4 8\n3 0\n";
+
+/// A triangle whose spanning trees weigh 2, and a tree of weight 1.
+const TRIANGLE: &str =
+    "digraph int 3 3 0\nedge 0 0 1 1\nedge 0 1 2 2\nedge 0 2 0 3\nmst_weight_leq 0 4 1\n1 0 2 0 3 0\n";
+
+const NO_TREE: &str =
+    "digraph int 3 3 0\nedge 0 0 1 1\nedge 0 1 2 2\nedge 0 2 0 3\nmst_weight_leq 0 4 1\n1 0 2 0 3 0\n4 0\n";
+
+/// The third edge weighs 0.
+const LIGHT_EDGE: &str =
+    "digraph int 3 3 0\nedge 0 0 1 1\nedge 0 1 2 2\nedge 0 2 0 3 0\nmst_weight_leq 0 4 1\n4 0\n-3 0\n";
+
 #[test]
-fn walks_and_what_excludes_them(rt: HostRuntime) -> Result<(), Fail> {
+fn witnesses_and_models_are_judged(rt: HostRuntime) -> Result<(), Fail> {
     judges(
         &rt,
         &[
+            // Walks, and what excludes them.
             (
                 NO_ROUTE,
                 "s UNSATISFIABLE\ncut 1 1 -3 0 0\nchain 0 3 1 2\n",
@@ -56,39 +82,9 @@ fn walks_and_what_excludes_them(rt: HostRuntime) -> Result<(), Fail> {
                 "s SATISFIABLE\nv 1 2 -3 0\n",
                 "rejected 2 AtomWrong 1\n",
             ),
-        ],
-    )
-}
-
-/// A predicate whose variable is that of its own edge holds and fails with it.
-#[test]
-fn an_edge_and_its_predicate_may_share_a_variable(rt: HostRuntime) -> Result<(), Fail> {
-    let input = "digraph int 2 1 0\nedge 0 0 1 1\nreach 0 0 1 1\n";
-    judges(
-        &rt,
-        &[
-            (input, "s SATISFIABLE\nv 1 0\n", "accepted model\n"),
-            (input, "s SATISFIABLE\nv -1 0\n", "accepted model\n"),
-        ],
-    )
-}
-
-/// Two edges side by side that carry 7 together, flows of 7 and of 8, and the second is asked for.
-const TOO_MUCH: &str =
-    "digraph int 2 2 0\nedge 0 0 1 1 3\nedge 0 0 1 2 4\nmaximum_flow_geq 0 0 1 3 7\nmaximum_flow_geq 0 0 1 4 8\n4 0\n";
-
-/// The first is asked for without one of its edges.
-const TOO_LITTLE: &str =
-    "digraph int 2 2 0\nedge 0 0 1 1 3\nedge 0 0 1 2 4\nmaximum_flow_geq 0 0 1 3 7\nmaximum_flow_geq 0 0 1 4 8\n-1 0\n3 0\n";
-
-const ENOUGH: &str =
-    "digraph int 2 2 0\nedge 0 0 1 1 3\nedge 0 0 1 2 4\nmaximum_flow_geq 0 0 1 3 7\nmaximum_flow_geq 0 0 1 4 8\n3 0\n";
-
-#[test]
-fn flows_and_what_excludes_them(rt: HostRuntime) -> Result<(), Fail> {
-    judges(
-        &rt,
-        &[
+            (SHARED, "s SATISFIABLE\nv 1 0\n", "accepted model\n"),
+            (SHARED, "s SATISFIABLE\nv -1 0\n", "accepted model\n"),
+            // Flows, and what excludes them.
             (
                 TOO_MUCH,
                 "s UNSATISFIABLE\nflowcut 2 -4 0 0\nchain 0 2 1\n",
@@ -115,26 +111,7 @@ fn flows_and_what_excludes_them(rt: HostRuntime) -> Result<(), Fail> {
                 "accepted refutation\n",
             ),
             (ENOUGH, "s SATISFIABLE\nv 1 2 3 -4 0\n", "accepted model\n"),
-        ],
-    )
-}
-
-/// A triangle whose spanning trees weigh 2, and a tree of weight 1.
-const TRIANGLE: &str =
-    "digraph int 3 3 0\nedge 0 0 1 1\nedge 0 1 2 2\nedge 0 2 0 3\nmst_weight_leq 0 4 1\n1 0 2 0 3 0\n";
-
-const NO_TREE: &str =
-    "digraph int 3 3 0\nedge 0 0 1 1\nedge 0 1 2 2\nedge 0 2 0 3\nmst_weight_leq 0 4 1\n1 0 2 0 3 0\n4 0\n";
-
-/// The third edge weighs 0.
-const LIGHT_EDGE: &str =
-    "digraph int 3 3 0\nedge 0 0 1 1\nedge 0 1 2 2\nedge 0 2 0 3 0\nmst_weight_leq 0 4 1\n4 0\n-3 0\n";
-
-#[test]
-fn trees_and_what_excludes_them(rt: HostRuntime) -> Result<(), Fail> {
-    judges(
-        &rt,
-        &[
+            // Trees, and what excludes them.
             (
                 "digraph int 1 0 0\nmst_weight_leq 0 1 0\n-1 0\n",
                 "s UNSATISFIABLE\ntree 1 1 0\nchain 0 2 1\n",

@@ -1,6 +1,7 @@
 ghost use Rattle.std.specs.Prelude.{◌≡◌, IfOk, length};
 
-use mono_graph::{Buckets, Edge, EdgeRefusal, Graph, Part, mark, unmark};
+use mono_base::Buckets;
+use mono_graph::{Edge, EdgeRefusal, Graph, Part, mark, unmark};
 use std::alloc::Global;
 use std::process::Abort;
 use std::test::Fail;

@@ -75,17 +75,36 @@ fn step_of(alloc: Global, clause: &str, used: &str) -> Result<Step, AllocError> 
     }))
 }
 
-/// The fault of a copy of a chain that is the first step.
+/// The fault of a copy of the step as the first one.
+fn fault_of_copy(
+    alloc: Global,
+    problem: &Problem,
+    step: &Step,
+) -> Result<Option<StepFault>, AllocError> {
+    let copy = step.copy()?;
+    examine(alloc, problem, &[], &copy)
+}
+
+/// The fault of a chain that is the first step.
+fn fault_in(
+    alloc: Global,
+    problem: &Problem,
+    clause: &str,
+    used: &str,
+) -> Result<Option<StepFault>, AllocError> {
+    let step = step_of(alloc, clause, used)?;
+    fault_of_copy(alloc, problem, &step)
+}
+
+/// The fault of a chain that is the first step over these clauses.
 fn fault_of(
     alloc: Global,
     clauses: &str,
     clause: &str,
     used: &str,
 ) -> Result<Option<StepFault>, AllocError> {
-    let step = step_of(alloc, clause, used)?;
-    let copy = step.copy()?;
     let problem = problem_of(alloc, clauses)?;
-    examine(alloc, &problem, &[], &copy)
+    fault_in(alloc, &problem, clause, used)
 }
 
 #[test]

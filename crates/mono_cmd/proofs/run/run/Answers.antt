@@ -1,8 +1,7 @@
-use Rattle.std.proofs.Common.{map, string_bytes}
-use Rattle.mono_cmd.specs.Commands.{command_of}
 use Rattle.mono_cmd.proofs.Stages.{ends_begun, ends_faults}
 use Rattle.mono_cmd.proofs.Causes.{fault_counted, past_its_limit}
 use Rattle.mono_cmd.proofs.OutOfMemory.{memory_wanting}
+use Rattle.mono_cmd.proofs.Replies.{runs_by}
 use Rattle.mono_cmd.proofs.Needs.{no_read_fault, steady, complete}
 use Rattle.mono_cmd.proofs.Solves.{satisfiable, unsatisfiable, unknown, its_verdict}
 use Rattle.mono_cmd.proofs.Summaries.{gen_satisfiable, gen_unsatisfiable, gen_unknown, summed}
@@ -27,23 +26,19 @@ returns-clause-given_up g c = memory_wanting _ _ _ c.ending_of-ending.result c.w
 
 pub returns-clause-refutes : goal.returns-clause-refutes
 returns-clause-refutes g c =
-    refutes (command_of (map string_bytes c.args.words.now)) (g.S.Shelf.seen c.args.shelf.now) (g.S.Shelf.seen c.ending_of-ending.new.shelf) c.write_ending.result (g.K.Sink.written c.args.out.now) (g.K.Sink.written c.write_ending.new.out)
-    (record { ending = c.ending_of-ending.result; ends = c.ending_of-ending.ensures; writes = c.write_ending.ensures.writes })
+    refutes _ _ _ _ _ _ (runs_by _ _ _ c.ending_of-ending.result c.write_ending.result _ _ c.ending_of-ending.ensures c.write_ending.ensures.writes)
 
 pub returns-clause-models : goal.returns-clause-models
 returns-clause-models g c =
-    models (command_of (map string_bytes c.args.words.now)) (g.S.Shelf.seen c.args.shelf.now) (g.S.Shelf.seen c.ending_of-ending.new.shelf) c.write_ending.result (g.K.Sink.written c.args.out.now) (g.K.Sink.written c.write_ending.new.out)
-    (record { ending = c.ending_of-ending.result; ends = c.ending_of-ending.ensures; writes = c.write_ending.ensures.writes })
+    models _ _ _ _ _ _ (runs_by _ _ _ c.ending_of-ending.result c.write_ending.result _ _ c.ending_of-ending.ensures c.write_ending.ensures.writes)
 
 pub returns-clause-refutes_with : goal.returns-clause-refutes_with
 returns-clause-refutes_with g c =
-    refutes_with (command_of (map string_bytes c.args.words.now)) (g.S.Shelf.seen c.args.shelf.now) (g.S.Shelf.seen c.ending_of-ending.new.shelf) c.write_ending.result (g.K.Sink.written c.args.out.now) (g.K.Sink.written c.write_ending.new.out)
-    (record { ending = c.ending_of-ending.result; ends = c.ending_of-ending.ensures; writes = c.write_ending.ensures.writes })
+    refutes_with _ _ _ _ _ _ (runs_by _ _ _ c.ending_of-ending.result c.write_ending.result _ _ c.ending_of-ending.ensures c.write_ending.ensures.writes)
 
 pub returns-clause-models_with : goal.returns-clause-models_with
 returns-clause-models_with g c =
-    models_with (command_of (map string_bytes c.args.words.now)) (g.S.Shelf.seen c.args.shelf.now) (g.S.Shelf.seen c.ending_of-ending.new.shelf) c.write_ending.result (g.K.Sink.written c.args.out.now) (g.K.Sink.written c.write_ending.new.out)
-    (record { ending = c.ending_of-ending.result; ends = c.ending_of-ending.ensures; writes = c.write_ending.ensures.writes })
+    models_with _ _ _ _ _ _ (runs_by _ _ _ c.ending_of-ending.result c.write_ending.result _ _ c.ending_of-ending.ensures c.write_ending.ensures.writes)
 
 pub returns-clause-no_read_fault : goal.returns-clause-no_read_fault
 returns-clause-no_read_fault g c = λ other no_fault.
@@ -57,95 +52,70 @@ returns-clause-complete g c = complete _ _ _ c.ending_of-ending.result c.write_e
 
 pub returns-clause-satisfiable : goal.returns-clause-satisfiable
 returns-clause-satisfiable g c =
-    satisfiable (command_of (map string_bytes c.args.words.now)) (g.S.Shelf.seen c.args.shelf.now) (g.S.Shelf.seen c.ending_of-ending.new.shelf) c.write_ending.result (g.K.Sink.written c.args.out.now) (g.K.Sink.written c.write_ending.new.out)
-    (record { ending = c.ending_of-ending.result; ends = c.ending_of-ending.ensures; writes = c.write_ending.ensures.writes })
+    satisfiable _ _ _ _ _ _ (runs_by _ _ _ c.ending_of-ending.result c.write_ending.result _ _ c.ending_of-ending.ensures c.write_ending.ensures.writes)
 
 pub returns-clause-unsatisfiable : goal.returns-clause-unsatisfiable
 returns-clause-unsatisfiable g c =
-    unsatisfiable (command_of (map string_bytes c.args.words.now)) (g.S.Shelf.seen c.args.shelf.now) (g.S.Shelf.seen c.ending_of-ending.new.shelf) c.write_ending.result (g.K.Sink.written c.args.out.now) (g.K.Sink.written c.write_ending.new.out)
-    (record { ending = c.ending_of-ending.result; ends = c.ending_of-ending.ensures; writes = c.write_ending.ensures.writes })
+    unsatisfiable _ _ _ _ _ _ (runs_by _ _ _ c.ending_of-ending.result c.write_ending.result _ _ c.ending_of-ending.ensures c.write_ending.ensures.writes)
 
 pub returns-clause-unknown : goal.returns-clause-unknown
 returns-clause-unknown g c =
-    unknown (command_of (map string_bytes c.args.words.now)) (g.S.Shelf.seen c.args.shelf.now) (g.S.Shelf.seen c.ending_of-ending.new.shelf) c.write_ending.result (g.K.Sink.written c.args.out.now) (g.K.Sink.written c.write_ending.new.out)
-    (record { ending = c.ending_of-ending.result; ends = c.ending_of-ending.ensures; writes = c.write_ending.ensures.writes })
+    unknown _ _ _ _ _ _ (runs_by _ _ _ c.ending_of-ending.result c.write_ending.result _ _ c.ending_of-ending.ensures c.write_ending.ensures.writes)
 
 pub returns-clause-verdict : goal.returns-clause-verdict
-returns-clause-verdict g c = λ p budget there written solves.
-    its_verdict (command_of (map string_bytes c.args.words.now)) (g.S.Shelf.seen c.args.shelf.now) (g.S.Shelf.seen c.ending_of-ending.new.shelf) c.write_ending.result (g.K.Sink.written c.args.out.now) (g.K.Sink.written c.write_ending.new.out)
-    (record { ending = c.ending_of-ending.result; ends = c.ending_of-ending.ensures; writes = c.write_ending.ensures.writes }) p budget solves there written
+returns-clause-verdict g c = λ p budget there written solves. its_verdict _ _ _ _ _ _ (runs_by _ _ _ c.ending_of-ending.result c.write_ending.result _ _ c.ending_of-ending.ensures c.write_ending.ensures.writes) p budget solves there written
 
 pub returns-clause-gen_satisfiable : goal.returns-clause-gen_satisfiable
 returns-clause-gen_satisfiable g c =
-    gen_satisfiable (command_of (map string_bytes c.args.words.now)) (g.S.Shelf.seen c.args.shelf.now) (g.S.Shelf.seen c.ending_of-ending.new.shelf) c.write_ending.result (g.K.Sink.written c.args.out.now) (g.K.Sink.written c.write_ending.new.out)
-    (record { ending = c.ending_of-ending.result; ends = c.ending_of-ending.ensures; writes = c.write_ending.ensures.writes })
+    gen_satisfiable _ _ _ _ _ _ (runs_by _ _ _ c.ending_of-ending.result c.write_ending.result _ _ c.ending_of-ending.ensures c.write_ending.ensures.writes)
 
 pub returns-clause-gen_unsatisfiable : goal.returns-clause-gen_unsatisfiable
 returns-clause-gen_unsatisfiable g c =
-    gen_unsatisfiable (command_of (map string_bytes c.args.words.now)) (g.S.Shelf.seen c.args.shelf.now) (g.S.Shelf.seen c.ending_of-ending.new.shelf) c.write_ending.result (g.K.Sink.written c.args.out.now) (g.K.Sink.written c.write_ending.new.out)
-    (record { ending = c.ending_of-ending.result; ends = c.ending_of-ending.ensures; writes = c.write_ending.ensures.writes })
+    gen_unsatisfiable _ _ _ _ _ _ (runs_by _ _ _ c.ending_of-ending.result c.write_ending.result _ _ c.ending_of-ending.ensures c.write_ending.ensures.writes)
 
 pub returns-clause-gen_unknown : goal.returns-clause-gen_unknown
 returns-clause-gen_unknown g c =
-    gen_unknown (command_of (map string_bytes c.args.words.now)) (g.S.Shelf.seen c.args.shelf.now) (g.S.Shelf.seen c.ending_of-ending.new.shelf) c.write_ending.result (g.K.Sink.written c.args.out.now) (g.K.Sink.written c.write_ending.new.out)
-    (record { ending = c.ending_of-ending.result; ends = c.ending_of-ending.ensures; writes = c.write_ending.ensures.writes })
+    gen_unknown _ _ _ _ _ _ (runs_by _ _ _ c.ending_of-ending.result c.write_ending.result _ _ c.ending_of-ending.ensures c.write_ending.ensures.writes)
 
 pub returns-clause-summary : goal.returns-clause-summary
-returns-clause-summary g c = λ p there written solves.
-    summed (command_of (map string_bytes c.args.words.now)) (g.S.Shelf.seen c.args.shelf.now) (g.S.Shelf.seen c.ending_of-ending.new.shelf) c.write_ending.result (g.K.Sink.written c.args.out.now) (g.K.Sink.written c.write_ending.new.out)
-    (record { ending = c.ending_of-ending.result; ends = c.ending_of-ending.ensures; writes = c.write_ending.ensures.writes }) p solves there written
+returns-clause-summary g c = λ p there written solves. summed _ _ _ _ _ _ (runs_by _ _ _ c.ending_of-ending.result c.write_ending.result _ _ c.ending_of-ending.ensures c.write_ending.ensures.writes) p solves there written
 
 pub returns-clause-core_satisfiable : goal.returns-clause-core_satisfiable
 returns-clause-core_satisfiable g c =
-    core_satisfiable (command_of (map string_bytes c.args.words.now)) (g.S.Shelf.seen c.args.shelf.now) (g.S.Shelf.seen c.ending_of-ending.new.shelf) c.write_ending.result (g.K.Sink.written c.args.out.now) (g.K.Sink.written c.write_ending.new.out)
-    (record { ending = c.ending_of-ending.result; ends = c.ending_of-ending.ensures; writes = c.write_ending.ensures.writes })
+    core_satisfiable _ _ _ _ _ _ (runs_by _ _ _ c.ending_of-ending.result c.write_ending.result _ _ c.ending_of-ending.ensures c.write_ending.ensures.writes)
 
 pub returns-clause-core_unsatisfiable : goal.returns-clause-core_unsatisfiable
 returns-clause-core_unsatisfiable g c =
-    core_unsatisfiable (command_of (map string_bytes c.args.words.now)) (g.S.Shelf.seen c.args.shelf.now) (g.S.Shelf.seen c.ending_of-ending.new.shelf) c.write_ending.result (g.K.Sink.written c.args.out.now) (g.K.Sink.written c.write_ending.new.out)
-    (record { ending = c.ending_of-ending.result; ends = c.ending_of-ending.ensures; writes = c.write_ending.ensures.writes })
+    core_unsatisfiable _ _ _ _ _ _ (runs_by _ _ _ c.ending_of-ending.result c.write_ending.result _ _ c.ending_of-ending.ensures c.write_ending.ensures.writes)
 
 pub returns-clause-core : goal.returns-clause-core
-returns-clause-core g c = λ p lits there written narrows.
-    its_core (command_of (map string_bytes c.args.words.now)) (g.S.Shelf.seen c.args.shelf.now) (g.S.Shelf.seen c.ending_of-ending.new.shelf) c.write_ending.result (g.K.Sink.written c.args.out.now) (g.K.Sink.written c.write_ending.new.out)
-    (record { ending = c.ending_of-ending.result; ends = c.ending_of-ending.ensures; writes = c.write_ending.ensures.writes }) p lits narrows there written
+returns-clause-core g c = λ p lits there written narrows. its_core _ _ _ _ _ _ (runs_by _ _ _ c.ending_of-ending.result c.write_ending.result _ _ c.ending_of-ending.ensures c.write_ending.ensures.writes) p lits narrows there written
 
 pub returns-clause-best_bound : goal.returns-clause-best_bound
-returns-clause-best_bound g c = λ p n there written bounds.
-    its_bound (command_of (map string_bytes c.args.words.now)) (g.S.Shelf.seen c.args.shelf.now) (g.S.Shelf.seen c.ending_of-ending.new.shelf) c.write_ending.result (g.K.Sink.written c.args.out.now) (g.K.Sink.written c.write_ending.new.out)
-    (record { ending = c.ending_of-ending.result; ends = c.ending_of-ending.ensures; writes = c.write_ending.ensures.writes }) p n bounds there written
+returns-clause-best_bound g c = λ p n there written bounds. its_bound _ _ _ _ _ _ (runs_by _ _ _ c.ending_of-ending.result c.write_ending.result _ _ c.ending_of-ending.ensures c.write_ending.ensures.writes) p n bounds there written
 
 pub returns-clause-best_is_never_met : goal.returns-clause-best_is_never_met
 returns-clause-best_is_never_met g c =
-    best_is_never_met (command_of (map string_bytes c.args.words.now)) (g.S.Shelf.seen c.args.shelf.now) (g.S.Shelf.seen c.ending_of-ending.new.shelf) c.write_ending.result (g.K.Sink.written c.args.out.now) (g.K.Sink.written c.write_ending.new.out)
-    (record { ending = c.ending_of-ending.result; ends = c.ending_of-ending.ensures; writes = c.write_ending.ensures.writes })
+    best_is_never_met _ _ _ _ _ _ (runs_by _ _ _ c.ending_of-ending.result c.write_ending.result _ _ c.ending_of-ending.ensures c.write_ending.ensures.writes)
 
 pub returns-clause-best_unknown : goal.returns-clause-best_unknown
 returns-clause-best_unknown g c =
-    best_unknown (command_of (map string_bytes c.args.words.now)) (g.S.Shelf.seen c.args.shelf.now) (g.S.Shelf.seen c.ending_of-ending.new.shelf) c.write_ending.result (g.K.Sink.written c.args.out.now) (g.K.Sink.written c.write_ending.new.out)
-    (record { ending = c.ending_of-ending.result; ends = c.ending_of-ending.ensures; writes = c.write_ending.ensures.writes })
+    best_unknown _ _ _ _ _ _ (runs_by _ _ _ c.ending_of-ending.result c.write_ending.result _ _ c.ending_of-ending.ensures c.write_ending.ensures.writes)
 
 pub returns-clause-asked : goal.returns-clause-asked
-returns-clause-asked g c = λ p n b there written asks is.
-    asked (command_of (map string_bytes c.args.words.now)) (g.S.Shelf.seen c.args.shelf.now) (g.S.Shelf.seen c.ending_of-ending.new.shelf) c.write_ending.result (g.K.Sink.written c.args.out.now) (g.K.Sink.written c.write_ending.new.out)
-    (record { ending = c.ending_of-ending.result; ends = c.ending_of-ending.ensures; writes = c.write_ending.ensures.writes }) p n b asks is there written
+returns-clause-asked g c = λ p n b there written asks is. asked _ _ _ _ _ _ (runs_by _ _ _ c.ending_of-ending.result c.write_ending.result _ _ c.ending_of-ending.ensures c.write_ending.ensures.writes) p n b asks is there written
 
 pub returns-clause-team_satisfiable : goal.returns-clause-team_satisfiable
 returns-clause-team_satisfiable g c =
-    team_satisfiable (command_of (map string_bytes c.args.words.now)) (g.S.Shelf.seen c.args.shelf.now) (g.S.Shelf.seen c.ending_of-ending.new.shelf) c.write_ending.result (g.K.Sink.written c.args.out.now) (g.K.Sink.written c.write_ending.new.out)
-    (record { ending = c.ending_of-ending.result; ends = c.ending_of-ending.ensures; writes = c.write_ending.ensures.writes })
+    team_satisfiable _ _ _ _ _ _ (runs_by _ _ _ c.ending_of-ending.result c.write_ending.result _ _ c.ending_of-ending.ensures c.write_ending.ensures.writes)
 
 pub returns-clause-team_unsatisfiable : goal.returns-clause-team_unsatisfiable
 returns-clause-team_unsatisfiable g c =
-    team_unsatisfiable (command_of (map string_bytes c.args.words.now)) (g.S.Shelf.seen c.args.shelf.now) (g.S.Shelf.seen c.ending_of-ending.new.shelf) c.write_ending.result (g.K.Sink.written c.args.out.now) (g.K.Sink.written c.write_ending.new.out)
-    (record { ending = c.ending_of-ending.result; ends = c.ending_of-ending.ensures; writes = c.write_ending.ensures.writes })
+    team_unsatisfiable _ _ _ _ _ _ (runs_by _ _ _ c.ending_of-ending.result c.write_ending.result _ _ c.ending_of-ending.ensures c.write_ending.ensures.writes)
 
 pub returns-clause-team_unknown : goal.returns-clause-team_unknown
 returns-clause-team_unknown g c =
-    team_unknown (command_of (map string_bytes c.args.words.now)) (g.S.Shelf.seen c.args.shelf.now) (g.S.Shelf.seen c.ending_of-ending.new.shelf) c.write_ending.result (g.K.Sink.written c.args.out.now) (g.K.Sink.written c.write_ending.new.out)
-    (record { ending = c.ending_of-ending.result; ends = c.ending_of-ending.ensures; writes = c.write_ending.ensures.writes })
+    team_unknown _ _ _ _ _ _ (runs_by _ _ _ c.ending_of-ending.result c.write_ending.result _ _ c.ending_of-ending.ensures c.write_ending.ensures.writes)
 
 pub returns-clause-team : goal.returns-clause-team
-returns-clause-team g c = λ p workers rounds there written plays.
-    its_board (command_of (map string_bytes c.args.words.now)) (g.S.Shelf.seen c.args.shelf.now) (g.S.Shelf.seen c.ending_of-ending.new.shelf) c.write_ending.result (g.K.Sink.written c.args.out.now) (g.K.Sink.written c.write_ending.new.out)
-    (record { ending = c.ending_of-ending.result; ends = c.ending_of-ending.ensures; writes = c.write_ending.ensures.writes }) p workers rounds plays there written
+returns-clause-team g c = λ p workers rounds there written plays. its_board _ _ _ _ _ _ (runs_by _ _ _ c.ending_of-ending.result c.write_ending.result _ _ c.ending_of-ending.ensures c.write_ending.ensures.writes) p workers rounds plays there written

@@ -8,4 +8,4 @@ use Rattle.mono_cmd.proofs.teaming.refutation.Goals as goal
 pub returns : goal.returns
 returns c = λ workers rounds.
     subst (λ (steps : List Step). IsTeamSolution c.args.problem.now workers rounds (answer.Refutation steps)) (sym c.from_vec.ensures)
-    (team_refutation_solves c.args.problem.now workers rounds c.in_ok-steps.steps.items c.requires.problem (omega (arith, c.in_ok-steps.steps.small)) (record { refutes = c.in_ok-steps.ensures.refutes; named = c.in_ok-steps.ensures.named }))
+    (team_refutation_solves c.args.problem.now workers rounds c.in_ok-steps.steps.items c.requires.problem (omega (arith, c.in_ok-steps.steps.small)) c.in_ok-steps.ensures.trim)

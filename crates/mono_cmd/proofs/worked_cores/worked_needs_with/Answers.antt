@@ -9,7 +9,7 @@ use Rattle.mono_gnf.specs.Statements.{statement_of}
 use Rattle.mono_gnf.specs.declared.fault.GnfFault.{GnfFault}
 use Rattle.mono_gnf.specs.declared.fault.GnfFault.TheVariants as fault
 use Rattle.mono_cmd.specs.Worked.{empty_problem}
-use Rattle.mono_cmd.proofs.Sound.{same_problem}
+use Rattle.mono_cmd.proofs.Replies.{same_problem}
 use Rattle.mono_cmd.proofs.worked_cores.worked_needs_with.Goals as goal
 
 -- the word is no form of a line

@@ -4,7 +4,9 @@ use Rattle.mono_steps.specs.Steps.{is_refutation}
 use Rattle.mono_steps.specs.Renumbering.{pick}
 use Rattle.mono_search.specs.declared.solving.Solved.{Solved}
 use Rattle.mono_search.specs.Outcomes.{HasModel}
-use Rattle.mono_search.specs.Solving.{IsSolved, IsProgress, IsTrimRefutation}
+use Rattle.mono_search.specs.Solving.{IsSolved}
+use Rattle.mono_steps.specs.New.{IsProgress}
+use Rattle.mono_steps.specs.Trimmed.{IsTrimRefutation}
 use Rattle.mono_problem.specs.Assuming.{assuming, HasRoom}
 use Rattle.mono_core.specs.Cores.{others_of, AreAmong}
 use Rattle.mono_core.proofs.Needs.{wide_of, tried_of, room_fewer, length-others, cleared_among, among_trans, still_unset, clear_one}

@@ -1,8 +1,9 @@
-use Rattle.std.proofs.Common.{◌≡◌, List, [], ◌∷◌, Bool, true, false, pos, length, arith}
+use Rattle.std.proofs.Common.{◌≡◌, ℕ, List, [], ◌∷◌, Bool, true, false, pos, length, arith}
 use Rattle.mono_steps.specs.Renumbering.{pick}
 use Rattle.mono_steps.specs.WorkedLemmas.{minus}
 use Rattle.mono_core.specs.Cores.{AreNeeds, IsNeed}
 use Rattle.mono_core.specs.Worked.{one_clause}
+use Rattle.mono_core.specs.declared.outcome.Need.{Need}
 use Rattle.mono_core.specs.declared.outcome.Need.TheVariants as need
 use Rattle.mono_core.proofs.worked.assumptions_kept.Goals as goal
 
@@ -24,3 +25,13 @@ returns-clause-not_assumed c = λ h. not_picked h.kept h.is
 
 pub returns-clause-no_need : goal.returns-clause-no_need
 returns-clause-no_need c = λ h. no_model h.kept h.as_many h.is h.needed
+
+-- one flag has one need at most
+two_needs : (N : ℕ → Need → Type 0) (kept : List Bool) (m n : Need) → length kept ≡ 1 → AreNeeds N 0 kept (m ∷ n ∷ []) → ⊥
+two_needs N [] m n many h = h
+two_needs N (true ∷ []) m n many h = h.1
+two_needs N (false ∷ []) m n many h = h
+two_needs N (b ∷ (f ∷ kept)) m n many h = absurd (omega (arith, many))
+
+pub returns-clause-need_of_none : goal.returns-clause-need_of_none
+returns-clause-need_of_none c = λ h. two_needs _ h.kept _ _ h.as_many h.needed

@@ -23,4 +23,4 @@ pub returns-clause-too_long : goal.returns-clause-too_long
 returns-clause-too_long c = λ h. let e = h.len in cc
 
 pub returns-clause-tried_with_itself : goal.returns-clause-tried_with_itself
-returns-clause-tried_with_itself c = λ steps h. without_itself h.flags h.is h.without
+returns-clause-tried_with_itself c = λ budget steps h. without_itself h.flags h.is h.without

@@ -1,4 +1,4 @@
-use Rattle.std.proofs.Common.{◌≡◌, List, [], ◌∷◌, Bool, true, false, suc, zero, ℕ, pos, refl, arith}
+use Rattle.std.proofs.Common.{◌≡◌, List, [], ◌∷◌, Bool, true, false, length, suc, zero, ℕ, pos, refl, arith}
 use Rattle.mono_steps.specs.Renumbering.{pick}
 use Rattle.mono_steps.specs.Needed.{is_set}
 use Rattle.mono_steps.specs.WorkedLemmas.{minus}
@@ -46,3 +46,11 @@ returns-clause-other_left_out c = λ h. none_of_two h.flags h.is (h.others 1 (λ
 
 pub returns-clause-not_assumed : goal.returns-clause-not_assumed
 returns-clause-not_assumed c = λ h. not_picked h.flags h.is
+
+-- no flag is set where there is none
+no_flags : (flags : List Bool) → length flags ≡ 0 → is_set flags 1 ≡ true → ⊥
+no_flags [] many on = cc
+no_flags (f ∷ flags) many on = absurd (omega (arith, many))
+
+pub returns-clause-more_flags : goal.returns-clause-more_flags
+returns-clause-more_flags c = λ h. no_flags h.flags h.as_many (h.others 1 (λ e. omega (arith, e)) refl)

@@ -1,4 +1,5 @@
-use Rattle.mono_distance.specs.SureLabels.{AreOfAtoms, HasLast}
+use Rattle.mono_theory.specs.Asked.{AreOfAtoms}
+use Rattle.mono_distance.specs.SureLabels.{HasLast}
 use Rattle.mono_distance.proofs.sources.last_nodes.Given as goal
 
 abbrev pub invariant-loop-place : goal.invariant-loop-place

@@ -9,11 +9,11 @@ loop-place-preserved c = λ P j t lt r. elim (cases_lt j c.loop-place.place-inde
   | inl old ↦ c.loop-place.invariant P j t old r
   | inr new ↦
       let e : j ≡ c.loop-place.place-index = omega arith in
-      both_ways c.rests_on.result c.if-rests_on.false ((c.rests_on.ensures P t).1 (subst (λ (i : ℕ). RestsOn c.args.tree.now.arrivals (get_or c.args.places.now i 0)) e r))
+      both_ways c.rests_on.result c.if-rests_on.false ((c.rests_on.ensures P t).1 (subst (λ (i : ℕ). RestsOn c.args.tree.now.tree.arrivals (get_or c.args.places.now i 0)) e r))
 ]
 
 pub returns : goal.returns
 returns c = λ _ P k t h r.
     let at = index_of c.args.places.now k h in
     let low : at.0 < c.loop-place.place-index = (let lt = at.1 in let all = c.loop-place-test.false in omega arith) in
-    c.loop-place.invariant P at.0 t low (subst (λ (j : ℕ). RestsOn c.args.tree.now.arrivals j) (sym at.2) r)
+    c.loop-place.invariant P at.0 t low (subst (λ (j : ℕ). RestsOn c.args.tree.now.tree.arrivals j) (sym at.2) r)

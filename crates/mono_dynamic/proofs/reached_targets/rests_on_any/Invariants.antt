@@ -4,4 +4,4 @@ use Rattle.mono_dynamic.specs.SearchTrees.{RestsOn}
 use Rattle.mono_dynamic.proofs.reached_targets.rests_on_any.Given as goal
 
 abbrev pub invariant-loop-place : goal.invariant-loop-place
-invariant-loop-place l = (P : List Bool) (j : ℕ) → IsTree l.graph P l.tree.source l.tree.arrivals → j < l.place-index → RestsOn l.tree.arrivals (get_or l.places j 0) → ⊥
+invariant-loop-place l = (P : List Bool) (j : ℕ) → IsTree l.graph P l.tree.tree.source l.tree.tree.arrivals → j < l.place-index → RestsOn l.tree.tree.arrivals (get_or l.places j 0) → ⊥

@@ -12,7 +12,7 @@ shrink-requires-clause-size c =
     let len : length c.loop-i.rows.items ≡ length c.args.rows.now.items = c.loop-i.invariant.changed.len in
     let lt : c.loop-i.i < length c.loop-i.rows.items = (let end = c.loop-i.invariant.end in let more = c.loop-i-test.true in omega arith) in
     let low : c.loop-i.i < length c.args.rows.now.items = omega (arith, lt, len) in
-    subst (λ (r : Targets). r.tree.nodes ≡ c.args.graph.now.nodes)
+    subst (λ (r : Targets). r.ways.tree.nodes ≡ c.args.graph.now.nodes)
     (sym (get_or_read c.args.rows.now.items c.loop-i.i c.index_mut-row.result.now low (row_before {Is = IsShrunkRow c.args.graph.now c.args.places.now c.args.number} c.index_mut-row.result.now c.loop-i.invariant.changed c.index_mut-row.ensures.value) no_targets))
     (c.requires.size c.loop-i.i low)
 

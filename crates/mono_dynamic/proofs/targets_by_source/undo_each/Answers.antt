@@ -13,7 +13,7 @@ loop-i-preserved c =
     record {
       end = c.loop-i.invariant.end ∙ sym (length-set c.loop-i.rows.items c.loop-i.i c.undo_to.new.self);
       changed = changed_more {Is = IsUndoneRow c.args.kept} c.index_mut-row.result.now c.undo_to.new.self c.loop-i.invariant.changed lt c.index_mut-row.ensures.value
-          (record { tree = c.undo_to.ensures.tree; targets = c.undo_to.ensures.targets; lacking = c.undo_to.ensures.lacking; told = c.undo_to.ensures.told });
+          (record { ways = c.undo_to.ensures.ways; targets = c.undo_to.ensures.targets; lacking = c.undo_to.ensures.lacking; told = c.undo_to.ensures.told });
     }
 
 pub returns : goal.returns

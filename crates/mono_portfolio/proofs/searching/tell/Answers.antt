@@ -1,7 +1,8 @@
 use Rattle.std.proofs.Common.{◌∙◌, subst}
 use Rattle.mono_search.specs.declared.solving.Solved.{Solved}
 use Rattle.mono_search.specs.Outcomes.{HasModel}
-use Rattle.mono_search.specs.Solving.{IsSolved, IsTrimRefutation}
+use Rattle.mono_search.specs.Solving.{IsSolved}
+use Rattle.mono_steps.specs.Trimmed.{IsTrimRefutation}
 use Rattle.mono_portfolio.proofs.searching.tell.Goals as goal
 
 pub returns-in-Model : goal.returns-in-Model

@@ -2,7 +2,7 @@ use Rattle.std.proofs.Common.{refl, [], ◌∷◌, lit<}
 use Rattle.mono_steps.proofs.WorkedNew.{one_is_end, one_is_left_open}
 use Rattle.mono_portfolio.specs.TeamView.{TeamView, idle}
 use Rattle.mono_portfolio.specs.Worked.{two_clauses, learned, at_end}
-use Rattle.mono_search.specs.Solving.{IsProgress}
+use Rattle.mono_steps.specs.New.{IsProgress}
 use Rattle.mono_portfolio.proofs.worked_plays.small_play.Goals as goal
 
 abbrev ran : TeamView

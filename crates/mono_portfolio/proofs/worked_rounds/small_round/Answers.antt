@@ -4,7 +4,7 @@ use Rattle.mono_problem.specs.Instance.{Instance}
 use Rattle.mono_steps.specs.declared.step.Step.{Step}
 use Rattle.mono_steps.specs.Journals.{chain_count}
 use Rattle.mono_steps.proofs.WorkedNew.{one_is_end, one_is_left_open}
-use Rattle.mono_search.specs.Solving.{IsProgress}
+use Rattle.mono_steps.specs.New.{IsProgress}
 use Rattle.mono_portfolio.specs.Moved.{moved_step}
 use Rattle.mono_portfolio.specs.Rounds.{IsPiece}
 use Rattle.mono_portfolio.specs.Worked.{two_clauses, learned}

@@ -1,10 +1,9 @@
 use Rattle.std.proofs.Common.{◌≡◌, Bool, true, false, ◌||◌, [], ◌∷◌, refl, lit<, pos}
 use Rattle.std.specs.Ordering.{int_eq}
 use Rattle.mono_problem.specs.Instance.{Instance}
-use Rattle.mono_steps.specs.New.{IsExactEnd, IsNewClause}
+use Rattle.mono_steps.specs.New.{IsExactEnd, IsNewClause, IsProgress}
 use Rattle.mono_steps.specs.WorkedLemmas.{minus}
 use Rattle.mono_steps.proofs.WorkedNew.{one_is_left_open}
-use Rattle.mono_search.specs.Solving.{IsProgress}
 use Rattle.mono_portfolio.specs.Extended.{extended}
 use Rattle.mono_portfolio.specs.Worked.{four_clauses, given_first, given_next}
 use Rattle.mono_portfolio.proofs.worked_rounds.two_small_rounds.Goals as goal

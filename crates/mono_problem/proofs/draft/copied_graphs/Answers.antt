@@ -1,4 +1,4 @@
-use Rattle.std.proofs.Common.{◌≡◌, ◌<◌, length, arith, ◌∙◌}
+use Rattle.std.proofs.Common.{◌<◌, length, arith, ◌∙◌}
 use Rattle.mono_problem.proofs.Copies.{copied_entry}
 use Rattle.mono_problem.proofs.draft.copied_graphs.Goals as goal
 

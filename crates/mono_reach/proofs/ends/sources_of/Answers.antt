@@ -1,8 +1,5 @@
 use Rattle.mono_reach.proofs.MarksStay.{rows_of_firsts}
 use Rattle.mono_reach.proofs.ends.sources_of.Goals as goal
 
-pub returns-clause-apart : goal.returns-clause-apart
-returns-clause-apart c = λ i j low high same. c.in_ok-sources.ensures.apart.same i j 0 0 low high same
-
 pub returns-clause-rows : goal.returns-clause-rows
 returns-clause-rows c = rows_of_firsts c.in_ok-firsts.ensures.nodes (rw c.as_slice.ensures.value at c.in_ok-sources.ensures.rows)

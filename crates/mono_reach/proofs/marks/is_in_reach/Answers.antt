@@ -4,8 +4,9 @@ use Rattle.mono_problem.specs.declared.atom.Atom.{Atom}
 use Rattle.mono_problem.specs.Read.{no_atom}
 use Rattle.mono_theory.specs.Supports.{atom_at}
 use Rattle.mono_reach.specs.Marks.{last_node}
-use Rattle.mono_reach.specs.PossibleRows.{PossibleView, is_cut_off}
-use Rattle.mono_reach.proofs.ToldNodes.{lacking_decides, lacking_fails}
+use Rattle.mono_theory.specs.PossibleRows.{PossibleView, is_cut_off}
+use Rattle.mono_theory.proofs.WalksTold.{lacking_decides}
+use Rattle.mono_reach.proofs.ToldNodes.{lacking_fails}
 use Rattle.mono_reach.proofs.marks.is_in_reach.Goals as goal
 
 pub returns-clause-fails : goal.returns-clause-fails

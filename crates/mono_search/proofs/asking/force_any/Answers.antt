@@ -63,7 +63,7 @@ loop-place-preserved g c =
     let last = rw c.in-Some.is at c.last.ensures.last in
     let quiet = rw c.in_default-2.is at c.in_ok-forced.ensures.answer in
     record {
-      others = subst (OthersAreQuiet facts) (sym (c.remove_last.ensures.listed ∙ ap (λ (p : ℕ). set c.loop-place.worklist.listed p false) (sym last.is)))
+      others = subst (OthersAreQuiet facts) (sym (c.remove_last.ensures.off ∙ ap (λ (p : ℕ). set c.loop-place.worklist.listed p false) (sym last.is)))
           (settled facts c.loop-place.worklist.listed c.in-Some.place _ (within g after) (read g after) quiet c.loop-place.invariant.others);
       known = c.loop-place.invariant.known;
       same = same g (goal.at.loop-place-preserved g c).After-force_one;

@@ -53,7 +53,7 @@ loop-place-preserved g c =
     let now : fact c.assign.new.self ≡ seeing c.args.lit (fact c.index_mut-theory.result.now) = rw (c.assign.ensures.graph, c.assign.ensures.atoms, c.assign.ensures.seen) refl in
     let written : facts_of g.T.Theory.graph g.T.Theory.atoms g.T.Theory.seen (set items p c.assign.new.self) ≡ update_at p (seeing c.args.lit) facts = write_at fact (seeing c.args.lit) items p c.index_mut-theory.result.now c.assign.new.self c.index_mut-theory.ensures.value within now in
     record {
-      others = subst (OthersAreQuiet (facts_of g.T.Theory.graph g.T.Theory.atoms g.T.Theory.seen (set items p c.assign.new.self))) (sym c.insert.ensures)
+      others = subst (OthersAreQuiet (facts_of g.T.Theory.graph g.T.Theory.atoms g.T.Theory.seen (set items p c.assign.new.self))) (sym c.insert.ensures.listed)
           (subst (λ (fs : List Facts). OthersAreQuiet fs (set c.loop-place.worklist.listed p true)) (sym (map_set fact items p c.assign.new.self)) (changed facts c.loop-place.worklist.listed p (fact c.assign.new.self) s.0.within c.loop-place.invariant.others));
       can = subst (CanUpdate (MaySee c.args.lit) (seeing c.args.lit) (drop (i + 1) ps)) (sym written) s.1;
       left = ap (update_all (seeing c.args.lit) (drop (i + 1) ps)) written ∙ sym (left_step (seeing c.args.lit) ps i 0 facts c.loop-place-test.true) ∙ c.loop-place.invariant.left;

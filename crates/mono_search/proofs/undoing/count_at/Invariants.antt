@@ -1,5 +1,5 @@
 use Rattle.std.proofs.Common.{◌≡◌, ◌<◌, ◌+◌, ◌^◌, Bool, List, drop, length}
-use Rattle.mono_search.specs.Worklists.{AreListed}
+use Rattle.mono_search.specs.TheoryLists.{AreListed}
 use Rattle.mono_search.specs.Updates.{update_all, CanUpdate}
 use Rattle.mono_search.proofs.undoing.count_at.Given as goal
 

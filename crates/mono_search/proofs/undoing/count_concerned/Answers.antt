@@ -4,7 +4,7 @@ use Rattle.mono_base.specs.Literal.{var_of}
 use Rattle.mono_theory.specs.Owners.{fact_of, facts_of}
 use Rattle.mono_search.specs.TheoryLists.{concerning, concerned_from}
 use Rattle.mono_search.specs.Updates.{update_all, CanUpdate}
-use Rattle.mono_search.proofs.Worklists.{none_counted, zero_at}
+use Rattle.mono_search.proofs.ListedCounts.{none_counted, zero_at}
 use Rattle.mono_search.proofs.ConcernTables.{zero_counts, may_count, counted_by_table, listed}
 use Rattle.mono_search.proofs.undoing.count_concerned.Goals as goal
 

@@ -1,7 +1,6 @@
 use Rattle.std.proofs.Common.{◌≡◌, take, map, length}
 use Rattle.mono_theory.specs.Owners.{facts_of}
-use Rattle.mono_search.specs.TheoryLists.{concerning}
-use Rattle.mono_search.specs.Worklists.{AreListed}
+use Rattle.mono_search.specs.TheoryLists.{AreListed, concerning}
 use Rattle.mono_search.proofs.undoing.count_concerned.Given as goal
 
 abbrev pub invariant-loop-lit : goal.invariant-loop-lit

@@ -2,12 +2,11 @@ use Rattle.std.proofs.Common.{◌≡◌, ℕ, zero, suc, ◌<◌, false, true, [
 use Rattle.std.specs.Prelude.{IsTrue, Some, None, slice_get}
 use Rattle.std.proofs.lemmas.Option.{same_Some}
 use Rattle.mono_steps.specs.declared.step.Step.{Step}
-use Rattle.mono_steps.specs.New.{AreNew}
+use Rattle.mono_steps.specs.New.{AreNew, IsProgress}
 use Rattle.mono_steps.specs.Renumbering.{names_step}
-use Rattle.mono_steps.specs.Trimmed.{IsNamedLater}
+use Rattle.mono_steps.specs.Trimmed.{IsNamedLater, IsTrimRefutation}
 use Rattle.mono_steps.specs.WorkedLemmas.{chain}
 use Rattle.mono_steps.proofs.WorkedNew.{one_is_end, one_is_left_open}
-use Rattle.mono_search.specs.Solving.{IsProgress, IsTrimRefutation}
 use Rattle.mono_search.specs.Worked.{two_clauses, both_signs, first_learned, learned_behind_a_lemma}
 use Rattle.mono_search.proofs.worked.solved_problems.Goals as goal
 

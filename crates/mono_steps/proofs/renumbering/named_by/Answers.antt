@@ -1,7 +1,6 @@
-use Rattle.std.proofs.Common.{◌≡◌, ℕ, ◌+◌, ◌<◌, ◌||◌, length, take, arith, sym, subst, ap, ◌∙◌, Bool}
-use Rattle.std.proofs.lemmas.List.{get_or-take}
+use Rattle.std.proofs.Common.{ℕ, ◌+◌, ◌<◌, ◌||◌, length, arith, sym, subst, ap, ◌∙◌, Bool}
 use Rattle.mono_steps.specs.declared.step.Step.{Step}
-use Rattle.mono_steps.specs.Needed.{is_set, StepNamesHeld}
+use Rattle.mono_steps.specs.Needed.{StepNamesHeld}
 use Rattle.mono_steps.specs.Renumbering.{names_step}
 use Rattle.mono_steps.proofs.NeededSteps.{named_more}
 use Rattle.mono_steps.proofs.renumbering.named_by.Goals as goal

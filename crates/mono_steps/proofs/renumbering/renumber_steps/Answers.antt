@@ -1,8 +1,8 @@
-use Rattle.std.proofs.Common.{◌≡◌, ◌<◌, ℕ, arith, length, sym, subst, ◌∙◌, List, map, ap, Vec, Global}
+use Rattle.std.proofs.Common.{◌≡◌, ◌<◌, arith, length, sym, subst, ◌∙◌, List, map, ap, Vec, Global}
 use Rattle.std.proofs.lemmas.List.{length-map}
 use Rattle.mono_steps.specs.declared.step.Step.{Step}
 use Rattle.mono_steps.specs.Needed.{StepNamesHeld}
-use Rattle.mono_steps.specs.Renumbering.{with_numbers, steps_with_numbers, IsTable}
+use Rattle.mono_steps.specs.Renumbering.{with_numbers, steps_with_numbers}
 use Rattle.mono_steps.proofs.Ranks.{copies_more, copies_same, get_or_mapped}
 use Rattle.mono_steps.proofs.renumbering.renumber_steps.Goals as goal
 use Rattle.mono_steps.proofs.renumbering.renumber_steps.Goals.{then-flags-place+in_ok-renumber+in_ok-push, else-flags-place}

@@ -9,15 +9,14 @@ returns-clause-kept c = record {
   as_many = refl;
   closed = λ j k s on is names. closed_of_three _ _ 3 (true ∷ false ∷ true ∷ []) (first_is_kept (true ∷ false ∷ true ∷ []) refl) j k s is names;
   is = refl;
-  refutes = refl;
-  named = all_named;
+  trim = record { refutes = refl; named = all_named };
 }
 
 pub returns-clause-dropped : goal.returns-clause-dropped
 returns-clause-dropped c = not_dropped
 
 pub returns-clause-unnamed_before_the_last : goal.returns-clause-unnamed_before_the_last
-returns-clause-unnamed_before_the_last c = λ h. second_not_named (h.named 1 (omega arith))
+returns-clause-unnamed_before_the_last c = λ h. second_not_named (h.trim.named 1 (omega arith))
 
 pub returns-clause-none_of_the_old_steps : goal.returns-clause-none_of_the_old_steps
 returns-clause-none_of_the_old_steps c = none_of_the_old

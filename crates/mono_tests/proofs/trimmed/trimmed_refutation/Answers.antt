@@ -9,8 +9,7 @@ returns-clause-trimmed c = record {
   as_many = refl;
   closed = λ j k s on is names. closed_of_three _ _ 4 (false ∷ true ∷ true ∷ []) (second_is_kept (false ∷ true ∷ true ∷ []) refl) j k s is names;
   is = refl;
-  refutes = refl;
-  named = all_named;
+  trim = record { refutes = refl; named = all_named };
 }
 
 pub returns-clause-as_it_was : goal.returns-clause-as_it_was
@@ -19,12 +18,11 @@ returns-clause-as_it_was c = record {
   as_many = refl;
   closed = λ j k s on is names. closed_of_two _ 3 (true ∷ true ∷ []) (first_is_kept (true ∷ true ∷ []) refl) j k s is names;
   is = refl;
-  refutes = refl;
-  named = all_named;
+  trim = record { refutes = refl; named = all_named };
 }
 
 pub returns-clause-not_trimmed : goal.returns-clause-not_trimmed
-returns-clause-not_trimmed c = λ h. first_not_named (h.named 0 (omega arith))
+returns-clause-not_trimmed c = λ h. first_not_named (h.trim.named 0 (omega arith))
 
 pub returns-clause-nothing_left : goal.returns-clause-nothing_left
-returns-clause-nothing_left c = λ h. let e = h.refutes in cc
+returns-clause-nothing_left c = λ h. let e = h.trim.refutes in cc

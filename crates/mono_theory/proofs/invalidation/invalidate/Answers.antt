@@ -1,5 +1,6 @@
-use Rattle.std.proofs.Common.{◌∙◌, ℕ, List, subst, get_or}
+use Rattle.std.proofs.Common.{◌∙◌, List, subst, get_or}
 use Rattle.mono_graph.proofs.Membership.{has_get_or}
+use Rattle.mono_theory.specs.declared.watch.Watch.{Watch}
 use Rattle.mono_theory.specs.Watching.{NoneStandsOn}
 use Rattle.mono_theory.proofs.FewerStand.{edges_more, invalidated_more}
 use Rattle.mono_theory.proofs.invalidation.invalidate.Goals as goal
@@ -14,5 +15,5 @@ loop-edge-preserved c =
       count = step.len ∙ inv.count;
       fewer = invalidated_more inv.fewer step;
       none = edges_more c.args.watchers.now edges i c.loop-edge-test.true step
-          (subst (λ (atoms : List ℕ). NoneStandsOn c.args.supports.now c.invalidate_at.new.stages atoms (get_or edges i 0)) c.list.ensures c.invalidate_at.ensures.none) inv.none;
+          (subst (λ (ws : List Watch). NoneStandsOn c.args.supports.now c.invalidate_at.new.stages ws (get_or edges i 0)) c.list.ensures c.invalidate_at.ensures.none) inv.none;
     }

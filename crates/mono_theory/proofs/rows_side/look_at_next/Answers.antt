@@ -18,7 +18,7 @@ returns-in-Ok-clause-right g c =
     let more = rw (← c.side.view_is) at c.requires.more in
     let l = c.literal_at-lit.result in
     rw c.assign.ensures
-    (rows_looked l c.look_at.new.self c.look_at.new.due more (sym c.literal_at-lit.ensures) c.seen.ensures.partial c.in-Ok.ensures.looked c.look_at.ensures.due h)
+    (rows_looked l c.look_at.new.self c.look_at.new.due.listed more (sym c.literal_at-lit.ensures) c.seen.ensures.partial c.in-Ok.ensures.looked c.look_at.ensures.due h)
 
 pub returns-in-Err-clause-right : goal.returns-in-Err-clause-right
 returns-in-Err-clause-right g c =
@@ -26,4 +26,4 @@ returns-in-Err-clause-right g c =
     let more = rw (← c.side.view_is) at c.requires.more in
     let l = c.literal_at-lit.result in
     rw (c.undo.ensures, c.assign.ensures)
-    (rows_unlooked l c.look_at.new.self c.look_at.new.due more (sym c.literal_at-lit.ensures) c.seen.ensures.partial c.in-Err.ensures.unlooked c.look_at.ensures.due h)
+    (rows_unlooked l c.look_at.new.self c.look_at.new.due.listed more (sym c.literal_at-lit.ensures) c.seen.ensures.partial c.in-Err.ensures.unlooked c.look_at.ensures.due h)

@@ -12,13 +12,13 @@ back-preserved c =
     record {
       low = omega (arith, past);
       high = omega (arith, inv.high);
-      size = c.insert_all.ensures.size ∙ inv.size;
+      size = c.insert_all.ensures.as_many ∙ inv.size;
       due = λ possible shown h.
-          settled_back f.seen (c.back.at - 1) c.literal_at-lit.result c.atoms_of.result.now possible f.atoms shown c.back.due c.insert_all.new.self (omega (arith, inv.high, past)) (sym c.literal_at-lit.ensures) (rw c.var.ensures.value at c.atoms_of.ensures) c.insert_all.ensures.size c.insert_all.ensures.each
-          (subst (λ (k : ℕ). AreSettledBut (take k f.seen) possible f.atoms shown c.back.due) more (inv.due possible shown h));
+          settled_back f.seen (c.back.at - 1) c.literal_at-lit.result c.atoms_of.result.now possible f.atoms shown c.back.due.listed c.insert_all.new.self.listed (omega (arith, inv.high, past)) (sym c.literal_at-lit.ensures) (rw c.var.ensures.value at c.atoms_of.ensures) c.insert_all.ensures.as_many c.insert_all.ensures.each
+          (subst (λ (k : ℕ). AreSettledBut (take k f.seen) possible f.atoms shown c.back.due.listed) more (inv.due possible shown h));
     }
 
 pub returns : goal.returns
 returns c = λ possible shown h.
     let last : c.back.at ≡ c.args.kept = omega (arith, c.back-test.false, c.back.invariant.low) in
-    subst (λ (k : ℕ). AreSettledBut (take k c.args.frame.now.seen) possible c.args.frame.now.atoms shown c.back.due) last (c.back.invariant.due possible shown h)
+    subst (λ (k : ℕ). AreSettledBut (take k c.args.frame.now.seen) possible c.args.frame.now.atoms shown c.back.due.listed) last (c.back.invariant.due possible shown h)

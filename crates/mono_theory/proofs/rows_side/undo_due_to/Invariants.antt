@@ -6,8 +6,8 @@ abbrev pub invariant-back : goal.invariant-back
 invariant-back l = record {
   low : l.kept ≤ l.at;
   high : l.at ≤ length l.frame.seen;
-  size : length l.due ≡ length l.frame.atoms;
-  due : (possible : Bool) → (shown : ℕ → Bool) → AreSettledBut (take l.looked l.frame.seen) possible l.frame.atoms shown l.initial.due → AreSettledBut (take l.at l.frame.seen) possible l.frame.atoms shown l.due;
+  size : length l.due.listed ≡ length l.frame.atoms;
+  due : (possible : Bool) → (shown : ℕ → Bool) → AreSettledBut (take l.looked l.frame.seen) possible l.frame.atoms shown l.initial.due.listed → AreSettledBut (take l.at l.frame.seen) possible l.frame.atoms shown l.due.listed;
 }
 
 abbrev pub decreases-back : goal.decreases-back

@@ -24,12 +24,12 @@ loop-atom-preserved c =
     record {
       as_many = length-set stages a stage.Waits ∙ inv.as_many;
       within = omega (arith, inv.within);
-      runs = λ border is. subst (λ (b : ℕ). AreRuns c.args.items.now (set stages b stage.Waits) (c.loop-atom.left - 1) border) (sym its.1)
-          (runs_undone c.requires.all inv.as_many (inv.runs border is) (let some = its.0 in omega (arith, some)));
+      runs = λ border is. subst (λ (b : ℕ). AreRuns c.args.ranking.now.items (set stages b stage.Waits) (c.loop-atom.left - 1) border) (sym its.1)
+          (runs_undone c.requires.inverse inv.as_many (inv.runs border is) (let some = its.0 in omega (arith, some)));
       same = undone_already c.args.kept stages a its.2 ∙ inv.same;
     }
 
 pub returns-clause-stages : goal.returns-clause-stages
 returns-clause-stages c =
     let inv = c.loop-atom.invariant in
-    sym (none_later c.args.kept c.requires.all inv.as_many (inv.runs c.requires.runs.0 c.requires.runs.1) c.in_default.ensures.none) ∙ inv.same
+    sym (none_later c.args.kept c.requires.inverse inv.as_many (inv.runs c.requires.runs.0 c.requires.runs.1) c.in_default.ensures.none) ∙ inv.same

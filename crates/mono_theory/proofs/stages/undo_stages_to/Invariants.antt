@@ -4,9 +4,9 @@ use Rattle.mono_theory.proofs.stages.undo_stages_to.Given as goal
 
 abbrev pub invariant-loop-atom : goal.invariant-loop-atom
 invariant-loop-atom l = record {
-  as_many : length l.stages.items ≡ length l.items;
-  within : l.left ≤ length l.items;
-  runs : (border : ℕ) → AreRuns l.items l.initial.stages.items l.initial.shown border → AreRuns l.items l.stages.items l.left border;
+  as_many : length l.stages.items ≡ length l.ranking.items;
+  within : l.left ≤ length l.ranking.items;
+  runs : (border : ℕ) → AreRuns l.ranking.items l.initial.stages.items l.initial.shown border → AreRuns l.ranking.items l.stages.items l.left border;
   same : map (undone l.kept) l.stages.items ≡ map (undone l.kept) l.initial.stages.items;
 }
 

@@ -1,10 +1,11 @@
-use Rattle.std.proofs.Common.{ℕ, ◌<◌, take}
-use Rattle.mono_theory.specs.Watching.{AreBelow, AreWatched, IsGrown}
+use Rattle.std.proofs.Common.{ℕ, ◌<◌}
+use Rattle.mono_theory.specs.Watching.{AreBelow, IsGrown}
+use Rattle.mono_theory.proofs.MoreWatch.{FirstWatched}
 use Rattle.mono_theory.proofs.watchers.watch_all.Given as goal
 
-abbrev pub invariant-loop-edge : goal.invariant-loop-edge
-invariant-loop-edge l = record {
+abbrev pub invariant-loop-place : goal.invariant-loop-place
+invariant-loop-place l = record {
   grown : IsGrown l.initial.lists l.lists;
   below : (n : ℕ) → l.atom < n → AreBelow n l.initial.lists → AreBelow n l.lists;
-  watched : AreWatched l.lists l.atom (take l.edge-index l.edges);
+  watched : FirstWatched l.lists l.atom l.edges l.place;
 }

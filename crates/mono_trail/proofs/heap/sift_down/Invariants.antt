@@ -1,12 +1,13 @@
 use Rattle.std.proofs.Common.{◌≡◌, ◌≤◌, ◌-◌, length}
-use Rattle.mono_trail.specs.Heap.{AreInverse, waits_of}
+use Rattle.mono_base.specs.Ranking.{AreInverse}
+use Rattle.mono_trail.specs.Heap.{waits_of}
 use Rattle.mono_trail.proofs.heap.sift_down.Given as goal
 
 abbrev pub invariant-loop-child : goal.invariant-loop-child
 invariant-loop-child l = record {
-  inverse : AreInverse l.items l.places;
-  as_many : length l.items ≡ length l.fn.items;
-  waits : waits_of l.count l.places ≡ waits_of l.count l.fn.places;
+  inverse : AreInverse l.ranking.items l.ranking.places;
+  as_many : length l.ranking.items ≡ length l.fn.ranking.items;
+  waits : waits_of l.count l.ranking.places ≡ waits_of l.count l.fn.ranking.places;
   inside : l.place ≤ l.count;
 }
 

@@ -3,7 +3,7 @@ use Rattle.std.proofs.lemmas.List.{get_or_read}
 use Rattle.mono_graph.specs.Digraph.{edge_at}
 use Rattle.mono_graph.specs.declared.edge.Edge.{Edge}
 use Rattle.mono_graph.specs.Cycles.{rank_in}
-use Rattle.mono_cycles.proofs.Lists.{all_has}
+use Rattle.mono_graph.proofs.Pigeons.{all_has}
 use Rattle.mono_cycles.proofs.Found.{IsWayOn, way_on, way_more, way_room, way_short}
 use Rattle.mono_cycles.proofs.behind.Behind.walk_on.Goals as goal
 

@@ -11,7 +11,8 @@ use Rattle.mono_theory.specs.Walked.{walk_evidence}
 use Rattle.mono_theory.specs.SureParts.{sure_parts}
 use Rattle.mono_theory.proofs.SureEdges.{walk_places}
 use Rattle.mono_distance.proofs.DistanceEvidence.{walk_shows}
-use Rattle.mono_distance.proofs.SureLabels.{labels_uncut, last_known}
+use Rattle.mono_theory.proofs.AskedRows.{last_known}
+use Rattle.mono_distance.proofs.SureLabels.{labels_uncut}
 use Rattle.mono_distance.proofs.least_rows.LeastRowsRowsDistance.evidence.Goals as goal
 
 pub walk_within-requires-clause-right : goal.walk_within-requires-clause-right

@@ -35,9 +35,9 @@ returns-clause-due c =
     let h = labels_uncut {f = f} n (omega (arith, c.requires.more)) c.requires.right in
     let w = rw (c.graph.ensures.graph, c.var-var.ensures.value) at c.in_ok-grow.ensures.grown in
     labels_put_due n c.args.bounds.now.under w.0 h c.in_ok-grow.ensures.same w.2
-    (subst (λ (m : SureLabels). PutsRows m.lasts (λ i. map (λ x. x.node) (made_after n (costs_at m.rows i).changes)) (length m.rows) c.args.due.now c.put_each_due.new.due) c.self.view_is c.put_each_due.ensures)
+    (subst (λ (m : SureLabels). PutsRows m.lasts (λ i. map (λ x. x.node) (made_after n (costs_at m.rows i).changes)) (length m.rows) c.args.due.now.listed c.put_each_due.new.due.listed) c.self.view_is c.put_each_due.ensures)
 
 pub returns-in_err-grow-clause-due : goal.returns-in_err-grow-clause-due
 returns-in_err-grow-clause-due c =
     let f = c.args.frame.now in
-    subst (λ (m : SureLabels). PutsDue (length f.atoms) (shows_last c.args.self.now) (shows_last m) c.args.due.now c.args.due.now) (sym c.in_err-grow.ensures.unchanged) (due_none (length f.atoms) (shows_last c.args.self.now) c.args.due.now)
+    subst (λ (m : SureLabels). PutsDue (length f.atoms) (shows_last c.args.self.now) (shows_last m) c.args.due.now.listed c.args.due.now.listed) (sym c.in_err-grow.ensures.unchanged) (due_none (length f.atoms) (shows_last c.args.self.now) c.args.due.now.listed)

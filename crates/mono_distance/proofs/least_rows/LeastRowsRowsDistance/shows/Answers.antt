@@ -9,7 +9,8 @@ use Rattle.mono_theory.specs.SureParts.{sure_parts}
 use Rattle.mono_theory.proofs.KeptEvidenceDecides.{shown_rising}
 use Rattle.mono_distance.specs.SureLabels.{is_within}
 use Rattle.mono_distance.proofs.DistanceEvidence.{distance_rises}
-use Rattle.mono_distance.proofs.SureLabels.{asked_decides, labels_uncut, last_known, node_held, shown_last, within_asked}
+use Rattle.mono_theory.proofs.AskedRows.{last_known}
+use Rattle.mono_distance.proofs.SureLabels.{asked_decides, labels_uncut, node_held, shown_last, within_asked}
 use Rattle.mono_distance.proofs.least_rows.LeastRowsRowsDistance.shows.Goals as goal
 
 pub label-label-requires-clause-place : goal.label-label-requires-clause-place

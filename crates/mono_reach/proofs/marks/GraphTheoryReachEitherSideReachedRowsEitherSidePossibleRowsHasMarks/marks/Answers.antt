@@ -7,7 +7,7 @@ use Rattle.mono_theory.specs.EitherSides.{IsEitherRight}
 use Rattle.mono_theory.specs.Evidences.{Decides}
 use Rattle.mono_theory.specs.Supports.{facts_in}
 use Rattle.mono_reach.specs.Marks.{AreMarksOf, first_node, last_node, shows_last}
-use Rattle.mono_reach.specs.PossibleRows.{AreTargetsOf, is_cut_off}
+use Rattle.mono_theory.specs.PossibleRows.{AreTargetsOf, is_cut_off}
 use Rattle.mono_reach.specs.Reaches.{is_reach}
 use Rattle.mono_reach.specs.Readings.{marks_at}
 use Rattle.mono_reach.proofs.ToldNodes.{marks_known}

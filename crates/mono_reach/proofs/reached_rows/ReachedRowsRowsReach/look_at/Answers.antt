@@ -37,4 +37,4 @@ returns-clause-due c =
     let h = marks_in f n (omega (arith, c.requires.more)) c.requires.right in
     let w = rw (c.graph.ensures.graph, c.var-var.ensures.value) at c.in_ok-grow.ensures.grown in
     marks_put_due n c.args.bounds.now.under w.0 h c.in_ok-grow.ensures.same w.2
-    (subst (λ (m : SureMarks). PutsRows m.lasts (λ i. reached (after n (row_at m.rows i).arrivals)) (length m.rows) c.args.due.now c.put_each_due.new.due) c.self.view_is c.put_each_due.ensures)
+    (subst (λ (m : SureMarks). PutsRows m.lasts (λ i. reached (after n (row_at m.rows i).arrivals)) (length m.rows) c.args.due.now.listed c.put_each_due.new.due.listed) c.self.view_is c.put_each_due.ensures)

@@ -18,4 +18,4 @@ returns-clause-rest c = record {
 }
 
 pub returns-clause-due : goal.returns-clause-due
-returns-clause-due c = due_none (length c.args.frame.now.atoms) (shows_last c.args.self.now) c.args.due.now
+returns-clause-due c = due_none (length c.args.frame.now.atoms) (shows_last c.args.self.now) c.args.due.now.listed

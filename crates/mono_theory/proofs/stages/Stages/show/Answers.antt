@@ -4,7 +4,7 @@ use Rattle.mono_theory.proofs.stages.Stages.show.Goals as goal
 
 pub invariant_of-self : goal.invariant_of-self
 invariant_of-self c =
-    let at = placed c.args.atom c.index.result.now stage.Waits c.self.invariant (rw (← c.self.view_is) at c.requires.atom) c.index.ensures (rw (← c.self.view_is) at c.requires.waits) in
+    let at = placed c.args.atom c.place-place.result stage.Waits c.self.invariant (rw (← c.self.view_is) at c.requires.atom) c.place-place.ensures.value (rw (← c.self.view_is) at c.requires.waits) in
     table_show c.self.invariant at (rw (← c.self.view_is) at c.requires.latest) (record {
       inverse = c.change.ensures.inverse;
       as_many = c.change.ensures.as_many;

@@ -5,7 +5,7 @@ use Rattle.mono_theory.proofs.stages.Stages.stand.Goals as goal
 
 pub invariant_of-self : goal.invariant_of-self
 invariant_of-self c =
-    let at = placed c.args.atom c.index.result.now stage.Waits c.self.invariant (rw (← c.self.view_is) at c.requires.atom) c.index.ensures (rw (← c.self.view_is) at c.requires.waits) in
+    let at = placed c.args.atom c.place-place.result stage.Waits c.self.invariant (rw (← c.self.view_is) at c.requires.atom) c.place-place.ensures.value (rw (← c.self.view_is) at c.requires.waits) in
     table_stand c.self.invariant at refl (record {
       inverse = c.change.ensures.inverse;
       as_many = c.change.ensures.as_many;

@@ -1,11 +1,7 @@
 use Rattle.std.proofs.Common.{length, ap, ◌∙◌}
 use Rattle.std.proofs.lemmas.List.{length-map}
 use Rattle.mono_theory.specs.Stages.{undone}
-use Rattle.mono_theory.proofs.StageChanges.{all_there}
 use Rattle.mono_theory.proofs.stages.Stages.undo_to.Goals as goal
-
-pub undo_stages_to-self-inside-requires-clause-all : goal.undo_stages_to-self-inside-requires-clause-all
-undo_stages_to-self-inside-requires-clause-all c = rw c.deref.ensures.value (all_there c.self.invariant.inverse)
 
 pub invariant_of-self : goal.invariant_of-self
 invariant_of-self c =
@@ -14,6 +10,5 @@ invariant_of-self c =
     record {
       inverse = inv.inverse;
       as_many = ap length its.stages ∙ length-map c.self.inside.stages.items (undone c.args.kept) ∙ inv.as_many;
-      few = inv.few;
-      runs = (rw c.deref.ensures.value at its.runs) c.self.inside.border inv.runs;
+      runs = its.runs c.self.inside.border inv.runs;
     }

@@ -11,7 +11,7 @@ invariant_of-self c =
     let known : c.args.atom < length stages = rw (← c.self.view_is) at c.requires in
     let stands : stage_at stages c.args.atom ≡ stage.Supported =
     get_or_default stages c.args.atom stage.Waits c.index.result.now known ∙ sym c.index.ensures ∙ c.is_standing.ensures.stands c.if-not-is_standing.false in
-    table_wait c.self.invariant (placed c.args.atom c.index-2.result.now stage.Supported c.self.invariant known c.index-2.ensures stands) (record {
+    table_wait c.self.invariant (placed c.args.atom c.place-place.result stage.Supported c.self.invariant known c.place-place.ensures.value stands) (record {
       inverse = c.change.ensures.inverse;
       as_many = c.change.ensures.as_many;
       written = c.change.ensures.stages;

@@ -1,6 +1,0 @@
-use Rattle.mono_base.specs.Literal.{value_in}
-use Rattle.mono_best.proofs.Told.{AreTold}
-use Rattle.mono_best.proofs.enabled.enabled_edges.Given as goal
-
-abbrev pub invariant-loop-place : goal.invariant-loop-place
-invariant-loop-place l = AreTold (value_in l.model) l.graph l.place l.part

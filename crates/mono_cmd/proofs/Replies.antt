@@ -1,0 +1,133 @@
+-- What a run shows that ends with a reply: an ending of its command's own, behind what it reads.
+use Rattle.std.proofs.Common.{◌≡◌, Bool, true, false, ℕ, List, ◌++◌, Option, Some, None, IfSome, refl, sym, ap, subst, ◌∙◌, inl, inr}
+use Rattle.std.proofs.lemmas.List.{append_cancel_left}
+use Rattle.std.specs.Io.KnownBytes.{append_known}
+use Rattle.mono_problem.specs.Instance.{Instance}
+use Rattle.mono_gnf.specs.Stands.{Stands}
+use Rattle.mono_answer.specs.declared.answer.Answer.{Answer}
+use Rattle.mono_answer.specs.declared.answer.Answer.TheVariants as answer
+use Rattle.mono_check.specs.declared.verdict.Verdict.{Verdict}
+use Rattle.mono_check.specs.declared.verdict.Verdict.TheVariants as verdict
+use Rattle.mono_best.specs.declared.outcome.BestOutcome.{BestOutcome}
+use Rattle.mono_best.specs.declared.outcome.BestOutcome.TheVariants as bounded
+use Rattle.mono_core.specs.declared.outcome.CoreOutcome.{CoreOutcome}
+use Rattle.mono_core.specs.declared.outcome.CoreOutcome.TheVariants as outcome
+use Rattle.mono_io.specs.Shelf.{Texts, ShelfView, text_named, told_text}
+use Rattle.mono_cmd.specs.declared.command.Command.{Command}
+use Rattle.mono_cmd.specs.declared.status.Status.{Status}
+use Rattle.mono_cmd.specs.declared.status.Status.TheVariants as status
+use Rattle.mono_cmd.specs.declared.ending.Ending.{Ending}
+use Rattle.mono_cmd.specs.declared.ending.Ending.TheVariants as ending
+use Rattle.mono_cmd.specs.Endings.{status_of, text_of, answer_status, verdict_status, outcome_status, best_status}
+use Rattle.mono_cmd.specs.Runs.{EndsAtText, EndsAtFile, WithProblem, HasProblem, ComesTo, Ends, Writes, Runs}
+use Rattle.mono_cmd.proofs.Stages.{ends_else, IsOwn, file_of, answer_of, limit_of, Stage, unread, at_file, behind_file, at_answer, behind_answer}
+
+-- ---- statuses
+
+-- the statuses of replies
+abbrev pub is_reply : Status → Bool
+is_reply status.Words = false
+is_reply status.Refused = false
+is_reply status.ReadFault = false
+is_reply status.WriteFault = false
+is_reply status.Memory = false
+is_reply status.TooLong = false
+is_reply s = true
+
+pub not_both : (s t : Status) → s ≡ t → is_reply s ≡ true → is_reply t ≡ false → ⊥
+not_both s t is reply none = absurd (let h = sym reply ∙ ap is_reply is ∙ none in cc)
+
+pub answer_reply : (a : Answer) → is_reply (answer_status a) ≡ true
+answer_reply (answer.Model values) = refl
+answer_reply (answer.Refutation steps) = refl
+answer_reply (answer.Progress steps) = refl
+
+pub verdict_reply : (v : Verdict) → is_reply (verdict_status v) ≡ true
+verdict_reply verdict.Model = refl
+verdict_reply verdict.Refutation = refl
+verdict_reply (verdict.Progress n) = refl
+verdict_reply (verdict.Rejected line r) = refl
+
+pub outcome_reply : (o : CoreOutcome) → is_reply (outcome_status o) ≡ true
+outcome_reply (outcome.Model values) = refl
+outcome_reply (outcome.Core lits steps needs) = refl
+outcome_reply (outcome.Unknown steps) = refl
+
+pub best_reply : (o : BestOutcome) → is_reply (best_status o) ≡ true
+best_reply (bounded.Best b model steps) = refl
+best_reply (bounded.Never steps) = refl
+best_reply (bounded.Beyond model) = refl
+best_reply (bounded.Unknown b steps) = refl
+
+-- with such a status the text was written whole
+pub writes_reply : (e : Ending) (t : Status) (before now : Option (List ℕ)) → is_reply t ≡ true → Writes e t before now → (t ≡ status_of e) × (now ≡ append_known before (text_of e))
+writes_reply e status.WriteFault before now reply w = absurd (not_both status.WriteFault status.WriteFault refl reply refl)
+writes_reply e status.Memory before now reply w = absurd (not_both status.Memory status.Memory refl reply refl)
+writes_reply e t before now reply w = w
+
+-- ---- endings
+
+-- a run that ends at a file has no such status
+text_no_reply : (file : List ℕ) (limit : ℕ) (old new : ShelfView) (e : Ending) → EndsAtText file limit old new e → is_reply (status_of e) ≡ false
+text_no_reply file limit old new ending.ReadFault ends = refl
+text_no_reply file limit old new ending.TooLong ends = refl
+text_no_reply file limit old new ending.Memory ends = refl
+text_no_reply file limit old new e ends = absurd ends
+
+file_no_reply : (file : List ℕ) (old new : ShelfView) (e : Ending) → EndsAtFile file old new e → is_reply (status_of e) ≡ false
+file_no_reply file old new (ending.Refused line fault) ends = refl
+file_no_reply file old new ending.ReadFault ends = refl
+file_no_reply file old new ending.TooLong ends = refl
+file_no_reply file old new ending.Memory ends = refl
+file_no_reply file old new e ends = absurd ends
+
+-- one that has such a status came to an ending of its command's own
+pub replied : (found : Option Command) (old new : ShelfView) (e : Ending) → Stage found old new e → is_reply (status_of e) ≡ true → IsOwn e found
+replied found old new e (unread none own same) reply = own
+replied found old new e (at_file reads ends) reply = absurd (not_both (status_of e) (status_of e) refl reply (file_no_reply (file_of found) old new e ends))
+replied found old new e (behind_file reads own p has) reply = own
+replied found old new e (at_answer p read behind ends) reply = absurd (not_both (status_of e) (status_of e) refl reply (text_no_reply (answer_of found) (limit_of found) read new e ends))
+replied found old new e (behind_answer p read text behind own given) reply = own
+
+-- ---- the problem that FILE stands for
+
+-- the text that was read is the one that the shelf tells
+same_text : (texts : Option Texts) (file text read : List ℕ) → told_text texts file ≡ Some text → IfSome texts (λ held. text_named file held ≡ Some read) → read ≡ text
+same_text None file text read told is = absurd cc
+same_text (Some held) file text read told is = cc
+
+pub same_problem : (text : List ℕ) (p q : Instance) → Stands text p → Stands text q → p ≡ q
+same_problem text p q a b = a.1 ∙ sym b.1
+
+pub its_problem : (file text : List ℕ) (old read : ShelfView) (p q : Instance) → told_text old.texts file ≡ Some text → Stands text p → HasProblem file old read q → q ≡ p
+its_problem file text old read p q told stands has =
+    let same = same_text old.texts file text has.text told has.read.whole in
+    same_problem text q p (subst (λ (t : List ℕ). Stands t q) same has.stands) stands
+
+-- the end of a command that reads FILE alone is one of the problem that FILE stands for
+pub end_behind : (file text : List ℕ) (old new : ShelfView) (e : Ending) (p : Instance) (End : Instance → Type 0) → told_text old.texts file ≡ Some text → Stands text p → is_reply (status_of e) ≡ true
+    → WithProblem file old new e (λ q shelf. End q × (new ≡ shelf)) → End p
+end_behind file text old new e p End told stands reply (inl ends) = absurd (not_both (status_of e) (status_of e) refl reply (file_no_reply file old new e ends))
+end_behind file text old new e p End told stands reply (inr (q, read, has, end)) = subst End (its_problem file text old read p q told stands has) end.0
+
+-- ---- what was written
+
+-- what was written behind a text is the text that was appended
+pub appended : (before now : Option (List ℕ)) (there written t : List ℕ) → before ≡ Some there → now ≡ Some (there ++ written) → now ≡ append_known before t → t ≡ written
+appended before now there written t held wrote is =
+    append_cancel_left there t written (let same : Some (there ++ t) ≡ Some (there ++ written) = sym (is ∙ ap (λ (o : Option (List ℕ)). append_known o t) held) ∙ wrote in cc)
+
+pub runs_by : (found : Option Command) (old new : ShelfView) (e : Ending) (s : Status) (before now : Option (List ℕ)) → Ends found old new e → Writes e s before now → Runs found old new s before now
+runs_by found old new e s before now ends writes = record { ending = e; ends = ends; writes = writes }
+
+-- What each outcome shows holds of a run by its status, where a reply of that run is the ending made of an outcome that is right.
+pub shown : (found : Option Command) (old new : ShelfView) (s : Status) (before now : Option (List ℕ)) → Runs found old new s before now
+    → (Outcome : Type 0) (made : Outcome → Ending) (Right : Outcome → Type 0)
+    → ((e : Ending) → ComesTo found old new e → is_reply (status_of e) ≡ true → (o : Outcome) × (e ≡ made o) × Right o)
+    → (Shows : Status → Type 0) → ((o : Outcome) → Right o → now ≡ append_known before (text_of (made o)) → Shows (status_of (made o)))
+    → (t : Status) → is_reply t ≡ true → s ≡ t → Shows t
+shown found old new s before now runs Outcome made Right came Shows shows t reply is =
+    let w = writes_reply runs.ending t before now reply (subst (λ (u : Status). Writes runs.ending u before now) is runs.writes) in
+    let comes = ends_else found old new runs.ending (λ memory. not_both t status.Memory (w.0 ∙ ap status_of memory) reply refl) runs.ends in
+    let end = came runs.ending comes (ap is_reply (sym w.0) ∙ reply) in
+    subst Shows (sym (w.0 ∙ ap status_of end.1)) (shows end.0 end.2 (w.1 ∙ ap (λ (d : Ending). append_known before (text_of d)) end.1))
