@@ -1,5 +1,5 @@
 -- Cycles and orders show whether a part has a cycle.
-use Rattle.std.proofs.Common.{◌≡◌, ℕ, ◌<◌, Bool, true, false, not, ◌&&◌, ◌||◌, List, [], ◌∷◌, length, ltb, refl, sym, ap, subst, ◌∙◌, arith, All}
+use Rattle.std.proofs.Common.{◌≡◌, ℕ, ◌<◌, Bool, true, false, not, ◌&&◌, List, [], ◌∷◌, length, ltb, refl, sym, ap, subst, ◌∙◌, arith, All}
 use Rattle.std.specs.Prelude.{IsTrue}
 use Rattle.std.specs.List.{list_all}
 use Rattle.std.proofs.lemmas.Bool.{and_parts, and_from, not-true, not_from_false}
@@ -7,7 +7,6 @@ use Rattle.mono_graph.specs.declared.edge.Edge.{Edge}
 use Rattle.mono_graph.specs.Digraph.{Digraph, IsGraph, edge_at, no_edge, present, places, nodes_of, has, is_place, is_distinct}
 use Rattle.mono_graph.specs.Walks.{is_walk, leads}
 use Rattle.mono_graph.proofs.Membership.{all_at, all_from, has_range, range_has, has_filter, filter_has}
-use Rattle.mono_graph.proofs.Places.{list_all_agree}
 use Rattle.mono_graph.specs.Cycles.{is_cycle, is_order, all_rise, rank_in, rises}
 use Rattle.mono_problem.specs.declared.atom.Predicate.TheVariants as kind
 use Rattle.mono_steps.specs.declared.lemma.Witness.TheVariants as by
@@ -16,7 +15,7 @@ use Rattle.mono_theory.specs.Evidences.{only, IsEvidence}
 use Rattle.mono_theory.specs.Resting.{AreAbsent, AreAlike}
 use Rattle.mono_theory.proofs.EvidenceDecides.{in_only}
 use Rattle.mono_graph.proofs.Pigeons.{all_has}
-use Rattle.mono_theory.proofs.RestingOnAbsent.{resting_evidence}
+use Rattle.mono_theory.proofs.RestingOnAbsent.{alike_each, resting_evidence}
 use Rattle.mono_theory.proofs.WalksAsEvidence.{numbers-known, placed-numbers, nodes-known, all_by}
 use Rattle.mono_acyclic.specs.Cyclic.{cycle_evidence, absent_falling, IsOrderEvidence}
 
@@ -69,16 +68,7 @@ falling_are_absent g P ns rank ok same = record {
 -- the test looks only at edges that don't rise
 same_rising : (g : Digraph) (P Q : List Bool) (ns : List ℕ) → AreAlike (is_falling ns) g P Q → all_rise g P (rank_in ns) ≡ all_rise g Q (rank_in ns)
 unfolding is_falling
-same_rising g P Q ns h =
-    list_all_agree (λ k. not (present P k) || rises (rank_in ns) (edge_at g k)) (λ k. not (present Q k) || rises (rank_in ns) (edge_at g k)) 0 (length g.edges) (λ k lo hi.
-    same (present P k) (present Q k) (rises (rank_in ns) (edge_at g k)) (λ t. h.each k (omega (arith, hi)) t))
-  where
-    same : (p q b : Bool) → (IsTrue (not b) → p ≡ q) → (not p || b) ≡ (not q || b)
-    same p q false e = ap (λ c. not c || false) (e refl)
-    same true true true e = refl
-    same true false true e = refl
-    same false true true e = refl
-    same false false true e = refl
+same_rising g P Q ns h = alike_each (rises (rank_in ns)) g P Q h
 
 pub order_shows : (g : Digraph) (P : List Bool) (ns : List ℕ) (e : Evidence) → IsGraph g → All (λ u. u < g.nodes) ns → IsTrue (is_order g P ns) → IsOrderEvidence g P ns e → IsEvidence g P kind.Acyclic e
 order_shows g P ns e ok known h is =

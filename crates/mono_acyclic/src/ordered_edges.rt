@@ -126,6 +126,7 @@ impl OrderedEdges {
 
 impl Rows<Acyclic> for OrderedEdges {
     ghost use Rattle.std.specs.Prelude.{false};
+    ghost use Rattle.mono_theory.specs.RowSides.{AlwaysStand};
     ghost use Rattle.mono_acyclic.specs.Orders.{AreEdgesOf, shows_cycle};
 
     const IS_POSSIBLE: bool = false;
@@ -136,7 +137,7 @@ impl Rows<Acyclic> for OrderedEdges {
 
     ghost shown = { shows_cycle };
 
-    ghost stand = { λ _ _. Unit {0} };
+    ghost stand = { AlwaysStand };
 
     fn are_few(alloc: Global, frame: &Frame) -> Result<bool, AllocError> {
         let _ = (alloc, frame.seen());

@@ -104,7 +104,7 @@ turned_more out m k ss d lt =
     ∙ ap (λ (ls : List (List (List ℕ))). out ++ flat_map spaced ls)
     (sym (ap (λ (j : ℕ). map step_line (turned_steps m (take j ss))) more ∙ ap (map step_line) (turned_suc m k ss d lt) ∙ map-append step_line (turned_steps m (take k ss)) (turned (m + k) (get_or ss k d) ∷ [])))
 
--- the same, of what a step of the loop over places has
+-- one line more: what a step of the loop over places appends, of what it knows of its place, its step and the number of that
 pub turned_pushed : (out before after : List ℕ) (m n k : ℕ) (ss : List Step) (s d : Step) → k < length ss → n ≡ m + k → s ≡ get_or ss k d → before ≡ out ++ flat_map spaced (map step_line (turned_steps m (take k ss)))
     → after ≡ before ++ spaced (step_line (turned n s)) → after ≡ out ++ flat_map spaced (map step_line (turned_steps m (take (k + 1) ss)))
 turned_pushed out before after m n k ss s d lt number is there pushed =
@@ -130,20 +130,20 @@ amounts_push : (fs : List Amount) (f : Amount) → amounts_text (fs ++ f ∷ [])
 amounts_push [] f = refl
 amounts_push (g ∷ fs) f = ap (λ (ts : List (List ℕ)). decimal g.edge ∷ decimal g.amount ∷ ts) (amounts_push fs f)
 
-pair_more : (out : List ℕ) (ts : List (List ℕ)) (t u : List ℕ) → ((out ++ behind ts) ++ behind (t ∷ [])) ++ behind (u ∷ []) ≡ out ++ behind (ts ++ t ∷ u ∷ [])
-pair_more out ts t u =
-    append_assoc (out ++ behind ts) (behind (t ∷ [])) (behind (u ∷ []))
-    ∙ (append_assoc out (behind ts) (behind (t ∷ []) ++ behind (u ∷ []))
-    ∙ ap (λ (s : List ℕ). out ++ s) (ap (λ (s : List ℕ). behind ts ++ s) (sym (behind-append (t ∷ []) (u ∷ []))) ∙ sym (behind-append ts (t ∷ u ∷ []))))
+pub behind_pair : (out t u : List ℕ) → (out ++ behind (t ∷ [])) ++ behind (u ∷ []) ≡ out ++ behind (t ∷ u ∷ [])
+behind_pair out t u = append_assoc out (behind (t ∷ [])) (behind (u ∷ [])) ∙ ap (λ (s : List ℕ). out ++ s) (sym (behind-append (t ∷ []) (u ∷ [])))
+
+tokens_more : (out : List ℕ) (ts us vs : List (List ℕ)) → vs ≡ ts ++ us → (out ++ behind ts) ++ behind us ≡ out ++ behind vs
+tokens_more out ts us vs is = append_assoc out (behind ts) (behind us) ∙ ap (λ (s : List ℕ). out ++ s) (sym (ap behind is ∙ behind-append ts us))
 
 pub labels_more : (out : List ℕ) (ls : List Label) (i : ℕ) (d : Label) → i < length ls
-    → ((out ++ behind (labels_text (take i ls))) ++ behind (decimal (get_or ls i d).node ∷ [])) ++ behind (decimal (get_or ls i d).value ∷ []) ≡ out ++ behind (labels_text (take (i + 1) ls))
+    → (out ++ behind (labels_text (take i ls))) ++ behind (decimal (get_or ls i d).node ∷ decimal (get_or ls i d).value ∷ []) ≡ out ++ behind (labels_text (take (i + 1) ls))
 labels_more out ls i d lt =
-    pair_more out (labels_text (take i ls)) (decimal (get_or ls i d).node) (decimal (get_or ls i d).value)
-    ∙ ap (λ (ts : List (List ℕ)). out ++ behind ts) (sym (ap labels_text (take_more ls i d lt) ∙ labels_push (take i ls) (get_or ls i d)))
+    tokens_more out (labels_text (take i ls)) (decimal (get_or ls i d).node ∷ decimal (get_or ls i d).value ∷ []) (labels_text (take (i + 1) ls))
+    (ap labels_text (take_more ls i d lt) ∙ labels_push (take i ls) (get_or ls i d))
 
 pub amounts_more : (out : List ℕ) (fs : List Amount) (i : ℕ) (d : Amount) → i < length fs
-    → ((out ++ behind (amounts_text (take i fs))) ++ behind (decimal (get_or fs i d).edge ∷ [])) ++ behind (decimal (get_or fs i d).amount ∷ []) ≡ out ++ behind (amounts_text (take (i + 1) fs))
+    → (out ++ behind (amounts_text (take i fs))) ++ behind (decimal (get_or fs i d).edge ∷ decimal (get_or fs i d).amount ∷ []) ≡ out ++ behind (amounts_text (take (i + 1) fs))
 amounts_more out fs i d lt =
-    pair_more out (amounts_text (take i fs)) (decimal (get_or fs i d).edge) (decimal (get_or fs i d).amount)
-    ∙ ap (λ (ts : List (List ℕ)). out ++ behind ts) (sym (ap amounts_text (take_more fs i d lt) ∙ amounts_push (take i fs) (get_or fs i d)))
+    tokens_more out (amounts_text (take i fs)) (decimal (get_or fs i d).edge ∷ decimal (get_or fs i d).amount ∷ []) (amounts_text (take (i + 1) fs))
+    (ap amounts_text (take_more fs i d lt) ∙ amounts_push (take i fs) (get_or fs i d))

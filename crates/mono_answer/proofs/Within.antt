@@ -12,13 +12,12 @@ use Rattle.mono_graph.specs.declared.label.Label.{Label}
 use Rattle.mono_graph.specs.declared.amount.Amount.{Amount}
 use Rattle.mono_steps.specs.declared.lemma.Witness.{Witness}
 use Rattle.mono_steps.specs.declared.lemma.Witness.TheVariants as witness
-use Rattle.mono_steps.specs.declared.step.Step.TheVariants as step
 use Rattle.mono_answer.specs.declared.kind.Kind.{Kind}
 use Rattle.mono_answer.specs.declared.word.Word.{Word}
 use Rattle.mono_answer.specs.declared.word.Word.TheVariants as word
 use Rattle.mono_answer.specs.declared.item.Item.{Item}
 use Rattle.mono_answer.specs.declared.item.Item.TheVariants as says
-use Rattle.mono_answer.specs.Items.{literal_or_zero, name_of, value_of, clause_number_of, onto, values_of, names_of, clause_numbers_of, labels_of, amounts_of, literals_of, kind_of, status_of, chain_of, word_of, witness_of, lemma_of, item_of}
+use Rattle.mono_answer.specs.Items.{literal_or_zero, name_of, value_of, clause_number_of, onto, values_of, names_of, clause_numbers_of, labels_of, amounts_of, literals_of, kind_of, status_of, chain_item, chain_of, word_of, witness_of, lemma_item, lemma_of, item_of}
 use Rattle.mono_answer.specs.Printed.{is_literal, is_name, is_value, is_clause_number, is_witness_within, is_step_within}
 
 -- what is there meets the test
@@ -68,29 +67,37 @@ clause_numbers_within : (ts : List (List ℕ)) → IfGiven (list_all is_clause_n
 clause_numbers_within [] = refl
 clause_numbers_within (t ∷ ts) = onto_within is_clause_number (clause_number_of t) (clause_numbers_of ts) (clause_number_within t) (clause_numbers_within ts)
 
+-- pairs of a name and a value, each made into an item that meets the test
+pairs_within : {A : Type 0} (make : ℕ → ℕ → A) (test : A → Bool) → ((n x : ℕ) → IsTrue (is_name n) → IsTrue (is_value x) → IsTrue (test (make n x)))
+    → (n x : Option ℕ) (r : Option (List A)) → IfGiven is_name n → IfGiven is_value x → IfGiven (list_all test) r
+    → IfGiven (list_all test) (option_and_then (λ a. option_and_then (λ b. onto (make a b) r) x) n)
+pairs_within make test each None x r h k m = tt
+pairs_within make test each (Some n) None r h k m = tt
+pairs_within make test each (Some n) (Some x) None h k m = tt
+pairs_within make test each (Some n) (Some x) (Some ps) h k m = and_from (test (make n x)) (list_all test ps) (each n x h k) m
+
+abbrev as_label : ℕ → ℕ → Label
+as_label n x = record { node = n; value = x }
+
+abbrev as_amount : ℕ → ℕ → Amount
+as_amount n x = record { edge = n; amount = x }
+
+both_within : (n x : ℕ) → IsTrue (is_name n) → IsTrue (is_value x) → IsTrue (is_name n && is_value x)
+both_within n x h k = and_from (is_name n) (is_value x) h k
+
 labels_within : (ts : List (List ℕ)) → IfGiven (list_all (λ l. is_name l.node && is_value l.value)) (labels_of ts)
 labels_within [] = refl
 labels_within (t ∷ []) = tt
-labels_within (t ∷ u ∷ ts) = by_parts (name_of t) (value_of u) (labels_of ts) (name_within t) (value_within u) (labels_within ts)
-  where
-    by_parts : (n x : Option ℕ) (r : Option (List Label)) → IfGiven is_name n → IfGiven is_value x → IfGiven (list_all (λ l. is_name l.node && is_value l.value)) r
-        → IfGiven (list_all (λ l. is_name l.node && is_value l.value)) (option_and_then (λ a. option_and_then (λ b. onto (record { node = a; value = b }) r) x) n)
-    by_parts None x r h k m = tt
-    by_parts (Some n) None r h k m = tt
-    by_parts (Some n) (Some x) None h k m = tt
-    by_parts (Some n) (Some x) (Some ls) h k m = and_from (is_name n && is_value x) (list_all (λ l. is_name l.node && is_value l.value) ls) (and_from (is_name n) (is_value x) h k) m
+labels_within (t ∷ u ∷ ts) =
+    pairs_within as_label (λ (l : Label). is_name l.node && is_value l.value) both_within
+    (name_of t) (value_of u) (labels_of ts) (name_within t) (value_within u) (labels_within ts)
 
 amounts_within : (ts : List (List ℕ)) → IfGiven (list_all (λ f. is_name f.edge && is_value f.amount)) (amounts_of ts)
 amounts_within [] = refl
 amounts_within (t ∷ []) = tt
-amounts_within (t ∷ u ∷ ts) = by_parts (name_of t) (value_of u) (amounts_of ts) (name_within t) (value_within u) (amounts_within ts)
-  where
-    by_parts : (n x : Option ℕ) (r : Option (List Amount)) → IfGiven is_name n → IfGiven is_value x → IfGiven (list_all (λ f. is_name f.edge && is_value f.amount)) r
-        → IfGiven (list_all (λ f. is_name f.edge && is_value f.amount)) (option_and_then (λ a. option_and_then (λ b. onto (record { edge = a; amount = b }) r) x) n)
-    by_parts None x r h k m = tt
-    by_parts (Some n) None r h k m = tt
-    by_parts (Some n) (Some x) None h k m = tt
-    by_parts (Some n) (Some x) (Some fs) h k m = and_from (is_name n && is_value x) (list_all (λ f. is_name f.edge && is_value f.amount) fs) (and_from (is_name n) (is_value x) h k) m
+amounts_within (t ∷ u ∷ ts) =
+    pairs_within as_amount (λ (f : Amount). is_name f.edge && is_value f.amount) both_within
+    (name_of t) (value_of u) (amounts_of ts) (name_within t) (value_within u) (amounts_within ts)
 
 -- ---- literals up to the first 0
 
@@ -145,12 +152,12 @@ lemma_within : (w : Word) (ts : List (List ℕ)) → IsWithinItem (lemma_of w ts
 lemma_within w [] = tt
 lemma_within w (t ∷ ts) = by_parts (name_of t) (name_within t) (literals_of ts) (literals_within ts)
   where
-    by_witness : (a : ℕ) (c : List ℤ) → IsTrue (is_name a) → IsTrue (list_all is_literal c) → (o : Option Witness) → IfGiven is_witness_within o → IsWithinItem (option_map (λ x. says.Step (step.Lemma (record { atom = a; clause = c; witness = x }))) o)
+    by_witness : (a : ℕ) (c : List ℤ) → IsTrue (is_name a) → IsTrue (list_all is_literal c) → (o : Option Witness) → IfGiven is_witness_within o → IsWithinItem (option_map (lemma_item a c) o)
     by_witness a c h k None m = tt
     by_witness a c h k (Some x) m = and_from (is_name a && list_all is_literal c) (is_witness_within x) (and_from (is_name a) (list_all is_literal c) h k) m
 
     by_parts : (n : Option ℕ) → IfGiven is_name n → (q : Option (List ℤ × List (List ℕ))) → IfGiven (λ (p : List ℤ × List (List ℕ)). list_all is_literal p.0) q
-        → IsWithinItem (option_and_then (λ a. option_and_then (λ p. option_map (λ x. says.Step (step.Lemma (record { atom = a; clause = p.0; witness = x }))) (witness_of w p.1)) q) n)
+        → IsWithinItem (option_and_then (λ a. option_and_then (λ p. option_map (lemma_item a p.0) (witness_of w p.1)) q) n)
     by_parts None h q k = tt
     by_parts (Some n) h None k = tt
     by_parts (Some n) h (Some p) k = by_witness n p.0 h k (witness_of w p.1) (witness_within w p.1)
@@ -174,7 +181,7 @@ chain_within : (ts : List (List ℕ)) → IsWithinItem (chain_of ts)
 chain_within ts = under _ (λ c h. tt) (λ c u us h. by_numbers c h (clause_numbers_of (u ∷ us)) (clause_numbers_within (u ∷ us)) (some_number u us)) (literals_of ts) (literals_within ts)
   where
     by_numbers : (c : List ℤ) → IsTrue (list_all is_literal c) → (o : Option (List ℕ)) → IfGiven (list_all is_clause_number) o → IfGiven (λ ns. not (length ns == 0)) o
-        → IsWithinItem (option_map (λ ns. says.Step (step.Chain (record { clause = c; used = ns }))) o)
+        → IsWithinItem (option_map (chain_item c) o)
     by_numbers c h None k m = tt
     by_numbers c h (Some ns) k m = and_from (list_all is_literal c && list_all is_clause_number ns) (not (length ns == 0)) (and_from (list_all is_literal c) (list_all is_clause_number ns) h k) m
 

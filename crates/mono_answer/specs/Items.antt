@@ -86,13 +86,17 @@ status_of [] = None
 status_of (t ∷ []) = option_map (λ k. item.Status k) (kind_of t)
 status_of (t ∷ u ∷ ts) = None
 
+-- the chain of a clause that uses the clauses of these numbers
+abbrev pub chain_item : List ℤ → List ℕ → Item
+chain_item c used = item.Step (step.Chain (record { clause = c; used = used }))
+
 -- a clause, and one or more numbers of clauses
 abbrev pub chain_of : List (List ℕ) → Option Item
 chain_of ts = option_and_then used (literals_of ts)
   where
     used : List ℤ × List (List ℕ) → Option Item
     used (c, []) = None
-    used (c, u ∷ us) = option_map (λ ns. item.Step (step.Chain (record { clause = c; used = ns }))) (clause_numbers_of (u ∷ us))
+    used (c, u ∷ us) = option_map (chain_item c) (clause_numbers_of (u ∷ us))
 
 abbrev pub word_of : List ℕ → Option Word
 word_of t =
@@ -121,11 +125,15 @@ witness_of word.Least ts = option_map witness.Least (names_of ts)
 witness_of word.Cycle ts = option_map witness.Cycle (names_of ts)
 witness_of word.Order ts = option_map witness.Order (names_of ts)
 
+-- the lemma on the predicate of this number
+abbrev pub lemma_item : ℕ → List ℤ → Witness → Item
+lemma_item a c x = item.Step (step.Lemma (record { atom = a; clause = c; witness = x }))
+
 -- a predicate's number, a clause and a witness
 abbrev pub lemma_of : Word → List (List ℕ) → Option Item
 lemma_of w [] = None
 lemma_of w (t ∷ ts) =
-    option_and_then (λ a. option_and_then (λ p. option_map (λ x. item.Step (step.Lemma (record { atom = a; clause = p.0; witness = x }))) (witness_of w p.1)) (literals_of ts)) (name_of t)
+    option_and_then (λ a. option_and_then (λ p. option_map (lemma_item a p.0) (witness_of w p.1)) (literals_of ts)) (name_of t)
 
 -- what the line says, or none where the grammar has no such line
 abbrev pub item_of : List (List ℕ) → Option Item
@@ -138,7 +146,7 @@ item_of (t ∷ ts) =
 
 -- ---- lines
 
--- those that are no blank lines and no comments
+-- the lines that are no blank lines and no comments
 abbrev pub spoken : List (ℕ × List ℕ) → List (ℕ × List ℕ)
 spoken lines = filter (λ l. not (is_skipped (tokens_of l.1))) lines
 

@@ -36,7 +36,7 @@ status_line k = codes "s" ∷ kind_text k ∷ []
 abbrev pub literal_of : ℕ → Bool → ℤ
 literal_of n b = if b then pos n else neg_ℤ (pos n)
 
--- those of the variables from n on
+-- the literals that the values of the variables from n on make true
 abbrev pub literals_from : ℕ → List Bool → List ℤ
 literals_from n [] = []
 literals_from n (b ∷ bs) = literal_of n b ∷ literals_from (n + 1) bs

@@ -12,7 +12,9 @@ pub fn printed_answer_is_read()
     ensures { (c : ℕ) (a : Answer) → IsTrue (is_within_format a) → items_of c (answer_text a) ≡ in_lines (answer_items a) }
 {}
 
-/// So are those of its text in either version, which in version 2 begin at line 2, where its chains name earlier clauses.
+/// The items of an answer's printed text in either version are the answer's items, from line 2 on in version 2, for every
+/// answer that is within the format in that version. In version 2 its chains have to name earlier clauses.
 pub fn printed_version_is_read()
-    ensures { (c : ℕ) (a : Answer) (v : Version) → IsTrue (is_within_format_as v c a) → items_of c (answer_text_as a v c) ≡ in_lines_as v (answer_items a) }
+    ensures { (c : ℕ) (a : Answer) (v : Version) → IsTrue (is_within_format_as v c a)
+        → items_of c (answer_text_as a v c) ≡ in_lines_as v (answer_items a) }
 {}

@@ -67,12 +67,20 @@ fn push_clause_numbers(out: &mut Vec<u8>, numbers: &[u64]) -> Result<(), AllocEr
     Ok(())
 }
 
+/// A space and the name, and a space and the value that goes with it.
+fn push_pair(out: &mut Vec<u8>, name: u32, value: u64) -> Result<(), AllocError>
+    ensures { OnOk result (out.new.items ≡ out.old.items ++ behind (decimal name ∷ decimal value ∷ [])) }
+{
+    push_number(out, u64::from(name))?;
+    push_number(out, value)?;
+    Ok(())
+}
+
 fn push_labels(out: &mut Vec<u8>, labels: &[Label]) -> Result<(), AllocError>
     ensures { OnOk result (out.new.items ≡ out.old.items ++ behind (labels_text labels.now)) }
 {
     for label in labels {
-        push_number(out, u64::from(label.node))?;
-        push_number(out, label.value)?;
+        push_pair(out, label.node, label.value)?;
     }
     Ok(())
 }
@@ -81,8 +89,7 @@ fn push_amounts(out: &mut Vec<u8>, amounts: &[Amount]) -> Result<(), AllocError>
     ensures { OnOk result (out.new.items ≡ out.old.items ++ behind (amounts_text amounts.now)) }
 {
     for amount in amounts {
-        push_number(out, u64::from(amount.edge))?;
-        push_number(out, amount.amount)?;
+        push_pair(out, amount.edge, amount.amount)?;
     }
     Ok(())
 }

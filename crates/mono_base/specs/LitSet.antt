@@ -14,7 +14,8 @@ empty_set vars = record { vars = vars; members = [] }
 -- the table says of each member its place plus 1, and of no other literal anything but 0
 pub record IsIndexOf (places : List ℕ) (members : List ℤ) : Type 0 where
   pub listed : (k : ℕ) → k < length members → slice_index_or places (slot (slice_index_or members k (pos 0))) 0 ≡ k + 1
-  pub stands : (i : ℕ) → slice_index_or places i 0 ≢ 0 → (slice_index_or places i 0 ≤ length members) × (slot (slice_index_or members (slice_index_or places i 0 - 1) (pos 0)) ≡ i)
+  pub stands : (i : ℕ) → slice_index_or places i 0 ≢ 0
+      → (slice_index_or places i 0 ≤ length members) × (slot (slice_index_or members (slice_index_or places i 0 - 1) (pos 0)) ≡ i)
 
 -- a sparse set with room for as many members as there are literals
 pub record IsSparse (vars : ℕ) (places : List ℕ) (members : List ℤ) (room : ℕ) : Type 0 where

@@ -2,5 +2,4 @@ pub mod Asked
 pub mod Numbers
 pub mod Optimal
 pub mod Outcomes
-pub mod Signs
 pub mod WorkedBest

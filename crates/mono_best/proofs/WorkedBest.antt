@@ -1,7 +1,8 @@
 -- What is found of the worked problems.
-use Rattle.std.proofs.Common.{◌≡◌, ℕ, zero, suc, ◌+◌, ◌<◌, [], ◌∷◌, length, refl, ap, subst, sym, arith, pos, ◌↔◌}
-use Rattle.std.specs.Prelude.{IsTrue, Option, Some, slice_get, unwrap_or}
+use Rattle.std.proofs.Common.{◌≡◌, ℕ, zero, suc, ◌+◌, ◌<◌, [], ◌∷◌, length, refl, subst, sym, arith, pos, ◌↔◌}
+use Rattle.std.specs.Prelude.{IsTrue, Some, slice_get}
 use Rattle.std.proofs.lemmas.List.Elements.{All-cons, All-nil}
+use Rattle.std.proofs.lemmas.Option.{same_Some}
 use Rattle.mono_base.specs.declared.limits.TheConstants.{MAX_BOUND}
 use Rattle.mono_base.specs.Literal.{value_in}
 use Rattle.mono_graph.specs.Worked.{amount}
@@ -43,15 +44,11 @@ pub all_named : (k : ℕ) → k + 1 < length all_refuted → IsNamedLater 2 all_
 all_named zero lt = record { later = 1; after = omega arith; step = chain [] (3 ∷ 2 ∷ 1 ∷ []); is = refl; names = refl }
 all_named (suc k) lt = absurd (omega (arith, lt))
 
--- a step that stands at a place is no other
-same_step : (s t : Step) → Some s ≡ Some t → s ≡ t
-same_step s t e = ap (λ (o : Option Step). unwrap_or o s) e
-
 pub first_not_named : IsNamedLater 1 four_refuted_twice 0 → ⊥
 first_not_named h = by h.later h.step h.is h.names
   where
     by : (later : ℕ) (s : Step) → slice_get four_refuted_twice later ≡ Some s → IsTrue (names_step 1 s 0) → ⊥
-    by zero s is names = let e = same_step none_of_4 s is in let x = subst (λ (t : Step). IsTrue (names_step 1 t 0)) (sym e) names in cc
-    by (suc zero) s is names = let e = same_step none_of_4 s is in let x = subst (λ (t : Step). IsTrue (names_step 1 t 0)) (sym e) names in cc
-    by (suc (suc zero)) s is names = let e = same_step (chain [] (3 ∷ 1 ∷ [])) s is in let x = subst (λ (t : Step). IsTrue (names_step 1 t 0)) (sym e) names in cc
+    by zero s is names = let e = same_Some none_of_4 s is in let x = subst (λ (t : Step). IsTrue (names_step 1 t 0)) (sym e) names in cc
+    by (suc zero) s is names = let e = same_Some none_of_4 s is in let x = subst (λ (t : Step). IsTrue (names_step 1 t 0)) (sym e) names in cc
+    by (suc (suc zero)) s is names = let e = same_Some (chain [] (3 ∷ 1 ∷ [])) s is in let x = subst (λ (t : Step). IsTrue (names_step 1 t 0)) (sym e) names in cc
     by (suc (suc (suc n))) s is names = cc

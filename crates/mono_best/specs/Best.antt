@@ -1,10 +1,10 @@
 -- The best bound of an atom.
-use Rattle.std.specs.Prelude.{◌≡◌, ℕ, ◌+◌, ◌<◌, ◌≤◌, ◌-◌, ℤ, pos, ◌≤ℤ◌, Bool, false, List, [], length, get_or, Option, Some, None, IsTrue}
+use Rattle.std.specs.Prelude.{◌≡◌, ℕ, ◌+◌, ◌<◌, ◌≤◌, ◌-◌, ℤ, pos, ◌≤ℤ◌, Bool, List, [], length, Option, Some, None, IsTrue}
 use Rattle.mono_base.specs.declared.limits.TheConstants.{MAX_BOUND}
 use Rattle.mono_problem.specs.Instance.{Instance}
 use Rattle.mono_steps.specs.declared.step.Step.{Step}
-use Rattle.mono_steps.specs.Switching.{literal_of}
 use Rattle.mono_search.specs.Outcomes.{HasModel}
+use Rattle.mono_search.specs.Signs.{AreSigns}
 use Rattle.mono_steps.specs.Trimmed.{IsTrimRefutation}
 use Rattle.mono_steps.specs.New.{IsProgress}
 use Rattle.mono_best.specs.Asking.{asking, predicate_of}
@@ -40,11 +40,6 @@ IsOutcome p n budget (outcome.Beyond model) = IsBeyond p n model
 IsOutcome p n budget (outcome.Unknown b steps) = IsOpen p n budget b steps
 
 -- ---- on the way. Bounds are told by their numbers: that of the weakest is 0
-
--- the literals of the first n variables that are true in the model, variable 1 first
-pub record AreSigns (model : List Bool) (n : ℕ) (lits : List ℤ) : Type 0 where
-  pub count : length lits ≡ n
-  pub each : (k : ℕ) → k < n → get_or lits k (pos 0) ≡ literal_of (get_or model k false) (k + 1)
 
 -- the literals that are true in the last model, if there is one
 abbrev pub AreSignsOf : Option (List Bool) → List ℤ → Type 0

@@ -8,20 +8,13 @@ use Rattle.mono_problem.specs.WellFormed.{IsMost, IsLeast}
 -- the predicate has a bound
 abbrev pub has_bound : Predicate → Bool
 has_bound (kind.Reach u v) = false
-has_bound (kind.Steps u v most) = true
-has_bound (kind.Distance u v most) = true
-has_bound (kind.Flow s t least) = true
-has_bound (kind.Tree most) = true
 has_bound kind.Acyclic = false
+has_bound q = true
 
 -- its bound is one that a value has to reach. Each other bound is one that a value must not pass
 abbrev pub is_flow : Predicate → Bool
-is_flow (kind.Reach u v) = false
-is_flow (kind.Steps u v most) = false
-is_flow (kind.Distance u v most) = false
 is_flow (kind.Flow s t least) = true
-is_flow (kind.Tree most) = false
-is_flow kind.Acyclic = false
+is_flow q = false
 
 -- the predicate with another bound
 abbrev pub with_bound : Predicate → ℤ → Predicate

@@ -19,13 +19,16 @@ distance_to_2 n x most = record { number = n; graph = 0; var = x; predicate = ki
 abbrev pub weighed : List (List ℤ) → Instance
 weighed cs = record { vars = 5; graphs = (0, pipe 3 2) ∷ []; atoms = distance_to_2 1 5 (pos 9) ∷ []; clauses = cs }
 
--- the same over edges of the weights 2^53 + 1 and 0
+-- over edges of the weights 2^53 + 1 and 0, without a clause
 abbrev pub heavy : Instance
 heavy = record (weighed []) { graphs = (0, pipe (MAX_BOUND + 1) 0) ∷ [] }
 
 -- over these edges, of the weight 2^53 + 1 each, variable 5 stands for a flow of at least 1 from node 0 to node 2
 abbrev pub wide : Instance
-wide = record (weighed []) { graphs = (0, pipe (MAX_BOUND + 1) (MAX_BOUND + 1)) ∷ []; atoms = record { number = 1; graph = 0; var = 5; predicate = kind.Flow 0 2 (pos 1) } ∷ [] }
+wide = record (weighed []) {
+  graphs = (0, pipe (MAX_BOUND + 1) (MAX_BOUND + 1)) ∷ [];
+  atoms = record { number = 1; graph = 0; var = 5; predicate = kind.Flow 0 2 (pos 1) } ∷ [];
+}
 
 -- both edges are there, and variable 6 is true
 abbrev pub both_there : List Bool
@@ -42,7 +45,7 @@ none_of_4 = step.Lemma (record { atom = 2; clause = minus 6 ∷ []; witness = by
 abbrev pub four_refuted : List Step
 four_refuted = none_of_4 ∷ chain [] (2 ∷ 1 ∷ []) ∷ []
 
--- the same with a lemma that nothing names
+-- the lemma twice, of which the chain names the second alone
 abbrev pub four_refuted_twice : List Step
 four_refuted_twice = none_of_4 ∷ none_of_4 ∷ chain [] (3 ∷ 1 ∷ []) ∷ []
 

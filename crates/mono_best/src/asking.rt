@@ -55,9 +55,7 @@ pub fn ask(problem: &Problem, atom: u32, bound: i64) -> Result<Problem, AllocErr
     let asked = problem.atom(atom);
     let mut draft = Draft::of_problem(problem)?;
     draft.add_atom(asked.graph, var, with_bound(asked.predicate, bound))?;
-    match Lit::new(var as i32) {
-        Some(lit) => draft.add_clause(&[lit])?,
-        None => unreachable!(),
-    };
+    let lit = Lit::of(var, true);
+    draft.add_clause(&[lit])?;
     draft.finish()
 }

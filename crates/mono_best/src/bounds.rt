@@ -13,28 +13,14 @@ pub(crate) const LAST: u64 = MAX_BOUND + 1;
 pub(crate) fn has_bound(predicate: Predicate) -> bool
     ensures { result ≡ has_bound_of predicate }
 {
-    match predicate {
-        Predicate::Reach { .. } => false,
-        Predicate::Steps { .. } => true,
-        Predicate::Distance { .. } => true,
-        Predicate::Flow { .. } => true,
-        Predicate::Tree { .. } => true,
-        Predicate::Acyclic => false,
-    }
+    !matches!(predicate, Predicate::Reach { .. } | Predicate::Acyclic)
 }
 
 /// Whether its bound is one that a value has to reach. Each other bound is one that a value must not pass.
 pub(crate) fn is_flow(predicate: Predicate) -> bool
     ensures { result ≡ is_flow_of predicate }
 {
-    match predicate {
-        Predicate::Reach { .. } => false,
-        Predicate::Steps { .. } => false,
-        Predicate::Distance { .. } => false,
-        Predicate::Flow { .. } => true,
-        Predicate::Tree { .. } => false,
-        Predicate::Acyclic => false,
-    }
+    matches!(predicate, Predicate::Flow { .. })
 }
 
 /// The predicate with another bound.

@@ -11,10 +11,11 @@ ghost use Rattle.mono_best.specs.Best.{IsOutcome, IsMetBefore};
 
 use crate::bounds::{LAST, bound_at};
 use crate::outcome::BestOutcome;
-use crate::questions::{Reply, question, signs_of};
+use crate::questions::{Reply, question};
 use mono_base::Row;
 use mono_base::limits::MAX_BOUND;
 use mono_problem::Problem;
+use mono_search::signs_of;
 use mono_steps::Step;
 use mono_theory::Theory;
 use std::alloc::{AllocError, Global};

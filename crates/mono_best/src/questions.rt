@@ -7,19 +7,19 @@ ghost use Rattle.mono_search.specs.Outcomes.{HasModel};
 ghost use Rattle.mono_search.specs.Solving.{MakesTheories, IsSolved};
 ghost use Rattle.mono_best.specs.Asking.{asking, predicate_of, HasBoundedAtom, HasRoomToAsk};
 ghost use Rattle.mono_best.specs.Bounds.{bound_at as bound_of};
-ghost use Rattle.mono_best.specs.Best.{AreSigns, IsReply};
+ghost use Rattle.mono_best.specs.Best.{IsReply};
 ghost use Rattle.mono_best.specs.Met.{IsMetFrom};
 
 use crate::asking::ask;
 use crate::bounds::bound_at;
 use crate::measuring::number_in;
-use mono_base::limits::{MAX_BOUND, MAX_VARS};
+use mono_base::limits::MAX_BOUND;
 use mono_base::{Lit, Row};
 use mono_graph::enabled_edges;
 use mono_problem::Problem;
 use mono_search::{Solved, solve_preferring};
 use mono_steps::Step;
-use mono_theory::{Theory, literal};
+use mono_theory::Theory;
 use std::alloc::{AllocError, Global};
 
 /// What a question for the bound of a number comes to.
@@ -31,19 +31,6 @@ pub(crate) enum Reply {
     Refuted(Row<Step>),
     /// The budget was spent.
     Spent(Row<Step>),
-}
-
-/// The literals that are true in a model, variable 1 first.
-pub(crate) fn signs_of(alloc: Global, model: &[bool]) -> Result<Vec<Lit>, AllocError>
-    requires { length model.now ≤ MAX_VARS }
-    ensures within { IfOk result (λ lits. All (IsLitWithin (length model.now)) lits.items) }
-    ensures signs { IfOk result (λ lits. AreSigns model.now (length model.now) lits.items) }
-{
-    let mut lits = Vec::new(alloc);
-    for place in 0..model.len() {
-        lits.push(literal(place as u32 + 1, model[place]))?;
-    }
-    Ok(lits)
 }
 
 /// Solves the problem that asks for the bound of a number.

@@ -33,14 +33,10 @@ use Rattle.mono_check.specs.Answers.{step_item, HasSteps, HasModel}
 use Rattle.mono_check.proofs.AllTrue.{none_false}
 use Rattle.mono_check.proofs.ValueRows.{one_each, as_test, enough, no_end}
 use Rattle.mono_check.proofs.ModelText.{to_faultless, from_faultless, to_rows, from_rows}
-use Rattle.mono_check.proofs.SeenMore.{clauses_push, ended_by_line, unmapped}
+use Rattle.mono_check.proofs.SeenMore.{clauses_push, ended_by_line, unmapped, both_none}
 use Rattle.mono_check.proofs.WrongAtoms.{wrong_disagrees, same_wrong}
 
 -- ---- steps without a fault
-
-neither : {A : Type 0} (o q : Option A) → option_or o q ≡ None → (o ≡ None) × (q ≡ None)
-neither None q h = (refl, h)
-neither (Some x) q h = absurd cc
 
 -- the lines are those of the steps
 abbrev AreStepLines : List (ℕ × Option Item) → List Step → Type 0
@@ -73,7 +69,7 @@ justified_lines p before ((n, i) ∷ ls) small h = by_item i small.0 h (λ s k. 
     by_item (Some (says.Status k)) m e later = absurd cc
     by_item (Some (says.Values zs)) m e later = absurd cc
     by_item (Some (says.Step s)) m e later =
-        let a = neither (option_map (λ (r : Reason). (n, r)) (option_map reason_of (step_fault p (p.clauses ++ clauses_in before) s))) (first_fault (steps_line_fault p) (before ++ (n, Some (says.Step s)) ∷ []) ls) e in
+        let a = both_none (option_map (λ (r : Reason). (n, r)) (option_map reason_of (step_fault p (p.clauses ++ clauses_in before) s))) (first_fault (steps_line_fault p) (before ++ (n, Some (says.Step s)) ∷ []) ls) e in
         let none = unmapped reason_of (step_fault p (p.clauses ++ clauses_in before) s) (unmapped (λ (r : Reason). (n, r)) (option_map reason_of (step_fault p (p.clauses ++ clauses_in before) s)) a.0) in
         let rest = later s a.1 in
         record {

@@ -7,12 +7,12 @@ use Rattle.std.specs.List.{IsDistinct, AllByRecursion, range_with_len}
 use Rattle.std.proofs.lemmas.Bool.{and_parts, and_from, or_cases, or_left, or_right, both_ways, false_from_ne_true}
 use Rattle.std.proofs.lemmas.List.Folds.{list_any-append}
 use Rattle.std.proofs.Math.Path.{fun_ext}
-use Rattle.mono_base.specs.Literal.{has_lit, var_of, is_lit}
+use Rattle.mono_base.specs.Literal.{has_lit, var_of}
 use Rattle.mono_base.specs.LitSet.{LiteralSet}
 use Rattle.mono_base.specs.Partial.{has_var, is_partial}
 use Rattle.mono_base.proofs.Truth.{same_lit, lit_itself}
 use Rattle.mono_base.proofs.Members.{same_length}
-use Rattle.mono_base.proofs.Partials.{joined, join, has_either, one_sign}
+use Rattle.mono_base.proofs.Partials.{join, has_either, one_sign}
 use Rattle.mono_problem.specs.Instance.{Instance}
 use Rattle.mono_steps.specs.ChainSteps.{names_vars}
 use Rattle.mono_answer.specs.declared.item.Item.{Item}
@@ -23,6 +23,7 @@ use Rattle.mono_check.specs.Values.{are_values, literals_among, has_end, passes_
 use Rattle.mono_check.specs.Seen.{AreMembers, AreValuesAfter, AreValuesKept, is_new, model_kept}
 use Rattle.mono_check.specs.SoFar.{ModelSoFar, or_fault, model_behind, model_more}
 use Rattle.mono_check.specs.Verdicts.{ended_outcome}
+use Rattle.mono_steps.proofs.LeftOpen.{is_lit_in}
 use Rattle.mono_check.proofs.Literals.{is_known, new_fits, no_more_values, distinct_lits}
 use Rattle.mono_check.proofs.ValueFaults.{told}
 
@@ -132,15 +133,6 @@ names_members p lits [] h k = refl
 names_members p lits (l ∷ t) h k =
     and_from (is_known p l) (names_vars p t) (names_known p lits l h (k l (or_left (int_eq l l) (has_lit t l) (lit_itself l)))) (names_members p lits t h (λ m there. k m (or_right (int_eq m l) (has_lit t m) there)))
 
-partial_lit : (lits : List ℤ) (m : ℤ) → IsTrue (is_partial lits) → IsTrue (has_lit lits m) → IsTrue (is_lit m)
-partial_lit [] m h k = absurd cc
-partial_lit (l ∷ t) m h k =
-    let j = joined l t h in
-    elim (or_cases (int_eq m l) (has_lit t m) k) [
-      | inl here ↦ subst (λ (x : ℤ). IsTrue (is_lit x)) (sym (same_lit m l here)) j.lit
-      | inr later ↦ partial_lit t m j.rest later
-    ]
-
 not_later : (l : ℤ) (t : List ℤ) → AllByRecursion (λ (y : ℤ). int_eq l y ≡ false) t → has_lit t l ≡ false
 not_later l [] h = refl
 not_later l (m ∷ t) h = ap (λ (x : Bool). x || has_lit t l) h.0 ∙ not_later l t h.1
@@ -151,7 +143,7 @@ members_partial lits [] h d k = refl
 members_partial lits (l ∷ t) h d k =
     let here : IsTrue (has_lit lits l) = k l (or_left (int_eq l l) (has_lit t l) (lit_itself l)) in
     join l t (record {
-      lit = partial_lit lits l h here;
+      lit = is_lit_in lits l h here;
       new = false_from_ne_true (has_var t (var_of l)) (λ v. elim (has_either t l v) [
         | inl same ↦ both_ways (has_lit t l) (not_later l t d.0) same
         | inr other ↦ one_sign lits l h here (k (neg_ℤ l) (or_right (int_eq (neg_ℤ l) l) (has_lit t (neg_ℤ l)) other))

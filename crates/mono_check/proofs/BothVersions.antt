@@ -1,87 +1,24 @@
 -- What the lines of an answer's printed texts come to in both versions, whatever their numbers are.
-use Rattle.std.proofs.Common.{◌≡◌, ℕ, ◌+◌, ◌-◌, ◌<◌, ◌≤◌, ◌^◌, Bool, true, false, cond, not, ◌&&◌, List, [], ◌∷◌, ◌++◌, length, map, flat_map, Option, Some, None, option_map, decimal, refl, sym, ap, subst, ◌∙◌, arith}
-use Rattle.std.specs.Prelude.{IsTrue, ℤ, nat_le, nat_lt, if◌then◌else◌, option_and_then}
-use Rattle.std.specs.List.{list_all, enumerate_from}
+use Rattle.std.proofs.Common.{◌≡◌, ℕ, ◌+◌, ◌-◌, ◌<◌, ◌≤◌, ◌^◌, Bool, true, false, ◌&&◌, List, [], ◌∷◌, ◌++◌, length, map, Option, Some, None, option_map, decimal, refl, sym, ap, ◌∙◌, arith}
+use Rattle.std.specs.Prelude.{IsTrue, ℤ, nat_le, nat_lt, option_and_then}
+use Rattle.std.specs.List.{list_all}
 use Rattle.std.proofs.lemmas.Bool.{and_parts, and_from, ltb-true, leb-true, le-leb}
-use Rattle.mono_text.specs.Text.{is_skipped, lines_of, tokens_of, spaced}
-use Rattle.mono_text.proofs.Spaced.{AreTokenLines, token_lines-spaced}
 use Rattle.mono_problem.specs.Instance.{Instance}
 use Rattle.mono_steps.specs.declared.lemma.Witness.{Witness}
-use Rattle.mono_steps.specs.declared.lemma.Witness.TheVariants as witness
 use Rattle.mono_steps.specs.declared.step.Step.{Step}
 use Rattle.mono_steps.specs.declared.step.Step.TheVariants as step
 use Rattle.mono_answer.specs.declared.item.Item.{Item}
 use Rattle.mono_answer.specs.declared.item.Item.TheVariants as says
 use Rattle.mono_answer.specs.declared.version.Version.TheVariants as version
-use Rattle.mono_answer.specs.Items.{item_of, items_in, items_of, spoken, said_in, answer_said_in, name_of, literals_of, witness_of}
-use Rattle.mono_answer.specs.Versions.{is_version_two, items_by, turned_numbers, turned, turned_steps, names_earlier, all_name_earlier}
+use Rattle.mono_answer.specs.Items.{item_of, lemma_item, name_of, literals_of, witness_of}
+use Rattle.mono_answer.specs.Versions.{items_by, turned_numbers, turned, turned_steps, names_earlier, all_name_earlier}
 use Rattle.mono_answer.specs.Printed.{numbers_text, with_zero, word_for, word_text, witness_text, step_line, is_literal, is_clause_number}
-use Rattle.mono_answer.proofs.ReadBack.{literals_read, clause_numbers_read}
-use Rattle.mono_answer.proofs.RoundTrip.{turned_twice}
+use Rattle.mono_answer.proofs.KeptLines.{items_from, word_line}
+use Rattle.mono_answer.proofs.ReadBack.{literals_read}
+use Rattle.mono_answer.proofs.RoundTrip.{chain_said, turned_twice}
 use Rattle.mono_check.specs.Migrations.{has_literals}
 use Rattle.mono_check.specs.SoFar.{StepsSoFar, or_fault, steps_behind, steps_more}
 use Rattle.mono_check.specs.StepLines.{step_line_fault}
-
--- ---- what lines of tokens say that are neither blank nor comments
-
-abbrev pub AreKept : List (List (List ℕ)) → Type 0
-AreKept [] = Unit {0}
-AreKept (l ∷ ls) = (is_skipped l ≡ false) × AreKept ls
-
--- what each of the lines says, from line n on
-abbrev pub items_from : ℕ → List (List (List ℕ)) → List (ℕ × Option Item)
-items_from n ls = enumerate_from n (map item_of ls)
-
-kept_said : (n : ℕ) (xs : List (List ℕ)) → AreKept (map tokens_of xs) → items_in (enumerate_from n xs) ≡ items_from n (map tokens_of xs)
-kept_said n [] h = refl
-kept_said n (x ∷ xs) h = by_test (is_skipped (tokens_of x)) h.0 (kept_said (n + 1) xs h.1)
-  where
-    by_test : (b : Bool) → b ≡ false → items_in (enumerate_from (n + 1) xs) ≡ items_from (n + 1) (map tokens_of xs)
-        → said_in (cond (not b) ((n, x) ∷ spoken (enumerate_from (n + 1) xs)) (spoken (enumerate_from (n + 1) xs))) ≡ (n, item_of (tokens_of x)) ∷ items_from (n + 1) (map tokens_of xs)
-    by_test true e h = absurd cc
-    by_test false e h = ap (λ (is : List (ℕ × Option Item)). (n, item_of (tokens_of x)) ∷ is) h
-
--- the items of an answer to a problem of c clauses
-abbrev pub answer_from : ℕ → List (List (List ℕ)) → List (ℕ × Option Item)
-answer_from c [] = []
-answer_from c (l ∷ ls) = if is_version_two l then items_by version.Two (c + 1) (items_from 2 ls) else (1, item_of l) ∷ items_from 2 ls
-
-kept_answer : (c : ℕ) (xs : List (List ℕ)) → AreKept (map tokens_of xs) → answer_said_in c (spoken (enumerate_from 1 xs)) ≡ answer_from c (map tokens_of xs)
-kept_answer c [] h = refl
-kept_answer c (x ∷ xs) h = by_test (is_skipped (tokens_of x)) h.0 (kept_said 2 xs h.1)
-  where
-    by_test : (b : Bool) → b ≡ false → items_in (enumerate_from 2 xs) ≡ items_from 2 (map tokens_of xs)
-        → answer_said_in c (cond (not b) ((1, x) ∷ spoken (enumerate_from 2 xs)) (spoken (enumerate_from 2 xs)))
-        ≡ (if is_version_two (tokens_of x) then items_by version.Two (c + 1) (items_from 2 (map tokens_of xs)) else (1, item_of (tokens_of x)) ∷ items_from 2 (map tokens_of xs))
-    by_test true e h = absurd cc
-    by_test false e h = ap (λ (is : List (ℕ × Option Item)). if is_version_two (tokens_of x) then items_by version.Two (c + 1) is else (1, item_of (tokens_of x)) ∷ is) h
-
-pub text_from : (c : ℕ) (ls : List (List (List ℕ))) → AreTokenLines ls → AreKept ls → items_of c (flat_map spaced ls) ≡ answer_from c ls
-text_from c ls tokens kept =
-    let is : map tokens_of (lines_of (flat_map spaced ls)) ≡ ls = token_lines-spaced ls tokens in
-    kept_answer c (lines_of (flat_map spaced ls)) (subst AreKept (sym is) kept) ∙ ap (answer_from c) is
-
--- ---- lines of steps are kept
-
-word_kept : (x : Witness) (ts : List (List ℕ)) → is_skipped (word_text (word_for x) ∷ ts) ≡ false
-word_kept (witness.Path ks) ts = refl
-word_kept (witness.Cut ks) ts = refl
-word_kept (witness.Label ks) ts = refl
-word_kept (witness.Flow ks) ts = refl
-word_kept (witness.FlowCut ks) ts = refl
-word_kept (witness.Tree ks) ts = refl
-word_kept (witness.Split ks) ts = refl
-word_kept (witness.Least ks) ts = refl
-word_kept (witness.Cycle ks) ts = refl
-word_kept (witness.Order ks) ts = refl
-
-step_kept : (s : Step) → is_skipped (step_line s) ≡ false
-step_kept (step.Lemma l) = word_kept l.witness (decimal l.atom ∷ (numbers_text (with_zero l.clause) ++ witness_text l.witness))
-step_kept (step.Chain c) = refl
-
-pub steps_kept : (ss : List Step) → AreKept (map step_line ss)
-steps_kept [] = tt
-steps_kept (s ∷ ss) = (step_kept s, steps_kept ss)
 
 -- ---- a lemma's line says a lemma, or nothing
 
@@ -92,32 +29,22 @@ is_no_chain (Some (says.Step (step.Chain c))) = false
 is_no_chain (Some (says.Status k)) = false
 is_no_chain (Some (says.Values zs)) = false
 
-abbrev lemma_by : ℕ → List ℤ → Option Witness → Option Item
-lemma_by a c o = option_map (λ x. says.Step (step.Lemma (record { atom = a; clause = c; witness = x }))) o
-
-by_witness : (a : ℕ) (c : List ℤ) (o : Option Witness) → is_no_chain (lemma_by a c o) ≡ true
+by_witness : (a : ℕ) (c : List ℤ) (o : Option Witness) → is_no_chain (option_map (lemma_item a c) o) ≡ true
 by_witness a c None = refl
 by_witness a c (Some x) = refl
 
-by_literals : (f : List (List ℕ) → Option Witness) (a : ℕ) (o : Option (List ℤ × List (List ℕ))) → is_no_chain (option_and_then (λ p. lemma_by a p.0 (f p.1)) o) ≡ true
+by_literals : (f : List (List ℕ) → Option Witness) (a : ℕ) (o : Option (List ℤ × List (List ℕ)))
+    → is_no_chain (option_and_then (λ p. option_map (lemma_item a p.0) (f p.1)) o) ≡ true
 by_literals f a None = refl
 by_literals f a (Some p) = by_witness a p.0 (f p.1)
 
-by_atom : (f : List (List ℕ) → Option Witness) (ts : List (List ℕ)) (o : Option ℕ) → is_no_chain (option_and_then (λ a. option_and_then (λ p. lemma_by a p.0 (f p.1)) (literals_of ts)) o) ≡ true
+by_atom : (f : List (List ℕ) → Option Witness) (ts : List (List ℕ)) (o : Option ℕ)
+    → is_no_chain (option_and_then (λ a. option_and_then (λ p. option_map (lemma_item a p.0) (f p.1)) (literals_of ts)) o) ≡ true
 by_atom f ts None = refl
 by_atom f ts (Some a) = by_literals f a (literals_of ts)
 
 word_no_chain : (x : Witness) (t : List ℕ) (ts : List (List ℕ)) → is_no_chain (item_of (word_text (word_for x) ∷ t ∷ ts)) ≡ true
-word_no_chain (witness.Path ks) t ts = by_atom (witness_of (word_for (witness.Path ks))) ts (name_of t)
-word_no_chain (witness.Cut ks) t ts = by_atom (witness_of (word_for (witness.Cut ks))) ts (name_of t)
-word_no_chain (witness.Label ks) t ts = by_atom (witness_of (word_for (witness.Label ks))) ts (name_of t)
-word_no_chain (witness.Flow ks) t ts = by_atom (witness_of (word_for (witness.Flow ks))) ts (name_of t)
-word_no_chain (witness.FlowCut ks) t ts = by_atom (witness_of (word_for (witness.FlowCut ks))) ts (name_of t)
-word_no_chain (witness.Tree ks) t ts = by_atom (witness_of (word_for (witness.Tree ks))) ts (name_of t)
-word_no_chain (witness.Split ks) t ts = by_atom (witness_of (word_for (witness.Split ks))) ts (name_of t)
-word_no_chain (witness.Least ks) t ts = by_atom (witness_of (word_for (witness.Least ks))) ts (name_of t)
-word_no_chain (witness.Cycle ks) t ts = by_atom (witness_of (word_for (witness.Cycle ks))) ts (name_of t)
-word_no_chain (witness.Order ks) t ts = by_atom (witness_of (word_for (witness.Order ks))) ts (name_of t)
+word_no_chain x t ts = ap is_no_chain (word_line (word_for x) (t ∷ ts)).1 ∙ by_atom (witness_of (word_for x)) ts (name_of t)
 
 -- ---- steps come to the same, told in either version
 
@@ -149,11 +76,6 @@ turned_first p refutes m n a b s t xs ys first second same h = λ k.
 
 chain_none : (c : List ℤ) → IsTrue (list_all is_literal c) → item_of (step_line (step.Chain (record { clause = c; used = [] }))) ≡ None
 chain_none c lits = rw (literals_read c [] lits) refl
-
-chain_said : (c : List ℤ) (u : ℕ) (us : List ℕ) → IsTrue (list_all is_literal c) → IsTrue (list_all is_clause_number (u ∷ us))
-    → item_of (step_line (step.Chain (record { clause = c; used = u ∷ us }))) ≡ Some (says.Step (step.Chain (record { clause = c; used = u ∷ us })))
-chain_said c u us lits numbers =
-    rw (literals_read c (map decimal (u ∷ us)) lits) (ap (option_map (λ (ns : List ℕ). says.Step (step.Chain (record { clause = c; used = ns })))) (clause_numbers_read (u ∷ us) numbers))
 
 earlier_within : (m : ℕ) (ds : List ℕ) → m ≤ 2 ^ 64 → IsTrue (list_all (λ d. nat_le 1 d && nat_lt d m) ds) → IsTrue (list_all is_clause_number ds)
 earlier_within m [] few h = refl

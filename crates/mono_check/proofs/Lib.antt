@@ -15,7 +15,6 @@ pub mod ModelText
 pub mod Accepted
 mod Questions
 pub mod HeldSteps
-pub mod Tokens
 pub mod BothVersions
 pub mod Shifted
 pub mod Stands

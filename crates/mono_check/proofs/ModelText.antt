@@ -12,7 +12,7 @@ use Rattle.mono_check.specs.declared.reason.Reason.TheVariants as reason
 use Rattle.mono_check.specs.Lines.{first_fault}
 use Rattle.mono_check.specs.Values.{are_values, is_end, literals_among, has_end, goes_on, passes_end, value_fault, model_line_fault, lits_in, ends_in, literals_in, has_ended}
 use Rattle.mono_check.specs.Answers.{values_item}
-use Rattle.mono_check.proofs.SeenMore.{literals_more, unmapped}
+use Rattle.mono_check.proofs.SeenMore.{literals_more, unmapped, both_none}
 use Rattle.mono_check.proofs.ValueFaults.{no_fault}
 use Rattle.mono_check.proofs.ValueRows.{IsOpenRow, IsLastRow, IsFront, IsWhole, row_shape, open_stops, last_ends, last_among, last_stops, split_row, none_among, values-front}
 
@@ -22,10 +22,6 @@ use Rattle.mono_check.proofs.ValueRows.{IsOpenRow, IsLastRow, IsFront, IsWhole, 
 abbrev pub AreFaultless : Instance → List ℤ → Bool → List (ℕ × Option Item) → Type 0
 AreFaultless p lits ended [] = Unit {0}
 AreFaultless p lits ended (l ∷ ls) = (value_fault p lits ended l.1 ≡ None) × AreFaultless p (lits ++ lits_in l.1) (ended || ends_in l.1) ls
-
-both_none : {A : Type 0} (o q : Option A) → option_or o q ≡ None → (o ≡ None) × (q ≡ None)
-both_none None q h = (refl, h)
-both_none (Some x) q h = absurd cc
 
 ended_more : (before : List (ℕ × Option Item)) (n : ℕ) (i : Option Item) → (has_ended before || ends_in i) ≡ has_ended (before ++ (n, i) ∷ [])
 ended_more before n i = ap (λ (b : Bool). has_ended before || b) (or_none (ends_in i)) ∙ sym (list_any-append (λ (l : ℕ × Option Item). ends_in l.1) before ((n, i) ∷ []))

@@ -1,14 +1,14 @@
 -- What the checker keeps, behind one more line.
-use Rattle.std.proofs.Common.{◌≡◌, ℕ, ◌+◌, ◌≤◌, Bool, true, false, not, ◌&&◌, ◌||◌, List, [], ◌∷◌, ◌++◌, map, filter, find, length, Option, Some, None, option_map, refl, sym, ap, subst, ◌∙◌, All, ℤ, is_some, append-nil, length-append, arith}
-use Rattle.std.specs.Prelude.{IsTrue, nat_le, unwrap_or, if◌then◌else◌}
+use Rattle.std.proofs.Common.{◌≡◌, ℕ, ◌+◌, ◌≤◌, Bool, true, false, not, ◌&&◌, ◌||◌, List, [], ◌∷◌, ◌++◌, map, find, length, Option, Some, None, option_map, refl, sym, ap, subst, ◌∙◌, All, ℤ, is_some, append-nil, length-append, arith}
+use Rattle.std.specs.Prelude.{IsTrue, unwrap_or, if◌then◌else◌}
 use Rattle.std.specs.List.{last_or}
 use Rattle.std.specs.Option.{option_or}
-use Rattle.std.proofs.lemmas.Bool.{and_parts, leb-true}
+use Rattle.std.proofs.lemmas.Bool.{and_parts}
 use Rattle.std.proofs.lemmas.List.{map-append}
 use Rattle.std.proofs.lemmas.List.Concat.{flat_map-append}
-use Rattle.std.proofs.lemmas.List.Elements.{filter-append, filter_map-append, All-cons, All-nil, All-push}
+use Rattle.std.proofs.lemmas.List.Elements.{filter_map-append, All-push}
 use Rattle.std.proofs.lemmas.List.Folds.{find-append}
-use Rattle.mono_base.specs.Literal.{var_of, IsLitWithin}
+use Rattle.mono_base.specs.Literal.{IsLitWithin}
 use Rattle.mono_problem.specs.declared.atom.Atom.{Atom}
 use Rattle.mono_problem.specs.Instance.{Instance, graph_at, numbered}
 use Rattle.mono_steps.specs.declared.fault.StepFault.{StepFault}
@@ -28,7 +28,8 @@ use Rattle.mono_check.specs.declared.step_lines.StepLines.{StepLines}
 use Rattle.mono_check.specs.Values.{lits_in, ends_in, literals_in, has_ended, end_line}
 use Rattle.mono_check.specs.StepLines.{step_line_fault, reason_of, clauses_in, steps_in, step_in, is_chain}
 use Rattle.mono_steps.specs.Journals.{chain_count}
-use Rattle.mono_steps.proofs.JournalSteps.{chains-lemmas, count-chain}
+use Rattle.mono_steps.proofs.StepVars.{vars_within}
+use Rattle.mono_steps.proofs.JournalSteps.{ends-last, chains-lemmas, count-chain}
 use Rattle.mono_check.specs.Lines.{last_of, last_line}
 use Rattle.mono_check.specs.Seen.{AreStepsAfter, AreStepsKept, steps_kept}
 use Rattle.mono_check.specs.SoFar.{ModelSoFar, StepsSoFar, model_more, steps_more}
@@ -36,6 +37,10 @@ use Rattle.mono_check.specs.SoFar.{ModelSoFar, StepsSoFar, model_more, steps_mor
 pub unmapped : {A B : Type 0} (f : A → B) (o : Option A) → option_map f o ≡ None → o ≡ None
 unmapped f None h = refl
 unmapped f (Some x) h = absurd cc
+
+pub both_none : {A : Type 0} (o q : Option A) → option_or o q ≡ None → (o ≡ None) × (q ≡ None)
+both_none None q h = (refl, h)
+both_none (Some x) q h = absurd cc
 
 last_push : (xs : List ℕ) (o : Option ℕ) (n : ℕ) → last_or o (xs ++ n ∷ []) ≡ Some n
 last_push [] o n = refl
@@ -67,11 +72,6 @@ ended_by_line (l ∷ ls) = by_head (ends_in l.1) (ended_by_line ls)
 
 -- ---- the lines of steps
 
-ends_push : (ss : List Step) (s : Step) → ends_empty (ss ++ s ∷ []) ≡ is_empty_chain s
-ends_push [] s = refl
-ends_push (r ∷ []) s = refl
-ends_push (r ∷ t ∷ ss) s = ends_push (t ∷ ss) s
-
 steps_push : (before : List (ℕ × Option Item)) (n : ℕ) (s : Step) → steps_in (before ++ (n, Some (says.Step s)) ∷ []) ≡ steps_in before ++ s ∷ []
 steps_push before n s = filter_map-append (λ (l : ℕ × Option Item). step_in l.1) before ((n, Some (says.Step s)) ∷ [])
 
@@ -85,13 +85,6 @@ count_push ss (step.Chain c) = sym (count-chain ss c)
 few_more : (b : Bool) (k n : ℕ) → k ≤ n → (if b then k + 1 else k) ≤ n + 1
 few_more true k n h = omega arith
 few_more false k n h = omega arith
-
-pub all_within : (p : Instance) (c : List ℤ) → IsTrue (names_vars p c) → All (IsLitWithin p.vars) c
-all_within p [] h = All-nil (IsLitWithin p.vars)
-all_within p (l ∷ c) h =
-    let a = and_parts (nat_le 1 (var_of l) && nat_le (var_of l) p.vars) (names_vars p c) h in
-    let b = and_parts (nat_le 1 (var_of l)) (nat_le (var_of l) p.vars) a.0 in
-    All-cons (IsLitWithin p.vars) l c (leb-true 1 (var_of l) b.0, leb-true (var_of l) p.vars b.1) (all_within p c a.1)
 
 second_passes : (a v k c d : Bool) → first_failed ((a, fault.WrongKind) ∷ (not v || not k, fault.UnknownNumber) ∷ (c, fault.WitnessFails) ∷ (d, fault.MissingLiteral) ∷ []) ≡ None → IsTrue v
 second_passes true v k c d h = absurd cc
@@ -121,7 +114,7 @@ steps_stay p s after n r kept h k =
     let longer : length after.earlier.items ≡ length s.earlier.items + 1 = ap length k.earlier ∙ length-append s.earlier.items (clause_of r ∷ []) in
     record {
       size = k.checker ∙ kept.size;
-      known = subst (λ (cs : List (List ℤ)). All (All (IsLitWithin p.vars)) cs) (sym k.earlier) (All-push (All (IsLitWithin p.vars)) s.earlier.items (clause_of r) kept.known (all_within p (clause_of r) (names_known p (p.clauses ++ s.earlier.items) r none)));
+      known = subst (λ (cs : List (List ℤ)). All (All (IsLitWithin p.vars)) cs) (sym k.earlier) (All-push (All (IsLitWithin p.vars)) s.earlier.items (clause_of r) kept.known (vars_within p (clause_of r) (names_known p (p.clauses ++ s.earlier.items) r none)));
       few = (let f = few_more (is_chain r) s.chains (length s.earlier.items) kept.few in omega (arith, f, longer, k.chains));
     }
 
@@ -150,7 +143,7 @@ steps_said_more p n before m (Some (says.Values zs)) h = absurd cc
 steps_said_more p n before m (Some (says.Step r)) h =
     same_steps (clauses_in (before ++ (m, Some (says.Step r)) ∷ [])) (clauses_in before ++ clause_of r ∷ []) (chain_count (steps_in (before ++ (m, Some (says.Step r)) ∷ []))) (if is_chain r then chain_count (steps_in before) + 1 else chain_count (steps_in before))
     (ends_empty (steps_in (before ++ (m, Some (says.Step r)) ∷ []))) (is_empty_chain r) (last_line n (before ++ (m, Some (says.Step r)) ∷ [])) m
-    (clauses_push before m r) (ap chain_count (steps_push before m r) ∙ sym (count_push (steps_in before) r)) (ap ends_empty (steps_push before m r) ∙ ends_push (steps_in before) r) (last_is before n m (Some (says.Step r)))
+    (clauses_push before m r) (ap chain_count (steps_push before m r) ∙ sym (count_push (steps_in before) r)) (ap ends_empty (steps_push before m r) ∙ ends-last (steps_in before) r) (last_is before n m (Some (says.Step r)))
 
 -- of the lines of a model behind the status line, line n
 abbrev pub model_said : ℕ → List (ℕ × Option Item) → ModelSoFar

@@ -1,9 +1,10 @@
 -- The verdicts on an answer's printed texts in both versions: the same, a line further in version 2.
-use Rattle.std.proofs.Common.{◌≡◌, ◌↔◌, ℕ, ◌+◌, Bool, true, false, List, [], ◌∷◌, map, Option, Some, None, option_map, is_some, ℤ, refl, sym, ap, subst, ◌∙◌, arith}
+use Rattle.std.proofs.Common.{◌≡◌, ◌↔◌, ◌<◌, ◌^◌, ℕ, ◌+◌, Bool, true, false, List, [], ◌∷◌, map, Option, Some, None, option_map, is_some, ℤ, refl, sym, ap, subst, ◌∙◌, arith}
 use Rattle.std.specs.Prelude.{IsTrue, if◌then◌else◌, length}
 use Rattle.std.specs.Option.{option_or}
-use Rattle.std.specs.List.{enumerate_from}
+use Rattle.std.specs.List.{list_all, enumerate_from}
 use Rattle.mono_problem.specs.Instance.{Instance}
+use Rattle.mono_steps.specs.declared.step.Step.{Step}
 use Rattle.mono_answer.specs.declared.kind.Kind.{Kind}
 use Rattle.mono_answer.specs.declared.kind.Kind.TheVariants as kind
 use Rattle.mono_answer.specs.declared.item.Item.{Item}
@@ -12,8 +13,9 @@ use Rattle.mono_answer.specs.declared.answer.Answer.{Answer}
 use Rattle.mono_answer.specs.declared.answer.Answer.TheVariants as answer
 use Rattle.mono_answer.specs.declared.version.Version.TheVariants as version
 use Rattle.mono_answer.specs.Items.{first_line_of, item_of, items_of, values_of}
-use Rattle.mono_answer.specs.Versions.{items_by, turned_steps, answer_names_earlier}
-use Rattle.mono_answer.specs.Printed.{numbers_text, with_zero, literals_from, values_line, step_line, answer_lines, answer_text_as, version_tokens}
+use Rattle.mono_answer.specs.Versions.{items_by, turned_steps, turned_answer, all_name_earlier, answer_names_earlier}
+use Rattle.mono_answer.specs.Printed.{numbers_text, with_zero, literals_from, values_line, step_line, answer_lines, answer_text_as}
+use Rattle.mono_answer.proofs.KeptLines.{items_from, printed_items, items_behind_version}
 use Rattle.mono_check.specs.declared.reason.Reason.{Reason}
 use Rattle.mono_check.specs.declared.reason.Reason.TheVariants as reason
 use Rattle.mono_check.specs.declared.verdict.Verdict.{Verdict}
@@ -21,10 +23,9 @@ use Rattle.mono_check.specs.declared.verdict.Verdict.TheVariants as verdict
 use Rattle.mono_check.specs.Values.{ends_in, value_fault, false_clause, model_of}
 use Rattle.mono_check.specs.StepLines.{step_line_fault}
 use Rattle.mono_check.specs.SoFar.{ModelSoFar, StepsSoFar, or_fault, model_behind, model_more, steps_behind, steps_more}
-use Rattle.mono_check.specs.Verdicts.{Outcome, Decided, ValuesIn, IsOutcome, IsVerdict, outcome_of, values_outcome, ended_outcome, items_outcome}
-use Rattle.mono_check.specs.Migrations.{FitsMemory, one_line_later}
-use Rattle.mono_check.proofs.Tokens.{version_are_tokens, status_are_tokens, values_are_tokens, steps_tokens}
-use Rattle.mono_check.proofs.BothVersions.{items_from, text_from, steps_kept, steps_alike}
+use Rattle.mono_check.specs.Verdicts.{Outcome, Decided, ValuesIn, IsOutcome, IsVerdict, outcome_of, values_outcome, ended_outcome, steps_outcome, items_outcome}
+use Rattle.mono_check.specs.Migrations.{has_literals, FitsMemory, one_line_later}
+use Rattle.mono_check.proofs.BothVersions.{steps_alike}
 use Rattle.mono_check.proofs.Behind.{steps_walked, model_walked}
 use Rattle.mono_check.proofs.SeenMore.{model_said, steps_said}
 
@@ -125,42 +126,38 @@ values_alike : (m : ℕ) (o : Option (List ℤ)) → items_by version.Two m ((3,
 values_alike m None = refl
 values_alike m (Some zs) = refl
 
+-- a refutation's lines, or those of progress
+steps_lines : (p : Instance) (refutes : Bool) (k : Kind) (steps : List Step)
+    → ((n m : ℕ) (ls : List (ℕ × Option Item)) → items_outcome p m ((n, Some (says.Status k)) ∷ ls) ≡ steps_outcome p refutes n ls)
+    → IsTrue (list_all has_literals steps) → length p.clauses + length steps < 2 ^ 64 → IsTrue (all_name_earlier (length p.clauses + 1) steps) → (f g : ℕ)
+    → items_outcome p g ((2, Some (says.Status k)) ∷ items_by version.Two (length p.clauses + 1) (items_from 3 (map step_line (turned_steps (length p.clauses + 1) steps))))
+    ≡ outcome_later (items_outcome p f ((1, Some (says.Status k)) ∷ items_from 2 (map step_line steps)))
+steps_lines p refutes k steps is literals few names f g =
+    let c = length p.clauses in
+    let xs = items_from 3 (map step_line steps) in
+    let ys = items_by version.Two (c + 1) (items_from 3 (map step_line (turned_steps (c + 1) steps))) in
+    is 2 g ys
+    ∙ (steps_walked p refutes 2 [] ys ∙ (steps_alike p refutes (c + 1) 3 steps literals names (omega (arith, few)) (steps_said 2 []) ∙ sym (steps_walked p refutes 2 [] xs))
+    ∙ (sym (is 2 g xs) ∙ behind_status p f g k (map item_of (map step_line steps))))
+
+lines_later : (p : Instance) (a : Answer) → FitsMemory (length p.clauses) a → IsTrue (answer_names_earlier (length p.clauses) a) → (f g : ℕ)
+    → items_outcome p g (items_by version.Two (length p.clauses + 1) (items_from 2 (answer_lines (turned_answer (length p.clauses) a))))
+    ≡ outcome_later (items_outcome p f (items_from 1 (answer_lines a)))
+lines_later p (answer.Model values) fits names f g =
+    ap (λ (ls : List (ℕ × Option Item)). items_outcome p g ((2, Some (says.Status kind.Model)) ∷ ls))
+    (values_alike (length p.clauses + 1) (values_of (numbers_text (with_zero (literals_from 1 values)))))
+    ∙ behind_status p f g kind.Model (item_of (values_line values) ∷ [])
+lines_later p (answer.Refutation steps) fits names f g = steps_lines p true kind.Refutation steps (λ n m ls. refl) fits.literals fits.few names f g
+lines_later p (answer.Progress steps) fits names f g = steps_lines p false kind.Progress steps (λ n m ls. refl) fits.literals fits.few names f g
+
 pub answer_later : (p : Instance) (a : Answer) → FitsMemory (length p.clauses) a → IsTrue (answer_names_earlier (length p.clauses) a)
     → outcome_of p (answer_text_as a version.Two (length p.clauses)) ≡ outcome_later (outcome_of p (answer_text_as a version.One (length p.clauses)))
-answer_later p (answer.Model values) fits names =
+answer_later p a fits names =
     let c = length p.clauses in
-    let a = answer.Model values in
-    let line = item_of (values_line values) in
+    let other = turned_answer c a in
     later_by p (answer_text_as a version.One c) (answer_text_as a version.Two c)
-    ((1, Some (says.Status kind.Model)) ∷ enumerate_from 2 (line ∷ [])) ((2, Some (says.Status kind.Model)) ∷ enumerate_from 3 (line ∷ []))
-    (text_from c (answer_lines a) (status_are_tokens kind.Model, (values_are_tokens values, tt)) (refl, (refl, tt)))
-    (text_from c (version_tokens ∷ answer_lines a) (version_are_tokens, (status_are_tokens kind.Model, (values_are_tokens values, tt))) (refl, (refl, (refl, tt)))
-    ∙ ap (λ (ls : List (ℕ × Option Item)). (2, Some (says.Status kind.Model)) ∷ ls) (values_alike (c + 1) (values_of (numbers_text (with_zero (literals_from 1 values))))))
-    (λ f g. behind_status p f g kind.Model (line ∷ []))
-answer_later p (answer.Refutation steps) fits names =
-    let c = length p.clauses in
-    let a = answer.Refutation steps in
-    let turned = turned_steps (c + 1) steps in
-    let ys = items_by version.Two (c + 1) (items_from 3 (map step_line turned)) in
-    let xs = items_from 3 (map step_line steps) in
-    later_by p (answer_text_as a version.One c) (answer_text_as a version.Two c)
-    ((1, Some (says.Status kind.Refutation)) ∷ items_from 2 (map step_line steps)) ((2, Some (says.Status kind.Refutation)) ∷ ys)
-    (text_from c (answer_lines a) (status_are_tokens kind.Refutation, steps_tokens steps) (refl, steps_kept steps))
-    (text_from c (version_tokens ∷ answer_lines (answer.Refutation turned)) (version_are_tokens, (status_are_tokens kind.Refutation, steps_tokens turned)) (refl, (refl, steps_kept turned)))
-    (λ f g. steps_walked p true 2 [] ys ∙ (steps_alike p true (c + 1) 3 steps fits.literals names (let few = fits.few in omega (arith, few)) (steps_said 2 [])
-    ∙ (sym (steps_walked p true 2 [] xs) ∙ behind_status p f g kind.Refutation (map item_of (map step_line steps)))))
-answer_later p (answer.Progress steps) fits names =
-    let c = length p.clauses in
-    let a = answer.Progress steps in
-    let turned = turned_steps (c + 1) steps in
-    let ys = items_by version.Two (c + 1) (items_from 3 (map step_line turned)) in
-    let xs = items_from 3 (map step_line steps) in
-    later_by p (answer_text_as a version.One c) (answer_text_as a version.Two c)
-    ((1, Some (says.Status kind.Progress)) ∷ items_from 2 (map step_line steps)) ((2, Some (says.Status kind.Progress)) ∷ ys)
-    (text_from c (answer_lines a) (status_are_tokens kind.Progress, steps_tokens steps) (refl, steps_kept steps))
-    (text_from c (version_tokens ∷ answer_lines (answer.Progress turned)) (version_are_tokens, (status_are_tokens kind.Progress, steps_tokens turned)) (refl, (refl, steps_kept turned)))
-    (λ f g. steps_walked p false 2 [] ys ∙ (steps_alike p false (c + 1) 3 steps fits.literals names (let few = fits.few in omega (arith, few)) (steps_said 2 [])
-    ∙ (sym (steps_walked p false 2 [] xs) ∙ behind_status p f g kind.Progress (map item_of (map step_line steps)))))
+    (items_from 1 (answer_lines a)) (items_by version.Two (c + 1) (items_from 2 (answer_lines other)))
+    (printed_items c a) (items_behind_version c other) (lines_later p a fits names)
 
 -- ---- verdicts
 

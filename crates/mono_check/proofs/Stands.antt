@@ -1,19 +1,39 @@
 -- A text stands for one answer, and so is migrated to one text.
-use Rattle.std.proofs.Common.{◌≡◌, ℕ, Bool, List, [], ◌∷◌, ◌++◌, length, map, flat_map, Option, refl, sym, ap, ◌∙◌, ℤ, pos}
+use Rattle.std.proofs.Common.{◌≡◌, ℕ, ◌+◌, Bool, List, [], ◌∷◌, ◌++◌, length, map, flat_map, Option, Some, refl, sym, ap, ◌∙◌, ℤ, pos}
+use Rattle.std.specs.List.{enumerate_from}
 use Rattle.std.proofs.lemmas.List.{append_cancel_right}
 use Rattle.mono_problem.specs.Instance.{Instance}
 use Rattle.mono_steps.specs.declared.step.Step.{Step}
 use Rattle.mono_answer.specs.declared.kind.Kind.{Kind}
 use Rattle.mono_answer.specs.declared.kind.Kind.TheVariants as kind
 use Rattle.mono_answer.specs.declared.item.Item.{Item}
+use Rattle.mono_answer.specs.declared.item.Item.TheVariants as says
+use Rattle.mono_answer.specs.Items.{items_of}
 use Rattle.mono_answer.specs.declared.answer.Answer.{Answer}
 use Rattle.mono_answer.specs.declared.answer.Answer.TheVariants as answer
 use Rattle.mono_answer.specs.declared.version.Version.{Version}
 use Rattle.mono_answer.specs.Printed.{answer_text_as}
-use Rattle.mono_check.specs.Answers.{HasLines, HasSteps, HasModel, values_item}
+use Rattle.mono_check.specs.Answers.{HasLines, HasSteps, HasModel, values_item, step_item}
 use Rattle.mono_check.specs.Values.{model_of}
 use Rattle.mono_check.specs.Migrations.{StandsFor, MigratesTo}
 use Rattle.mono_check.proofs.Accepted.{same_parts, steps_are_held}
+
+-- ---- a text has these steps
+
+seconds : {A : Type 0} (n : ℕ) (xs : List A) → map (λ l. l.1) (enumerate_from n xs) ≡ xs
+seconds n [] = refl
+seconds n (x ∷ xs) = ap (λ (ys : List _). x ∷ ys) (seconds (n + 1) xs)
+
+step_items : (steps : List Step) → map Some (map says.Step steps) ≡ map step_item steps
+step_items [] = refl
+step_items (s ∷ ss) = ap (λ (is : List (Option Item)). step_item s ∷ is) (step_items ss)
+
+-- its items are, from line n on, the status line and the steps
+pub has_steps : (c n : ℕ) (k : Kind) (text : List ℕ) (steps : List Step) → items_of c text ≡ enumerate_from n (map Some (says.Status k ∷ map says.Step steps)) → HasSteps c k text steps
+has_steps c n k text steps is =
+    (enumerate_from (n + 1) (map Some (map says.Step steps)), (n, is), seconds (n + 1) (map Some (map says.Step steps)) ∙ step_items steps)
+
+-- ---- a text stands for no other answer
 
 same_rows : (xs ys : List (List ℤ)) → map values_item xs ≡ map values_item ys → xs ≡ ys
 same_rows [] [] h = refl

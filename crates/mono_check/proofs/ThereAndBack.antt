@@ -1,7 +1,7 @@
 -- An accepted answer that is migrated to version 2 and back is the same bytes again.
 use Rattle.std.proofs.Common.{◌≡◌, ◌≤◌, ◌<◌, ℕ, suc, ◌+◌, ◌-◌, ◌^◌, Bool, true, false, not, ◌&&◌, List, [], ◌∷◌, length, map, Option, Some, None, refl, sym, ap, subst, ◌∙◌, arith, pos}
 use Rattle.std.specs.Prelude.{IsTrue, nat_le, ◌==◌, if◌then◌else◌}
-use Rattle.std.specs.List.{list_all, enumerate_from, slice_split}
+use Rattle.std.specs.List.{list_all, slice_split}
 use Rattle.std.proofs.lemmas.Bool.{and_parts, and_from, le-leb}
 use Rattle.std.proofs.lemmas.List.{length-map}
 use Rattle.std.proofs.lemmas.List.FromFn.{length-map-range_with_len, length-enumerate_from}
@@ -27,12 +27,12 @@ use Rattle.mono_answer.specs.Items.{item_of, spoken_of, said_in, answer_said_in,
 use Rattle.mono_answer.specs.Printed.{with_zero, literals_from, answer_text, answer_text_as, is_literal, is_clause_number, is_step_within, is_within_format, is_within_format_as}
 use Rattle.mono_answer.proofs.RoundTrip.{printed_is_read, version_is_read}
 use Rattle.mono_answer.proofs.Within.{IsWithinItem, item_within}
-use Rattle.mono_check.specs.Answers.{HasSteps, HasModel, step_item, values_item}
+use Rattle.mono_check.specs.Answers.{HasSteps, HasModel, values_item}
 use Rattle.mono_check.specs.StepLines.{steps_in}
 use Rattle.mono_check.specs.Migrations.{StandsFor, MigratesTo}
 use Rattle.mono_check.proofs.Accepted.{steps_are_held, steps_justified}
 use Rattle.mono_check.proofs.HeldSteps.{justified_earlier}
-use Rattle.mono_check.proofs.Stands.{stands_once}
+use Rattle.mono_check.proofs.Stands.{has_steps, stands_once}
 
 -- ---- how many steps a text has
 
@@ -180,14 +180,6 @@ steps_writable p text k ss ok small has =
 
 -- ---- the text of version 2 stands for the same answer
 
-seconds : {A : Type 0} (n : ℕ) (xs : List A) → map (λ l. l.1) (enumerate_from n xs) ≡ xs
-seconds n [] = refl
-seconds n (x ∷ xs) = ap (λ (ys : List _). x ∷ ys) (seconds (n + 1) xs)
-
-step_items : (steps : List Step) → map Some (map says.Step steps) ≡ map step_item steps
-step_items [] = refl
-step_items (s ∷ ss) = ap (λ (is : List (Option Item)). step_item s ∷ is) (step_items ss)
-
 model_there : (p : Instance) (values : List Bool) → IsWritable (length p.clauses) (answer.Model values) → HasModel p (answer_text (answer.Model values)) values
     → HasModel p (answer_text_as (answer.Model values) version.Two (length p.clauses)) values
 model_there p values w has =
@@ -209,9 +201,9 @@ model_there p values w has =
 stands_there : (p : Instance) (a : Answer) → IsWritable (length p.clauses) a → StandsFor p (answer_text a) a → StandsFor p (answer_text_as a version.Two (length p.clauses)) a
 stands_there p (answer.Model values) w h = model_there p values w h
 stands_there p (answer.Refutation ss) w h =
-    (enumerate_from 3 (map Some (map says.Step ss)), (2, version_is_read (length p.clauses) (answer.Refutation ss) version.Two w.two), seconds 3 (map Some (map says.Step ss)) ∙ step_items ss)
+    has_steps (length p.clauses) 2 kind.Refutation (answer_text_as (answer.Refutation ss) version.Two (length p.clauses)) ss (version_is_read (length p.clauses) (answer.Refutation ss) version.Two w.two)
 stands_there p (answer.Progress ss) w h =
-    (enumerate_from 3 (map Some (map says.Step ss)), (2, version_is_read (length p.clauses) (answer.Progress ss) version.Two w.two), seconds 3 (map Some (map says.Step ss)) ∙ step_items ss)
+    has_steps (length p.clauses) 2 kind.Progress (answer_text_as (answer.Progress ss) version.Two (length p.clauses)) ss (version_is_read (length p.clauses) (answer.Progress ss) version.Two w.two)
 
 writable : (p : Instance) (text : List ℕ) (a : Answer) → IsInstance p → length text < 2 ^ 63 → MigratesTo p text version.One text → StandsFor p text a → IsWritable (length p.clauses) a
 writable p text (answer.Model values) ok small m h = model_writable p text values ok h

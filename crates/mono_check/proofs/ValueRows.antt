@@ -17,7 +17,7 @@ use Rattle.mono_steps.specs.ChainSteps.{names_vars}
 use Rattle.mono_check.specs.Values.{are_values, is_end, literals_among, has_end, goes_on}
 use Rattle.mono_check.specs.Answers.{AreValues}
 use Rattle.mono_check.proofs.Literals.{is_known}
-use Rattle.mono_check.proofs.SeenMore.{all_within}
+use Rattle.mono_steps.proofs.StepVars.{vars_within}
 
 -- ---- one literal over each variable
 
@@ -30,7 +30,7 @@ one_each p lits h long =
       once = a.1;
       each = λ x low high. true_from_ne_false (has_var lits x) (λ none.
           let more : IsTrue (is_partial (pos x ∷ lits)) = join (pos x) lits (record { lit = le-leb 1 x low; new = none; rest = a.1 }) in
-          let few : length (pos x ∷ lits) ≤ p.vars = few_literals p.vars (pos x ∷ lits) more (All-cons (IsLitWithin p.vars) (pos x) lits (low, high) (all_within p lits a.0)) in
+          let few : length (pos x ∷ lits) ≤ p.vars = few_literals p.vars (pos x ∷ lits) more (All-cons (IsLitWithin p.vars) (pos x) lits (low, high) (vars_within p lits a.0)) in
           omega (arith, few, long));
     }
 

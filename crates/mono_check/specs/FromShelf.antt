@@ -9,7 +9,7 @@ use Rattle.mono_check.specs.declared.refusal.CheckRefusal.{CheckRefusal}
 use Rattle.mono_check.specs.declared.refusal.CheckRefusal.TheVariants as check
 use Rattle.mono_check.specs.declared.verdict.Verdict.{Verdict}
 use Rattle.mono_check.specs.Checking.{Checking, later}
-use Rattle.mono_check.specs.Verdicts.{IsVerdict, outcome_of}
+use Rattle.mono_check.specs.Verdicts.{IsVerdict}
 
 -- the text of that name was read whole, and this is the verdict on it
 pub record IsVerdictFrom (p : Instance) (name : List ℕ) (limit : ℕ) (old new : ShelfView) (v : Verdict) : Type 0 where

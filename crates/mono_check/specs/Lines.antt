@@ -6,7 +6,8 @@ use Rattle.mono_answer.specs.declared.item.Item.{Item}
 use Rattle.mono_check.specs.declared.reason.Reason.{Reason}
 
 -- the first line at fault, where `fault` tells the fault of a line over the lines before it
-abbrev pub first_fault : (List (ℕ × Option Item) → Option Item → Option Reason) → List (ℕ × Option Item) → List (ℕ × Option Item) → Option (ℕ × Reason)
+abbrev pub first_fault : (List (ℕ × Option Item) → Option Item → Option Reason)
+    → List (ℕ × Option Item) → List (ℕ × Option Item) → Option (ℕ × Reason)
 first_fault fault before [] = None
 first_fault fault before ((n, i) ∷ ls) = option_or (option_map (λ r. (n, r)) (fault before i)) (first_fault fault (before ++ (n, i) ∷ []) ls)
 

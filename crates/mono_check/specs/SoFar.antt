@@ -30,7 +30,8 @@ pub record StepsSoFar : Type 0 where
   pub ends_empty : Bool
   pub last : ℕ
 
--- no line but blank ones and comments; the version line, by its number; a status line and what follows it, where steps say how their chains count and whether they are to be a refutation; or a line at fault, and why
+-- no line but blank ones and comments; the version line, by its number; a status line and what follows it, where steps say how their
+-- chains count and whether they are to be a refutation; or a line at fault, and why
 pub data SoFar : Type 0 where
   Nothing : SoFar
   OfVersion : ℕ → SoFar
@@ -63,7 +64,12 @@ abbrev pub no_steps : ℕ → StepsSoFar
 no_steps n = record { clauses = []; chains = 0; ends_empty = false; last = n }
 
 abbrev pub steps_more : ℕ → Option Item → StepsSoFar → StepsSoFar
-steps_more n (Some (says.Step r)) s = record { clauses = s.clauses ++ clause_of r ∷ []; chains = (if is_chain r then s.chains + 1 else s.chains); ends_empty = is_empty_chain r; last = n }
+steps_more n (Some (says.Step r)) s = record {
+  clauses = s.clauses ++ clause_of r ∷ [];
+  chains = (if is_chain r then s.chains + 1 else s.chains);
+  ends_empty = is_empty_chain r;
+  last = n;
+}
 steps_more n i s = s
 
 abbrev pub steps_so_far : Bool → StepsSoFar → Verdict

@@ -1,5 +1,5 @@
 -- The lines of a refutation and of progress. `before` are the lines before a line and behind the status line, each beside its number.
-use Rattle.std.specs.Prelude.{ℕ, Bool, true, false, ℤ, List, ◌++◌, length, map, filter, filter_map, Option, Some, None, option_map}
+use Rattle.std.specs.Prelude.{ℕ, Bool, true, false, ℤ, List, ◌++◌, map, filter_map, Option, Some, None, option_map}
 use Rattle.mono_problem.specs.Instance.{Instance}
 use Rattle.mono_steps.specs.declared.step.Step.{Step}
 use Rattle.mono_steps.specs.declared.step.Step.TheVariants as step

@@ -1,5 +1,6 @@
 -- What answers to small problems come to, for rows that are worked out.
 use Rattle.std.specs.Prelude.{ℕ, ℤ, pos, negsuc, true, List, [], ◌∷◌}
+use Rattle.mono_graph.specs.declared.edge.Edge.{Edge}
 use Rattle.mono_problem.specs.Instance.{Instance}
 use Rattle.mono_problem.specs.declared.atom.Predicate.TheVariants as kind
 use Rattle.mono_check.specs.Checking.{later}
@@ -14,11 +15,15 @@ alone vars = record { vars = vars; graphs = []; atoms = []; clauses = [] }
 abbrev pub judged : ℕ → List (List ℤ) → List ℕ → Outcome
 judged vars cs text = outcome_of (record { vars = vars; graphs = []; atoms = []; clauses = cs }) text
 
--- edge 1 from node 0 to node 1 where variable 1 is true, edge 2 from node 1 to node 2 where variable 2 is; variable 3 says that node 0 reaches node 2
+-- the edge of the number n from one node to another, present where variable n is true
+abbrev pub edge : ℕ → ℕ → ℕ → Edge
+edge n from to = record { number = n; from = from; to = to; var = n; weight = 1 }
+
+-- edge 1 from node 0 to node 1, edge 2 from node 1 to node 2; variable 3 says that node 0 reaches node 2
 abbrev pub two_edges : List (List ℤ) → Instance
 two_edges cs = record {
   vars = 3;
-  graphs = (0, record { nodes = 3; edges = record { number = 1; from = 0; to = 1; var = 1; weight = 1 } ∷ record { number = 2; from = 1; to = 2; var = 2; weight = 1 } ∷ [] }) ∷ [];
+  graphs = (0, record { nodes = 3; edges = edge 1 0 1 ∷ edge 2 1 2 ∷ [] }) ∷ [];
   atoms = record { number = 1; graph = 0; var = 3; predicate = kind.Reach 0 2 } ∷ [];
   clauses = cs;
 }
@@ -27,7 +32,8 @@ two_edges cs = record {
 abbrev pub reached : List ℕ → Outcome
 reached text = outcome_of (two_edges ((pos 1 ∷ []) ∷ (pos 2 ∷ []) ∷ (negsuc 2 ∷ []) ∷ [])) text
 
--- behind what the lines so far have said over the clauses {1} and {-1}, so many lines, and the bytes of the next one that have come: what the answer comes to once these bytes follow
+-- behind what the lines so far have said over the clauses {1} and {-1}, so many lines, and the bytes of the next one that have come:
+-- what the answer comes to once these bytes follow
 abbrev pub left : SoFar → ℕ → List ℕ → List ℕ → Outcome
 left so_far lines unfinished rest = later (record {
   problem = record { vars = 1; graphs = []; atoms = []; clauses = (pos 1 ∷ []) ∷ (negsuc 0 ∷ []) ∷ [] };

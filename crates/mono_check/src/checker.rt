@@ -6,6 +6,7 @@ ghost use Rattle.mono_check.specs.Verdicts.{IsOutcome, outcome_of};
 
 use crate::Verdict;
 use crate::judge::Judge;
+use mono_io::Consumer;
 use mono_problem::Problem;
 use std::alloc::{AllocError, Global};
 use std::marker::Model;
@@ -107,4 +108,20 @@ impl<'a> Checker<'a> {
     {
         self.judge.finish(self.problem)
     }
+}
+
+impl<'a> Consumer for Checker<'a> {
+    ghost use Rattle.std.proofs.Common.{rules};
+    ghost use Rattle.mono_check.specs.FromShelf.{Feeds, IsUnfed};
+
+    ghost is_new = { IsUnfed };
+
+    ghost takes = { Feeds };
+
+    fn consume(&mut self, piece: &[u8]) -> Result<(), AllocError> {
+        self.feed(piece)?;
+        Ok(())
+    }
+
+    ghost takes_nothing = { λ start. Prim.search rules };
 }

@@ -8,14 +8,14 @@ ghost use Rattle.mono_problem.specs.WellFormed.{IsOver};
 ghost use Rattle.mono_problem.specs.Holds.{Holds, HoldsAtom};
 ghost use Rattle.mono_problem.specs.Read.{atom_numbered};
 ghost use Rattle.mono_check.specs.Atoms.{IsJudged};
-ghost use Rattle.mono_check.specs.Enabled.{IsEnabled};
+ghost use Rattle.mono_check.specs.Enabled.{FitsGraph, IsEnabled};
 ghost use Rattle.mono_check.specs.Questions.{IsQuestion, AreAlike, AreTruths, question_at};
 
 use crate::predicates::{carries, is_acyclic, reaches, reaches_within, spans};
 use crate::question::{WalkQuestion, keep_answers, targets_of};
 use mono_cycles::CycleFinder;
 use mono_flows::FlowFinder;
-use mono_graph::{Graph, Limit, Part, enabled_edges};
+use mono_graph::{Graph, Limit, Part, enabled_edges, value_of};
 use mono_paths::WalkFinder;
 use mono_problem::{Atom, Predicate, Problem};
 use mono_trees::TreeFinder;
@@ -33,15 +33,6 @@ pub(crate) struct EnabledPart {
     cycles: CycleFinder,
     /// Whether the part holds no cycle, once that was asked.
     acyclic: Option<bool>,
-}
-
-/// The value of a variable.
-fn value(model: &[bool], var: u32) -> bool
-    requires low { 0 < var }
-    requires high { var ≤ length model.now }
-    ensures { result ≡ value_in model.now var }
-{
-    model[var as usize - 1]
 }
 
 impl EnabledPart {
@@ -95,17 +86,11 @@ impl EnabledPart {
     /// Whether no walk of one edge or more in the part leads from a node to itself. One search answers all predicates that ask
     /// this of the graph.
     fn has_no_cycle(&mut self, graph: &Graph) -> Result<bool, AllocError>
-        requires part { length self.old.part ≡ length graph.now.edges }
-        requires cycles { self.old.cycles ≡ graph.now.nodes }
-        requires acyclic { IfSome self.old.acyclic (λ b. IsTrue b ↔ Holds graph.now self.old.part kind.Acyclic) }
+        requires { FitsGraph graph.now self.old }
         ensures holds { IfOk result (λ yes. IsTrue yes ↔ Holds graph.now self.old.part kind.Acyclic) }
         ensures graph { self.new.graph ≡ self.old.graph }
         ensures part { self.new.part ≡ self.old.part }
-        ensures walks { self.new.walks ≡ self.old.walks }
-        ensures flows { self.new.flows ≡ self.old.flows }
-        ensures trees { self.new.trees ≡ self.old.trees }
-        ensures cycles { self.new.cycles ≡ self.old.cycles }
-        ensures acyclic { IfSome self.new.acyclic (λ b. IsTrue b ↔ Holds graph.now self.old.part kind.Acyclic) }
+        ensures fits { FitsGraph graph.now self.new }
     {
         if let Some(known) = self.acyclic {
             return Ok(known);
@@ -123,20 +108,11 @@ impl EnabledPart {
         predicate: Predicate,
     ) -> Result<bool, AllocError>
         requires over { IsOver graph.now predicate }
-        requires part { length self.old.part ≡ length graph.now.edges }
-        requires walks { self.old.walks ≡ graph.now.nodes }
-        requires flows { self.old.flows ≡ graph.now.nodes }
-        requires trees { self.old.trees ≡ graph.now.nodes }
-        requires cycles { self.old.cycles ≡ graph.now.nodes }
-        requires acyclic { IfSome self.old.acyclic (λ b. IsTrue b ↔ Holds graph.now self.old.part kind.Acyclic) }
+        requires fits { FitsGraph graph.now self.old }
         ensures holds { IfOk result (λ yes. IsTrue yes ↔ Holds graph.now self.old.part predicate) }
         ensures graph { self.new.graph ≡ self.old.graph }
         ensures part { self.new.part ≡ self.old.part }
-        ensures walks { self.new.walks ≡ self.old.walks }
-        ensures flows { self.new.flows ≡ self.old.flows }
-        ensures trees { self.new.trees ≡ self.old.trees }
-        ensures cycles { self.new.cycles ≡ self.old.cycles }
-        ensures acyclic { IfSome self.new.acyclic (λ b. IsTrue b ↔ Holds graph.now self.new.part kind.Acyclic) }
+        ensures fits { FitsGraph graph.now self.new }
     {
         let part = &self.part;
         match predicate {
@@ -241,7 +217,7 @@ impl EnabledPart {
         let _ = problem.vars();
         let atom = problem.atom(number);
         let holds = self.truth(alloc, problem, model, atom, known)?;
-        if value(model, atom.var) {
+        if value_of(model, atom.var) {
             Ok(holds)
         } else {
             Ok(!holds)

@@ -8,7 +8,7 @@ ghost use Rattle.mono_io.specs.Reading.{IsTooLong, IsNotRead, IsGivenUp};
 ghost use Rattle.mono_check.specs.FromShelf.{IsVerdictFrom};
 
 use crate::{CheckRefusal, Checker, Verdict};
-use mono_io::{Consumer, GREATEST_LIMIT, Shelf, read_into};
+use mono_io::{GREATEST_LIMIT, Shelf, read_into};
 use mono_problem::Problem;
 use std::alloc::{AllocError, Global};
 
@@ -39,20 +39,4 @@ pub fn verdict_from<S: Shelf>(
     let mut checker = Checker::unfed(alloc, problem);
     read_into(alloc, shelf, name, limit, &mut checker)?;
     Ok(checker.finish()?)
-}
-
-impl<'a> Consumer for Checker<'a> {
-    ghost use Rattle.std.proofs.Common.{rules};
-    ghost use Rattle.mono_check.specs.FromShelf.{Feeds, IsUnfed};
-
-    ghost is_new = { IsUnfed };
-
-    ghost takes = { Feeds };
-
-    fn consume(&mut self, piece: &[u8]) -> Result<(), AllocError> {
-        self.feed(piece)?;
-        Ok(())
-    }
-
-    ghost takes_nothing = { λ start. Prim.search rules };
 }

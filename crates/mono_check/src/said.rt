@@ -7,7 +7,7 @@ ghost use Rattle.mono_answer.specs.declared.item.Item.TheVariants as says;
 ghost use Rattle.mono_answer.specs.Versions.{items_by};
 ghost use Rattle.mono_check.specs.Judges.{IsBegun, IsSound, is_nothing, so_far};
 ghost use Rattle.mono_check.specs.SoFar.{behind, behind_items};
-ghost use Rattle.mono_check.specs.Verdicts.{IsOutcome, ended_outcome, items_outcome};
+ghost use Rattle.mono_check.specs.Verdicts.{IsOutcome, ended_outcome, steps_outcome, items_outcome};
 ghost use Rattle.mono_check.specs.declared.verdict.Verdict.TheVariants as verdict;
 
 use crate::step_lines::StepLines;
@@ -45,6 +45,28 @@ pub(crate) enum Said {
     },
 }
 
+/// Behind the status line of steps, which says whether they are to be a refutation, in an answer of this version.
+fn begin_steps(
+    alloc: Global,
+    problem: &Problem,
+    version: Version,
+    number: u64,
+    refutes: bool,
+) -> Result<Said, AllocError>
+    ensures sound { IfOk result (IsSound problem.now) }
+    ensures behind { IfOk result (λ said. (ls : List (ℕ × Option Item))
+        → behind_items problem.now (so_far said) ls
+        ≡ steps_outcome problem.now refutes number (items_by version (length problem.now.clauses + 1) ls)) }
+    ensures begun { IfOk result IsBegun }
+{
+    Ok(Said::Steps {
+        version,
+        refutes,
+        status: number,
+        steps: StepLines::new(alloc, problem)?,
+    })
+}
+
 /// Behind a status line of this kind, in an answer of this version.
 fn begin(
     alloc: Global,
@@ -64,18 +86,8 @@ fn begin(
             status: number,
             values: Values::new(alloc, problem)?,
         }),
-        Kind::Refutation => Ok(Said::Steps {
-            version,
-            refutes: true,
-            status: number,
-            steps: StepLines::new(alloc, problem)?,
-        }),
-        Kind::Progress => Ok(Said::Steps {
-            version,
-            refutes: false,
-            status: number,
-            steps: StepLines::new(alloc, problem)?,
-        }),
+        Kind::Refutation => begin_steps(alloc, problem, version, number, true),
+        Kind::Progress => begin_steps(alloc, problem, version, number, false),
     }
 }
 

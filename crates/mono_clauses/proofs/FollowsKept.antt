@@ -10,7 +10,7 @@ use Rattle.mono_trail.specs.TrailView.{TrailView, IsSound, count_to, next_level}
 use Rattle.mono_trail.specs.declared.reason.Mark.{Mark}
 use Rattle.mono_trail.specs.declared.reason.Reason.{Reason}
 use Rattle.mono_trail.specs.declared.reason.Reason.TheVariants.{Decided, Clause, Late}
-use Rattle.mono_clauses.proofs.Levels.{kept_low, low_kept}
+use Rattle.mono_trail.proofs.Levels.{kept_low, up_to_level}
 use Rattle.mono_clauses.proofs.OldAndNew.{old_or_new}
 use Rattle.mono_clauses.specs.Store.{StoreView, no_clauses, watch_at, other, IsTrueBy, Guards, Follows, FollowsBelow}
 use Rattle.mono_clauses.specs.Visits.{Guarded}
@@ -74,7 +74,7 @@ level_kept t level p lt = ap (λ (x : Mark). x.level) (get_or-take (count_to lev
 true_lowered : (t : TrailView) (b : ℤ) (level low : ℕ) → IsSound t → low ≤ level → IsTrueBy t b low → IsTrueBy (lowered level t) b low
 true_lowered t b level low sound le i =
     let in_marks : i.place < length t.marks = omega (arith, i.within, sound.as_many) in
-    let kept : i.place < count_to level t.marks = low_kept level 0 t.marks t.level i.place sound.climbs in_marks (omega (arith, i.low, le)) in
+    let kept : i.place < count_to level t.marks = (up_to_level 0 t.marks t.level level i.place sound.climbs in_marks).1 (omega (arith, i.low, le)) in
     record {
       place = i.place;
       within = rw (length-take (count_to level t.marks) t.lits) (omega (arith, kept, i.within));

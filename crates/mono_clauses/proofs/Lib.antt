@@ -5,7 +5,6 @@ mod FlatLists
 pub mod FollowsKept
 pub mod Growth
 mod LateWatches
-mod Levels
 mod Literals
 mod OneWatcher
 mod OldAndNew

@@ -1,12 +1,12 @@
 -- Places ahead on the list that is visited.
-use Rattle.std.proofs.Common.{◌≡◌, ◌≢◌, ℕ, zero, suc, ◌+◌, ◌*◌, ◌%◌, ◌<◌, ◌≤◌, List, [], ◌∷◌, ◌++◌, length, set, arith, refl, sym, ◌∙◌, ap, subst, length-append, ◌⊎◌, inl, inr}
+use Rattle.std.proofs.Common.{◌≡◌, ◌≢◌, ℕ, zero, suc, ◌+◌, ◌*◌, ◌%◌, ◌<◌, ◌≤◌, List, [], ◌∷◌, length, set, arith, refl, sym, ◌∙◌, ap, subst, length-append, ◌⊎◌, inl, inr}
 use Rattle.std.specs.Prelude.{ℤ, Option, Some, replicate}
 use Rattle.std.proofs.lemmas.List.{length-map}
 use Rattle.mono_base.specs.Literal.{slot}
 use Rattle.mono_clauses.proofs.WatchLists.{Facts, Shifted, chunk_shift, chunk_more}
 use Rattle.mono_clauses.proofs.ChunkStacks.{one_same, sum_at, times-append}
 use Rattle.mono_clauses.specs.Lists.{times, list_at}
-use Rattle.mono_clauses.specs.Stacks.{below, IsPlace, IsStack, Rest, watcher_at, watchers_at, bottoms, IsPool, IsChunked, Higher, Fresh, Climbed, Put, Removed, Widened, same_stack}
+use Rattle.mono_clauses.specs.Stacks.{below, IsPlace, IsStack, Rest, watcher_at, watchers_at, bottoms, IsPool, IsChunked, Higher, Fresh, Climbed, Enough, OneMore, Put, Removed, Widened, same_stack}
 use Rattle.mono_clauses.specs.Store.{watch_at}
 
 -- the first place ahead
@@ -66,7 +66,7 @@ chunk_shift_as {vars = vars} {links = links} {cells = cells} {free_chunks = free
     subst (λ (n : ℕ). Put cells₁ links free_chunks₁ heads₁ c n cells' links' free_chunks' heads' → Shifted vars links cells free_chunks heads links' cells' free_chunks' heads' (set watched n (Some l)) list rest) (sym e)
     (λ q. chunk_shift x rest c l cells₁ free_chunks₁ heads₁ links' cells' free_chunks' heads' i f lt other v cl r q)
 
--- the same by equal parts
+-- so it is of equal lists
 pub chunk_eq : {vars : ℕ} {links cells free_chunks heads : List ℕ} {watched : List (Option ℤ)} {list : ℕ} {ahead : List ℕ} (links' cells' free_chunks' : List ℕ) (watched' : List (Option ℤ)) (ahead' : List ℕ) → IsChunked vars links cells free_chunks heads watched list ahead → links' ≡ links → cells' ≡ cells → free_chunks' ≡ free_chunks → watched' ≡ watched → ahead' ≡ ahead → IsChunked vars links' cells' free_chunks' heads watched' list ahead'
 chunk_eq {vars = vars} {links = links} {cells = cells} {free_chunks = free_chunks} {heads = heads} {watched = watched} {list = list} {ahead = ahead} links' cells' free_chunks' watched' ahead' i a b c d e =
     subst (λ (ls : List ℕ). IsChunked vars ls cells' free_chunks' heads watched' list ahead') (sym a)
@@ -83,24 +83,24 @@ pub record Wide (vars : ℕ) (links cells free_chunks heads : List ℕ) (watched
 pub chunk_widen : {vars : ℕ} {links cells free_chunks heads : List ℕ} {watched : List (Option ℤ)} {list : ℕ} {ahead : List ℕ} (least : ℕ) (links' cells' free_chunks' : List ℕ) → IsChunked vars links cells free_chunks heads watched list ahead → Widened cells links free_chunks least cells' links' free_chunks' → least ≡ length watched + 2 + 7 * (2 * vars + 2) → length links ≤ 536870896 → Wide vars links' cells' free_chunks' heads watched list ahead
 chunk_widen {vars = vars} {links = links} {cells = cells} {free_chunks = free_chunks} {heads = heads} {watched = watched} {list = list} {ahead = ahead} least links' cells' free_chunks' i q e few = by_case q.is
   where
-    by_case : ((cells' ≡ cells) × (links' ≡ links) × (free_chunks' ≡ free_chunks) × (least ≤ length cells)) ⊎ ((cells' ≡ cells ++ replicate 8 0) × (links' ≡ links ++ 4294967295 ∷ []) × (free_chunks' ≡ free_chunks ++ (8 * length links) ∷ []) × (length cells < least)) → Wide vars links' cells' free_chunks' heads watched list ahead
-    by_case (inl s) = record { is = chunk_eq links' cells' free_chunks' watched ahead i s.1 s.0 s.2 refl refl; room = omega (arith, s.3, e, i.size, ap (λ (ys : List ℕ). length ys) s.1) }
+    by_case : Enough cells links free_chunks least cells' links' free_chunks' ⊎ OneMore cells links free_chunks least cells' links' free_chunks' → Wide vars links' cells' free_chunks' heads watched list ahead
+    by_case (inl s) = record { is = chunk_eq links' cells' free_chunks' watched ahead i s.same_links s.same_cells s.same_free refl refl; room = omega (arith, s.many, e, i.size, ap (λ (ys : List ℕ). length ys) s.same_links) }
     by_case (inr s) = record {
-      is = chunk_eq links' cells' free_chunks' watched ahead (chunk_more 4294967295 (replicate 8 0) i (omega (arith, few)) refl) s.1 s.0 s.2 refl refl;
-      room = omega (arith, i.room, ap (λ (ys : List ℕ). length ys) s.1, length-append links (4294967295 ∷ []));
+      is = chunk_eq links' cells' free_chunks' watched ahead (chunk_more 4294967295 (replicate 8 0) i (omega (arith, few)) refl) s.more_links s.more_cells s.more_free refl refl;
+      room = omega (arith, i.room, ap (λ (ys : List ℕ). length ys) s.more_links, length-append links (4294967295 ∷ []));
     }
 
 pub widened_length : (cells links free_chunks : List ℕ) (least : ℕ) (cells' links' free_chunks' : List ℕ) → Widened cells links free_chunks least cells' links' free_chunks' → length links' ≤ length links + 1
 widened_length cells links free_chunks least cells' links' free_chunks' q = by_case q.is
   where
-    by_case : ((cells' ≡ cells) × (links' ≡ links) × (free_chunks' ≡ free_chunks) × (least ≤ length cells)) ⊎ ((cells' ≡ cells ++ replicate 8 0) × (links' ≡ links ++ 4294967295 ∷ []) × (free_chunks' ≡ free_chunks ++ (8 * length links) ∷ []) × (length cells < least)) → length links' ≤ length links + 1
-    by_case (inl s) = omega (arith, ap (λ (ys : List ℕ). length ys) s.1)
-    by_case (inr s) = omega (arith, ap (λ (ys : List ℕ). length ys) s.1, length-append links (4294967295 ∷ []))
+    by_case : Enough cells links free_chunks least cells' links' free_chunks' ⊎ OneMore cells links free_chunks least cells' links' free_chunks' → length links' ≤ length links + 1
+    by_case (inl s) = omega (arith, ap (λ (ys : List ℕ). length ys) s.same_links)
+    by_case (inr s) = omega (arith, ap (λ (ys : List ℕ). length ys) s.more_links, length-append links (4294967295 ∷ []))
 
 -- the chunks stay few
 pub widened_most : (cells links free_chunks : List ℕ) (least : ℕ) (cells' links' free_chunks' : List ℕ) (n slots : ℕ) → Widened cells links free_chunks least cells' links' free_chunks' → least ≡ n + 2 + 7 * slots → length cells ≡ 8 * length links → 8 * length links ≤ n + 8 * slots + 7 → 8 * length links' ≤ n + 2 + 8 * slots + 7
 widened_most cells links free_chunks least cells' links' free_chunks' n slots q e size most = by_case q.is
   where
-    by_case : ((cells' ≡ cells) × (links' ≡ links) × (free_chunks' ≡ free_chunks) × (least ≤ length cells)) ⊎ ((cells' ≡ cells ++ replicate 8 0) × (links' ≡ links ++ 4294967295 ∷ []) × (free_chunks' ≡ free_chunks ++ (8 * length links) ∷ []) × (length cells < least)) → 8 * length links' ≤ n + 2 + 8 * slots + 7
-    by_case (inl s) = omega (arith, ap (λ (ys : List ℕ). length ys) s.1, most)
-    by_case (inr s) = omega (arith, ap (λ (ys : List ℕ). length ys) s.1, length-append links (4294967295 ∷ []), s.3, e, size)
+    by_case : Enough cells links free_chunks least cells' links' free_chunks' ⊎ OneMore cells links free_chunks least cells' links' free_chunks' → 8 * length links' ≤ n + 2 + 8 * slots + 7
+    by_case (inl s) = omega (arith, ap (λ (ys : List ℕ). length ys) s.same_links, most)
+    by_case (inr s) = omega (arith, ap (λ (ys : List ℕ). length ys) s.more_links, length-append links (4294967295 ∷ []), s.fewer, e, size)

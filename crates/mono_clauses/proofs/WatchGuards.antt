@@ -9,7 +9,7 @@ use Rattle.mono_base.specs.declared.value.Value.{Value}
 use Rattle.mono_base.specs.declared.value.Value.TheVariants.{Yes, No, Unset}
 use Rattle.mono_clauses.proofs.Growth.{quiet_by_two, quiet_by_true}
 use Rattle.mono_clauses.proofs.FollowsKept.{guards_joined, true_joined}
-use Rattle.mono_clauses.proofs.Levels.{climbs_high_at}
+use Rattle.mono_trail.proofs.Levels.{at_most}
 use Rattle.mono_clauses.proofs.Literals.{no_stands, stands_yes, stands_no, int_tells}
 use Rattle.mono_clauses.proofs.Times.{times_other}
 use Rattle.mono_clauses.specs.ClauseValues.{IsQuiet}
@@ -57,7 +57,7 @@ guards_true t n m a b sound s g = record { at = λ p lt e. inl (by_guard p (g.at
   where
     by_guard : (p : ℕ) → IsTrueBy t b (level_at t.marks p) ⊎ ((n ≤ p) × (level_at t.marks p ≡ t.level)) → IsTrueBy t b (level_at t.marks p)
     by_guard p (inl i) = i
-    by_guard p (inr x) = record { place = s.place; within = s.within; there = s.there; low = omega (arith, x.1, climbs_high_at 0 t.marks t.level s.place sound.climbs (omega (arith, s.within, sound.as_many))) }
+    by_guard p (inr x) = record { place = s.place; within = s.within; there = s.there; low = omega (arith, x.1, at_most 0 t.marks t.level s.place sound.climbs (omega (arith, s.within, sound.as_many))) }
 
 -- a watch that is not false needs no guard
 pub unfalse_guards : (t : TrailView) (n : ℕ) (x b : ℤ) → IsSound t → value_by t.lits x ≢ No → Guards t n x b

@@ -18,4 +18,5 @@ pub record IsFlat (vars : ℕ) (flat : List ℤ) (held : List Entry) : Type 0 wh
   pub starts : (k : ℕ) → k < length held → (slice_index_or held k no_entry).start ≤ (slice_index_or held k no_entry).end
   pub ends : (k : ℕ) → k < length held → (slice_index_or held k no_entry).end ≤ length flat
   pub ranged : AllVars vars flat
-  pub are_cached : (k : ℕ) → k < length held → 0 < length (clause_of flat (slice_index_or held k no_entry)).lits → Stands (clause_of flat (slice_index_or held k no_entry)).lits (slice_index_or held k no_entry).cached
+  pub are_cached : (k : ℕ) → k < length held → 0 < length (clause_of flat (slice_index_or held k no_entry)).lits
+      → Stands (clause_of flat (slice_index_or held k no_entry)).lits (slice_index_or held k no_entry).cached

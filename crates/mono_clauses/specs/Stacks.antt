@@ -169,6 +169,20 @@ pub record IsLoose (vars : ℕ) (links cells free_chunks heads : List ℕ) (watc
   pub free : IsFree (all_watchers cells lists) w
   pub there : (v : ℕ) → v ≢ w → IsThere (watch_at watched v) (all_watchers cells lists) v
 
--- a chunk more where the cells were fewer
+-- there are as many cells as were asked for
+pub record Enough (cells links free_chunks : List ℕ) (least : ℕ) (cells' links' free_chunks' : List ℕ) : Type 0 where
+  pub many : least ≤ length cells
+  pub same_cells : cells' ≡ cells
+  pub same_links : links' ≡ links
+  pub same_free : free_chunks' ≡ free_chunks
+
+-- there were fewer, and a free chunk came
+pub record OneMore (cells links free_chunks : List ℕ) (least : ℕ) (cells' links' free_chunks' : List ℕ) : Type 0 where
+  pub fewer : length cells < least
+  pub more_cells : cells' ≡ cells ++ replicate 8 0
+  pub more_links : links' ≡ links ++ 4294967295 ∷ []
+  pub more_free : free_chunks' ≡ free_chunks ++ (8 * length links) ∷ []
+
+-- a chunk more where the cells were fewer than asked for
 pub record Widened (cells links free_chunks : List ℕ) (least : ℕ) (cells' links' free_chunks' : List ℕ) : Type 0 where
-  pub is : ((cells' ≡ cells) × (links' ≡ links) × (free_chunks' ≡ free_chunks) × (least ≤ length cells)) ⊎ ((cells' ≡ cells ++ replicate 8 0) × (links' ≡ links ++ 4294967295 ∷ []) × (free_chunks' ≡ free_chunks ++ (8 * length links) ∷ []) × (length cells < least))
+  pub is : Enough cells links free_chunks least cells' links' free_chunks' ⊎ OneMore cells links free_chunks least cells' links' free_chunks'

@@ -9,10 +9,21 @@ ghost use Rattle.std.specs.Prelude.{◌≡◌, ◌≢◌, ℕ, ◌+◌, ◌*◌,
 ghost use Rattle.mono_clauses.specs.Lists.{times};
 ghost use Rattle.mono_clauses.specs.Stacks.{below, Climbed, Put, Removed, Widened, IsPool};
 
-use std::alloc::{AllocError, Global};
+use std::alloc::AllocError;
 
 /// The end of every stack.
 pub const END: u32 = 0xffff_ffff;
+
+/// The pool of the chunks.
+#[derive(Drop)]
+pub struct Chunks {
+    /// Watchers, eight cells a chunk.
+    pub cells: Vec<u32>,
+    /// By chunk: the top place of the chunk below it.
+    pub links: Vec<u32>,
+    /// The first places of the chunks in no stack.
+    pub free: Vec<u32>,
+}
 
 /// The place below one of a stack.
 pub fn place_below(links: &Vec<u32>, place: u32) -> u32
@@ -45,30 +56,6 @@ fn climb(links: &mut Vec<u32>, free_chunks: &mut Vec<u32>, top: u32) -> u32
     }
 }
 
-/// A watcher comes onto a stack.
-pub fn put(
-    cells: &mut Vec<u32>,
-    links: &mut Vec<u32>,
-    free_chunks: &mut Vec<u32>,
-    heads: &mut Vec<u32>,
-    slot: usize,
-    watcher: u32,
-)
-    requires in_range { slot < length heads.old.items }
-    requires size { length cells.old.items ≡ 8 * length links.old.items }
-    requires top { slice_index_or heads.old.items slot 4294967295 % 8 ≢ 7 → slice_index_or heads.old.items slot 4294967295 < 8 * length links.old.items }
-    requires some { slice_index_or heads.old.items slot 4294967295 % 8 ≡ 7 → 0 < length free_chunks.old.items }
-    requires free_chunks { (x : ℕ) → 1 ≤ times x free_chunks.old.items → (x % 8 ≡ 0) × (x < 8 * length links.old.items) }
-    ensures is { Put cells.old.items links.old.items free_chunks.old.items heads.old.items slot watcher
-        cells.new.items links.new.items free_chunks.new.items heads.new.items }
-    ensures capacity { vec_capacity free_chunks.new ≡ vec_capacity free_chunks.old }
-{
-    let top = heads[slot];
-    let place = climb(links, free_chunks, top);
-    cells[place as usize] = watcher;
-    heads[slot] = place;
-}
-
 /// The watcher at a place of a stack leaves it: the top one takes its place.
 pub fn remove(
     cells: &mut Vec<u32>,
@@ -91,90 +78,93 @@ pub fn remove(
     cells[place as usize] = cells[top as usize];
     heads[slot] = place_below(links, top);
     if top % 8 == 0 {
-        push_within(free_chunks, top);
+        free_chunks.push_reserved(top);
     }
 }
 
-/// Pushes a number where there is room.
-fn push_within(items: &mut Vec<u32>, item: u32)
-    requires { vec_len items.old < vec_capacity items.old }
-    ensures items { items.new.items ≡ items.old.items ++ item ∷ [] }
-    ensures capacity { vec_capacity items.old ≤ vec_capacity items.new }
-{
-    items.push_reserved(item);
-}
-
-/// Room for a chunk more.
-pub fn reserve_chunk(
-    cells: &mut Vec<u32>,
-    links: &mut Vec<u32>,
-    free_chunks: &mut Vec<u32>,
-) -> Result<(), AllocError>
-    requires { length free_chunks.old.items ≤ length links.old.items }
-    ensures cells { cells.new.items ≡ cells.old.items }
-    ensures links { links.new.items ≡ links.old.items }
-    ensures free_chunks { free_chunks.new.items ≡ free_chunks.old.items }
-    ensures room { OnOk result ((vec_len cells.new + 8 ≤ vec_capacity cells.new) × (vec_len links.new < vec_capacity links.new)
-        × (vec_len links.new < vec_capacity free_chunks.new)) }
-    ensures capacity { vec_capacity free_chunks.old ≤ vec_capacity free_chunks.new }
-{
-    cells.reserve(8)?;
-    links.reserve(1)?;
-    free_chunks.reserve(links.len() - free_chunks.len() + 1)?;
-    Ok(())
-}
-
-/// One chunk more, which is free.
-fn add_chunk(cells: &mut Vec<u32>, links: &mut Vec<u32>, free_chunks: &mut Vec<u32>)
-    requires cells { vec_len cells.old + 8 ≤ vec_capacity cells.old }
-    requires links { vec_len links.old < vec_capacity links.old }
-    requires free_chunks { vec_len free_chunks.old < vec_capacity free_chunks.old }
-    requires few { length links.old.items ≤ 536870896 }
-    ensures cells { cells.new.items ≡ cells.old.items ++ replicate 8 0 }
-    ensures links { links.new.items ≡ links.old.items ++ 4294967295 ∷ [] }
-    ensures free_chunks { free_chunks.new.items ≡ free_chunks.old.items ++ (8 * length links.old.items) ∷ [] }
-    ensures capacity { vec_capacity free_chunks.old ≤ vec_capacity free_chunks.new }
-{
-    let place = 8 * links.len() as u32;
-    match cells.extend_from_slice(&[0; 8]) {
-        Ok(()) => {}
-        Err(_) => unreachable!(),
+impl Chunks {
+    /// A watcher comes onto a stack.
+    pub fn put(&mut self, heads: &mut Vec<u32>, slot: usize, watcher: u32)
+        requires in_range { slot < length heads.old.items }
+        requires size { length self.old.cells.items ≡ 8 * length self.old.links.items }
+        requires top { slice_index_or heads.old.items slot 4294967295 % 8 ≢ 7
+            → slice_index_or heads.old.items slot 4294967295 < 8 * length self.old.links.items }
+        requires some { slice_index_or heads.old.items slot 4294967295 % 8 ≡ 7 → 0 < length self.old.free.items }
+        requires free_chunks { (x : ℕ) → 1 ≤ times x self.old.free.items → (x % 8 ≡ 0) × (x < 8 * length self.old.links.items) }
+        ensures is { Put self.old.cells.items self.old.links.items self.old.free.items heads.old.items slot watcher
+            self.new.cells.items self.new.links.items self.new.free.items heads.new.items }
+        ensures capacity { vec_capacity self.new.free ≡ vec_capacity self.old.free }
+    {
+        let top = heads[slot];
+        let place = climb(&mut self.links, &mut self.free, top);
+        self.cells[place as usize] = watcher;
+        heads[slot] = place;
     }
-    push_within(links, END);
-    push_within(free_chunks, place);
-}
 
-/// One chunk more where there are fewer cells than needed.
-pub fn widen(cells: &mut Vec<u32>, links: &mut Vec<u32>, free_chunks: &mut Vec<u32>, least: usize)
-    requires cells { vec_len cells.old + 8 ≤ vec_capacity cells.old }
-    requires links { vec_len links.old < vec_capacity links.old }
-    requires free_chunks { vec_len free_chunks.old < vec_capacity free_chunks.old }
-    requires few { length links.old.items ≤ 536870896 }
-    ensures is { Widened cells.old.items links.old.items free_chunks.old.items least cells.new.items links.new.items free_chunks.new.items }
-    ensures capacity { vec_capacity free_chunks.old ≤ vec_capacity free_chunks.new }
-{
-    if least > cells.len() {
-        add_chunk(cells, links, free_chunks);
+    /// Room for a chunk more.
+    pub fn reserve(&mut self) -> Result<(), AllocError>
+        requires { length self.old.free.items ≤ length self.old.links.items }
+        ensures cells { self.new.cells.items ≡ self.old.cells.items }
+        ensures links { self.new.links.items ≡ self.old.links.items }
+        ensures free_chunks { self.new.free.items ≡ self.old.free.items }
+        ensures room { OnOk result ((vec_len self.new.cells + 8 ≤ vec_capacity self.new.cells) × (vec_len self.new.links < vec_capacity self.new.links)
+            × (vec_len self.new.links < vec_capacity self.new.free)) }
+        ensures capacity { vec_capacity self.old.free ≤ vec_capacity self.new.free }
+    {
+        self.cells.reserve(8)?;
+        self.links.reserve(1)?;
+        self.free.reserve(self.links.len() - self.free.len() + 1)?;
+        Ok(())
     }
-}
 
-/// So many chunks, which are free.
-pub fn add_chunks(
-    cells: &mut Vec<u32>,
-    links: &mut Vec<u32>,
-    free_chunks: &mut Vec<u32>,
-    count: usize,
-) -> Result<(), AllocError>
-    requires few { count ≤ 2000002 }
-    requires empty { (cells.old.items ≡ []) × (links.old.items ≡ []) × (free_chunks.old.items ≡ []) }
-    ensures pool { OnOk result (IsPool count links.new.items free_chunks.new.items (replicate count 4294967295) (replicate count [])) }
-    ensures size { OnOk result (length cells.new.items ≡ 8 * length links.new.items) }
-    ensures count { OnOk result (length links.new.items ≡ count) }
-    ensures capacity { length links.new.items ≤ vec_capacity free_chunks.new }
-{
-    'chunks: while links.len() < count {
-        reserve_chunk(cells, links, free_chunks)?;
-        add_chunk(cells, links, free_chunks);
+    /// One chunk more, which is free.
+    fn add(&mut self)
+        requires cells { vec_len self.old.cells + 8 ≤ vec_capacity self.old.cells }
+        requires links { vec_len self.old.links < vec_capacity self.old.links }
+        requires free_chunks { vec_len self.old.free < vec_capacity self.old.free }
+        requires few { length self.old.links.items ≤ 536870896 }
+        ensures cells { self.new.cells.items ≡ self.old.cells.items ++ replicate 8 0 }
+        ensures links { self.new.links.items ≡ self.old.links.items ++ 4294967295 ∷ [] }
+        ensures free_chunks { self.new.free.items ≡ self.old.free.items ++ (8 * length self.old.links.items) ∷ [] }
+        ensures capacity { vec_capacity self.old.free ≤ vec_capacity self.new.free }
+    {
+        let place = 8 * self.links.len() as u32;
+        match self.cells.extend_from_slice(&[0; 8]) {
+            Ok(()) => {}
+            Err(_) => unreachable!(),
+        }
+        self.links.push_reserved(END);
+        self.free.push_reserved(place);
     }
-    Ok(())
+
+    /// One chunk more where there are fewer cells than needed.
+    pub fn widen(&mut self, least: usize)
+        requires cells { vec_len self.old.cells + 8 ≤ vec_capacity self.old.cells }
+        requires links { vec_len self.old.links < vec_capacity self.old.links }
+        requires free_chunks { vec_len self.old.free < vec_capacity self.old.free }
+        requires few { length self.old.links.items ≤ 536870896 }
+        ensures is { Widened self.old.cells.items self.old.links.items self.old.free.items least
+            self.new.cells.items self.new.links.items self.new.free.items }
+        ensures capacity { vec_capacity self.old.free ≤ vec_capacity self.new.free }
+    {
+        if least > self.cells.len() {
+            self.add();
+        }
+    }
+
+    /// So many chunks, which are free, where there are none.
+    pub fn add_all(&mut self, count: usize) -> Result<(), AllocError>
+        requires few { count ≤ 2000002 }
+        requires empty { (self.old.cells.items ≡ []) × (self.old.links.items ≡ []) × (self.old.free.items ≡ []) }
+        ensures pool { OnOk result (IsPool count self.new.links.items self.new.free.items (replicate count 4294967295) (replicate count [])) }
+        ensures size { OnOk result (length self.new.cells.items ≡ 8 * length self.new.links.items) }
+        ensures count { OnOk result (length self.new.links.items ≡ count) }
+        ensures capacity { length self.new.links.items ≤ vec_capacity self.new.free }
+    {
+        'chunks: while self.links.len() < count {
+            self.reserve()?;
+            self.add();
+        }
+        Ok(())
+    }
 }

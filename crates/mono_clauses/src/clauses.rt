@@ -3,7 +3,7 @@
 //! At the head of each clause stands one of its literals beside its length, so that a clause of two or three is looked at
 //! without its part of the list: its two watched literals and the cached one are all that it has.
 
-ghost use Rattle.std.specs.Prelude.{◌≡◌, ℕ, ◌<◌, ◌≤◌, ◌+◌, ◌++◌, ◌∷◌, [], length, OnOk, OnErr, vec_len, vec_capacity};
+ghost use Rattle.std.specs.Prelude.{◌≡◌, ℕ, ◌<◌, ◌≤◌, ◌+◌, length, OnOk, OnErr};
 ghost use Rattle.mono_clauses.specs.ClauseValues.{AllVars};
 ghost use Rattle.mono_clauses.specs.Lists.{Stands};
 ghost use Rattle.mono_clauses.specs.Store.{clause_at};
@@ -136,15 +136,12 @@ impl Clauses {
         self.lits.extend_from_slice(lits)?;
         let end = self.lits.len();
         let cached = last_or_first(lits);
-        put(
-            &mut self.held,
-            Entry {
-                number,
-                start,
-                end,
-                cached,
-            },
-        );
+        self.held.push_reserved(Entry {
+            number,
+            start,
+            end,
+            cached,
+        });
         Ok(())
     }
 
@@ -155,14 +152,6 @@ impl Clauses {
     {
         let _ = self.held.pop();
     }
-}
-
-/// Pushes an item where there is room.
-fn put(items: &mut Vec<Entry>, item: Entry)
-    requires { vec_len items.old < vec_capacity items.old }
-    ensures { items.new.items ≡ items.old.items ++ item ∷ [] }
-{
-    items.push_reserved(item);
 }
 
 /// The last literal, if there is one.

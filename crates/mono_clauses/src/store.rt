@@ -1,6 +1,6 @@
 //! The clause store.
 
-ghost use Rattle.std.specs.Prelude.{◌≡◌, ◌≤◌, ◌<◌, ◌+◌, ◌++◌, ◌∷◌, [], length, All, IfOk, OnOk, OnErr, vec_len, vec_capacity};
+ghost use Rattle.std.specs.Prelude.{◌≡◌, ◌≤◌, ◌<◌, ◌+◌, length, All, IfOk, OnOk, OnErr};
 ghost use Rattle.mono_base.specs.declared.limits.TheConstants.{MAX_VARS};
 ghost use Rattle.mono_base.specs.Literal.{IsLitWithin};
 
@@ -83,7 +83,7 @@ impl ClauseStore {
         if try_watch(&self.clauses, &mut self.watches, trail, place) {
             return Ok(());
         }
-        put(&mut self.due, place);
+        self.due.push_reserved(place);
         Ok(())
     }
 
@@ -108,12 +108,4 @@ impl ClauseStore {
         let _ = trail.level();
         Found::Quiet
     }
-}
-
-/// Pushes a place where there is room.
-fn put(items: &mut Vec<usize>, item: usize)
-    requires { vec_len items.old < vec_capacity items.old }
-    ensures { items.new.items ≡ items.old.items ++ item ∷ [] }
-{
-    items.push_reserved(item);
 }

@@ -12,7 +12,7 @@ ghost use Rattle.mono_base.specs.declared.limits.TheConstants.{MAX_VARS};
 ghost use Rattle.mono_base.specs.Literal.{IsLitWithin};
 ghost use Rattle.mono_clauses.specs.Stacks.{Rest, Rest-prop};
 
-use crate::chunks::{END, add_chunks, place_below, put, remove, reserve_chunk, widen};
+use crate::chunks::{Chunks, END, place_below, remove};
 use mono_base::Lit;
 use std::alloc::{AllocError, Global};
 use std::marker::Model;
@@ -25,18 +25,14 @@ pub struct Watches {
     busy: Vec<bool>,
     /// By watcher: what it watches.
     lits: Vec<Lit>,
-    /// Watchers, eight cells a chunk.
-    cells: Vec<u32>,
-    /// By chunk: the top place of the chunk below it.
-    links: Vec<u32>,
-    /// The first places of the chunks in no list.
-    free_chunks: Vec<u32>,
+    /// What the lists are made of.
+    chunks: Chunks,
     /// By literal: the top place of its list.
     heads: Vec<u32>,
     /// Whose list is visited, and the place in it to look at.
     list: usize,
     here: u32,
-    ghost rest: { Rest links.items here } by { Rest-prop links.items here },
+    ghost rest: { Rest chunks.links.items here } by { Rest-prop chunks.links.items here },
 }
 
 impl Model for Watches {
@@ -46,11 +42,11 @@ impl Model for Watches {
 
     ghost Value = { WatchesView };
 
-    ghost view = { λ s. record { vars = s.vars; watched = watched_of s.busy.items s.lits.items; ahead = watchers_at s.cells.items s.rest.places } };
+    ghost view = { λ s. record { vars = s.vars; watched = watched_of s.busy.items s.lits.items; ahead = watchers_at s.chunks.cells.items s.rest.places } };
 
-    ghost invariant = { λ s. IsChunked s.vars s.links.items s.cells.items s.free_chunks.items s.heads.items
-        (watched_of s.busy.items s.lits.items) s.list s.rest.places × (length s.links.items ≤ vec_capacity s.free_chunks)
-        × (length s.busy.items ≡ length s.lits.items) × (8 * length s.links.items ≤ length s.lits.items + 8 * (2 * s.vars + 2) + 7) };
+    ghost invariant = { λ s. IsChunked s.vars s.chunks.links.items s.chunks.cells.items s.chunks.free.items s.heads.items
+        (watched_of s.busy.items s.lits.items) s.list s.rest.places × (length s.chunks.links.items ≤ vec_capacity s.chunks.free)
+        × (length s.busy.items ≡ length s.lits.items) × (8 * length s.chunks.links.items ≤ length s.lits.items + 8 * (2 * s.vars + 2) + 7) };
 }
 
 impl Watches {
@@ -64,17 +60,16 @@ impl Watches {
     {
         let count = 2 * vars as usize + 2;
         let heads = ends(alloc, count)?;
-        let mut cells = Vec::new(alloc);
-        let mut links = Vec::new(alloc);
-        let mut free_chunks = Vec::new(alloc);
-        add_chunks(&mut cells, &mut links, &mut free_chunks, count)?;
+        let cells = Vec::new(alloc);
+        let links = Vec::new(alloc);
+        let free = Vec::new(alloc);
+        let mut chunks = Chunks { cells, links, free };
+        chunks.add_all(count)?;
         Ok(Watches {
             vars,
             busy: Vec::new(alloc),
             lits: Vec::new(alloc),
-            cells,
-            links,
-            free_chunks,
+            chunks,
             heads,
             list: 0,
             here: END,
@@ -88,25 +83,14 @@ impl Watches {
         ensures err { OnErr result (self.new ≡ self.old) }
     {
         // A place has to be less than the end of stacks.
-        if self.links.len() > 0x1fff_fff0 {
+        if self.chunks.links.len() > 0x1fff_fff0 {
             return Err(AllocError);
         }
-        reserve_watchers(
-            &mut self.busy,
-            &mut self.lits,
-            &mut self.cells,
-            &mut self.links,
-            &mut self.free_chunks,
-        )?;
+        reserve_watchers(&mut self.busy, &mut self.lits, &mut self.chunks)?;
         self.here = END;
         let count = 2 * self.vars as usize + 2;
         let least = self.lits.len() + 2 + 7 * count;
-        widen(
-            &mut self.cells,
-            &mut self.links,
-            &mut self.free_chunks,
-            least,
-        );
+        self.chunks.widen(least);
         add_idle(&mut self.busy, &mut self.lits);
         add_idle(&mut self.busy, &mut self.lits);
         Ok(())
@@ -165,14 +149,7 @@ impl Watches {
     {
         let slot = lit.slot();
         self.here = END;
-        put(
-            &mut self.cells,
-            &mut self.links,
-            &mut self.free_chunks,
-            &mut self.heads,
-            slot,
-            watcher as u32,
-        );
+        self.chunks.put(&mut self.heads, slot, watcher as u32);
         self.busy[watcher] = true;
         self.lits[watcher] = lit;
     }
@@ -193,7 +170,7 @@ impl Watches {
         if self.here == END {
             None
         } else {
-            Some(self.cells[self.here as usize] as usize)
+            Some(self.chunks.cells[self.here as usize] as usize)
         }
     }
 
@@ -202,7 +179,7 @@ impl Watches {
         requires { 0 < length self.old.ahead }
         ensures { Kept self.old self.new }
     {
-        self.here = place_below(&self.links, self.here);
+        self.here = place_below(&self.chunks.links, self.here);
     }
 
     /// The first watcher ahead leaves the list, and watches another literal.
@@ -213,26 +190,19 @@ impl Watches {
         ensures { Placed self.old self.new lit }
     {
         let here = self.here;
-        let watcher = self.cells[here as usize];
-        let after = place_below(&self.links, here);
+        let watcher = self.chunks.cells[here as usize];
+        let after = place_below(&self.chunks.links, here);
         remove(
-            &mut self.cells,
-            &self.links,
-            &mut self.free_chunks,
+            &mut self.chunks.cells,
+            &self.chunks.links,
+            &mut self.chunks.free,
             &mut self.heads,
             self.list,
             here,
         );
         let slot = lit.slot();
         self.here = after;
-        put(
-            &mut self.cells,
-            &mut self.links,
-            &mut self.free_chunks,
-            &mut self.heads,
-            slot,
-            watcher,
-        );
+        self.chunks.put(&mut self.heads, slot, watcher);
         self.lits[watcher as usize] = lit;
     }
 
@@ -248,24 +218,22 @@ impl Watches {
 fn reserve_watchers(
     busy: &mut Vec<bool>,
     lits: &mut Vec<Lit>,
-    cells: &mut Vec<u32>,
-    links: &mut Vec<u32>,
-    free_chunks: &mut Vec<u32>,
+    chunks: &mut Chunks,
 ) -> Result<(), AllocError>
-    requires { length free_chunks.old.items ≤ length links.old.items }
+    requires { length chunks.old.free.items ≤ length chunks.old.links.items }
     ensures busy { busy.new.items ≡ busy.old.items }
     ensures lits { lits.new.items ≡ lits.old.items }
-    ensures cells { cells.new.items ≡ cells.old.items }
-    ensures links { links.new.items ≡ links.old.items }
-    ensures free_chunks { free_chunks.new.items ≡ free_chunks.old.items }
+    ensures cells { chunks.new.cells.items ≡ chunks.old.cells.items }
+    ensures links { chunks.new.links.items ≡ chunks.old.links.items }
+    ensures free_chunks { chunks.new.free.items ≡ chunks.old.free.items }
     ensures room { OnOk result ((vec_len busy.new + 2 ≤ vec_capacity busy.new) × (vec_len lits.new + 2 ≤ vec_capacity lits.new)
-        × (vec_len cells.new + 8 ≤ vec_capacity cells.new) × (vec_len links.new < vec_capacity links.new)
-        × (vec_len links.new < vec_capacity free_chunks.new)) }
-    ensures capacity { vec_capacity free_chunks.old ≤ vec_capacity free_chunks.new }
+        × (vec_len chunks.new.cells + 8 ≤ vec_capacity chunks.new.cells) × (vec_len chunks.new.links < vec_capacity chunks.new.links)
+        × (vec_len chunks.new.links < vec_capacity chunks.new.free)) }
+    ensures capacity { vec_capacity chunks.old.free ≤ vec_capacity chunks.new.free }
 {
     busy.reserve(2)?;
     lits.reserve(2)?;
-    reserve_chunk(cells, links, free_chunks)
+    chunks.reserve()
 }
 
 /// Pushes a watcher that watches nothing where there is room.

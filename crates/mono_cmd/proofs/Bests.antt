@@ -24,7 +24,7 @@ use Rattle.mono_answer.specs.Printed.{numbers_text, with_zero, literals_from, an
 use Rattle.mono_check.specs.declared.verdict.Verdict.TheVariants as verdict
 use Rattle.mono_check.specs.Verdicts.{IsVerdict}
 use Rattle.mono_check.proofs.Accepted.{refutation_iff, progress_iff, model_iff}
-use Rattle.mono_check.proofs.Tokens.{numbers_tokens}
+use Rattle.mono_answer.proofs.Tokens.{numbers_tokens}
 use Rattle.mono_best.specs.Asking.{asking, predicate_of, HasBoundedAtom, HasRoomToAsk}
 use Rattle.mono_best.specs.Bounds.{beyond, weakest, IsBoundOf}
 use Rattle.mono_best.specs.Best.{IsOutcome, IsBest, IsBeyond, IsOpen}

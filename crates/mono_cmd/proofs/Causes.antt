@@ -1,5 +1,5 @@
 -- Why a run answers a read fault, or that a file is too long.
-use Rattle.std.proofs.Common.{◌≡◌, ◌⊎◌, ◌+◌, ℕ, List, Option, Some, ap, subst, ◌∙◌, refl, sym}
+use Rattle.std.proofs.Common.{◌≡◌, ◌⊎◌, ◌+◌, ℕ, List, Option, Some, ap, subst, ◌∙◌}
 use Rattle.mono_base.specs.declared.limits.TheConstants.{MAX_INPUT_BYTES, MAX_ANSWER_BYTES}
 use Rattle.mono_io.specs.Faults.{counted}
 use Rattle.mono_io.specs.Shelf.{ShelfView}
@@ -9,11 +9,9 @@ use Rattle.mono_cmd.specs.declared.status.Status.{Status}
 use Rattle.mono_cmd.specs.declared.status.Status.TheVariants as status
 use Rattle.mono_cmd.specs.declared.ending.Ending.{Ending}
 use Rattle.mono_cmd.specs.declared.ending.Ending.TheVariants as ending
-use Rattle.mono_cmd.specs.Endings.{status_of, answer_status, verdict_status, outcome_status, best_status}
 use Rattle.mono_cmd.specs.Runs.{ComesTo, Ends, Writes}
 use Rattle.mono_cmd.proofs.Stages.{Stage, unread, at_file, behind_file, at_answer, behind_answer, stage_of}
-use Rattle.mono_cmd.proofs.Replies.{not_both, answer_reply, verdict_reply, outcome_reply, best_reply}
-use Rattle.mono_cmd.proofs.Needs.{its_read_fault}
+use Rattle.mono_cmd.proofs.Replies.{ending_by}
 use Rattle.mono_cmd.proofs.PlaceByEnding.{past_limit}
 
 -- one call failed
@@ -27,24 +25,14 @@ one_failed found old new (behind_answer p read text behind own given) = absurd o
 pub fault_counted : (found : Option Command) (old new : ShelfView) (e : Ending) (s : Status) (before now : Option (List ℕ)) → Ends found old new e → Writes e s before now → s ≡ status.ReadFault → new.faults ≡ counted old.faults
 fault_counted found old new e s before now ends writes same =
     let here : Writes e status.ReadFault before now = subst (λ (t : Status). Writes e t before now) same writes in
-    let comes : ComesTo found old new ending.ReadFault = subst (Ends found old new) (its_read_fault e here.0) ends in
+    let comes : ComesTo found old new ending.ReadFault = subst (Ends found old new) (ending_by status.ReadFault e here.0) ends in
     one_failed found old new (stage_of found old new ending.ReadFault comes)
 
 -- ---- too long
-
--- only this ending has that status
-its_too_long : (e : Ending) → status.TooLong ≡ status_of e → e ≡ ending.TooLong
-its_too_long ending.TooLong is = refl
-its_too_long (ending.Solved a) is = absurd (not_both (answer_status a) status.TooLong (sym is) (answer_reply a) refl)
-its_too_long (ending.Summed t) is = absurd (not_both (answer_status t.answer) status.TooLong (sym is) (answer_reply t.answer) refl)
-its_too_long (ending.Judged v) is = absurd (not_both (verdict_status v) status.TooLong (sym is) (verdict_reply v) refl)
-its_too_long (ending.Narrowed o) is = absurd (not_both (outcome_status o) status.TooLong (sym is) (outcome_reply o) refl)
-its_too_long (ending.Bounded o) is = absurd (not_both (best_status o) status.TooLong (sym is) (best_reply o) refl)
-its_too_long e is = absurd cc
 
 pub past_its_limit : (found : Option Command) (old new : ShelfView) (e : Ending) (s : Status) (before now : Option (List ℕ)) → Ends found old new e → Writes e s before now → s ≡ status.TooLong
     → (new.place ≡ Some (MAX_INPUT_BYTES + 1)) ⊎ (new.place ≡ Some (MAX_ANSWER_BYTES + 1)) ⊎ (new.place ≡ Some (MAX_MIGRATED_BYTES + 1))
 past_its_limit found old new e s before now ends writes same =
     let here : Writes e status.TooLong before now = subst (λ (t : Status). Writes e t before now) same writes in
-    let comes : ComesTo found old new ending.TooLong = subst (Ends found old new) (its_too_long e here.0) ends in
+    let comes : ComesTo found old new ending.TooLong = subst (Ends found old new) (ending_by status.TooLong e here.0) ends in
     past_limit found old new (stage_of found old new ending.TooLong comes)

@@ -6,38 +6,9 @@ use Rattle.mono_steps.specs.declared.step.Step.{Step}
 use Rattle.mono_steps.specs.declared.step.Step.TheVariants as step
 use Rattle.mono_answer.specs.declared.kind.Kind.TheVariants as kind
 use Rattle.mono_answer.specs.declared.answer.Answer.TheVariants as answer
-use Rattle.mono_answer.specs.Behind.{behind}
 use Rattle.mono_answer.specs.Printed.{status_line, step_line, answer_lines}
-use Rattle.mono_answer.proofs.Printing.{end_line}
 use Rattle.mono_core.specs.declared.outcome.Need.{Need}
 use Rattle.mono_cmd.specs.CoreTexts.{note, need_text, needs_text}
-
--- ---- one line
-
-pub core_head : (out : List ℕ) (ts : List (List ℕ)) → ((out ++ codes "c core") ++ behind ts) ++ 10 ∷ [] ≡ out ++ note (codes "core" ∷ ts)
-core_head out ts = end_line out (codes "c core") ts ∙ ap (λ (t : List ℕ). out ++ t) (by_tokens ts)
-  where
-    by_tokens : (us : List (List ℕ)) → spaced (codes "c core" ∷ us) ≡ note (codes "core" ∷ us)
-    by_tokens [] = refl
-    by_tokens (u ∷ us) = refl
-
-pub needed_line : (out w : List ℕ) (ts : List (List ℕ)) → (((out ++ codes "c needed ") ++ w) ++ behind ts) ++ 10 ∷ [] ≡ out ++ note (codes "needed" ∷ w ∷ ts)
-needed_line out w ts =
-    ap (λ (s : List ℕ). (s ++ behind ts) ++ 10 ∷ []) (append_assoc out (codes "c needed ") w)
-    ∙ (end_line out (codes "c needed " ++ w) ts ∙ ap (λ (t : List ℕ). out ++ t) (by_tokens ts))
-  where
-    by_tokens : (us : List (List ℕ)) → spaced ((codes "c needed " ++ w) ∷ us) ≡ note (codes "needed" ∷ w ∷ us)
-    by_tokens [] = refl
-    by_tokens (u ∷ us) = refl
-
-pub open_line : (out w : List ℕ) (ts : List (List ℕ)) → (((out ++ codes "c open ") ++ w) ++ behind ts) ++ 10 ∷ [] ≡ out ++ note (codes "open" ∷ w ∷ ts)
-open_line out w ts =
-    ap (λ (s : List ℕ). (s ++ behind ts) ++ 10 ∷ []) (append_assoc out (codes "c open ") w)
-    ∙ (end_line out (codes "c open " ++ w) ts ∙ ap (λ (t : List ℕ). out ++ t) (by_tokens ts))
-  where
-    by_tokens : (us : List (List ℕ)) → spaced ((codes "c open " ++ w) ∷ us) ≡ note (codes "open" ∷ w ∷ us)
-    by_tokens [] = refl
-    by_tokens (u ∷ us) = refl
 
 -- ---- progress
 

@@ -1,8 +1,7 @@
 -- What is found under assumptions, and that `check-with` accepts what `core` writes of it.
-use Rattle.std.proofs.Common.{ℕ, suc, ◌<◌, ◌^◌, Bool, true, false, List, [], ◌∷◌, length, map, All, ℤ, refl, sym, subst, arith}
+use Rattle.std.proofs.Common.{ℕ, ◌<◌, ◌^◌, Bool, true, false, List, [], ◌∷◌, length, map, All, ℤ, refl, sym, subst}
 use Rattle.std.specs.Prelude.{IsTrue}
 use Rattle.std.proofs.lemmas.Bool.{and_parts, and_from}
-use Rattle.std.proofs.lemmas.List.Elements.{All-cons, All-nil}
 use Rattle.std.proofs.lemmas.List.Folds.{list_all-append}
 use Rattle.mono_base.specs.declared.limits.TheConstants.{MAX_VARS}
 use Rattle.mono_base.specs.Literal.{IsLitWithin, clause_true, all_true, value_in}
@@ -27,6 +26,7 @@ use Rattle.mono_core.specs.declared.outcome.Need.{Need}
 use Rattle.mono_core.specs.declared.outcome.CoreOutcome.{CoreOutcome}
 use Rattle.mono_core.specs.declared.outcome.CoreOutcome.TheVariants as outcome
 use Rattle.mono_core.specs.Cores.{IsCore}
+use Rattle.mono_core.proofs.Minimal.{pick_within}
 use Rattle.mono_core.proofs.Needs.{room_fewer}
 use Rattle.mono_cmd.specs.CoreTexts.{outcome_text}
 use Rattle.mono_cmd.specs.Solved.{IsNarrowing}
@@ -36,12 +36,6 @@ use Rattle.mono_cmd.proofs.Notes.{keeps_core}
 use Rattle.mono_cmd.proofs.Solutions.{model_solves, progress_solves, printed_steps, few_steps}
 
 -- ---- problems under some of the assumptions
-
-pick_within : (n : ℕ) (bs : List Bool) (xs : List ℤ) → All (IsLitWithin n) xs → All (IsLitWithin n) (pick bs xs)
-pick_within n [] xs h = All-nil (IsLitWithin n)
-pick_within n (b ∷ bs) [] h = All-nil (IsLitWithin n)
-pick_within n (true ∷ bs) (x ∷ xs) h = All-cons (IsLitWithin n) x (pick bs xs) (h 0 x (omega arith)) (pick_within n bs xs (λ k d lt. h (suc k) d (omega (arith, lt))))
-pick_within n (false ∷ bs) (x ∷ xs) h = pick_within n bs xs (λ k d lt. h (suc k) d (omega (arith, lt)))
 
 core_instance : (p : Instance) (budget : ℕ) (assumed lits : List ℤ) (steps : List Step) (needs : List Need) → IsInstance p → All (IsLitWithin MAX_VARS) assumed → HasRoom p assumed
     → IsCore p budget assumed lits steps needs → IsInstance (assuming p lits)

@@ -1,6 +1,6 @@
-mod BestLines
 mod Bests
 mod Causes
+mod NoteLines
 mod CoreLines
 mod Cores
 mod Format
@@ -21,3 +21,4 @@ mod Values
 mod Summaries
 mod TeamSolutions
 mod TeamRuns
+mod UnknownWord

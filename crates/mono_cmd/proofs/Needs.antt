@@ -22,7 +22,7 @@ use Rattle.mono_cmd.specs.declared.ending.Ending.TheVariants as ending
 use Rattle.mono_cmd.specs.Endings.{status_of, TakesMemory, answer_status, verdict_status, outcome_status, best_status}
 use Rattle.mono_cmd.specs.Runs.{EndsAtFile, EndsAtText, ComesTo, Ends, Writes, HasProblem, HasNoFault, HasNoFaultWith, EachReached, IsHeld, IsHeldWithin, IsCarriedOut}
 use Rattle.mono_cmd.proofs.Stages.{ends_else, HasFile, HasAnswer, GoesOn, IsOwn, file_of, answer_of, limit_of, Stage, unread, at_file, behind_file, at_answer, behind_answer, stage_of}
-use Rattle.mono_cmd.proofs.Replies.{not_both, answer_reply, verdict_reply, outcome_reply, best_reply}
+use Rattle.mono_cmd.proofs.Replies.{ending_by}
 
 -- ---- one file
 
@@ -130,21 +130,11 @@ no_read_fault e status.ReadFault before now w other no_fault = absurd (other ref
 no_read_fault e status.Memory before now w other no_fault = λ same. subst TakesMemory same w.1
 no_read_fault e s before now w other no_fault = λ same. absurd (let is = w.0 ∙ ap status_of same in cc)
 
--- only this ending has that status
-pub its_read_fault : (e : Ending) → status.ReadFault ≡ status_of e → e ≡ ending.ReadFault
-its_read_fault ending.ReadFault is = refl
-its_read_fault (ending.Solved a) is = absurd (not_both (answer_status a) status.ReadFault (sym is) (answer_reply a) refl)
-its_read_fault (ending.Summed t) is = absurd (not_both (answer_status t.answer) status.ReadFault (sym is) (answer_reply t.answer) refl)
-its_read_fault (ending.Judged v) is = absurd (not_both (verdict_status v) status.ReadFault (sym is) (verdict_reply v) refl)
-its_read_fault (ending.Narrowed o) is = absurd (not_both (outcome_status o) status.ReadFault (sym is) (outcome_reply o) refl)
-its_read_fault (ending.Bounded o) is = absurd (not_both (best_status o) status.ReadFault (sym is) (best_reply o) refl)
-its_read_fault e is = absurd cc
-
 pub steady : (found : Option Command) (old new : ShelfView) (e : Ending) (s : Status) (before now : Option (List ℕ)) → Ends found old new e → Writes e s before now
     → IsTrue old.steady → IsSomeAnd found (EachReached (IsHeld old.texts) old.texts) → s ≢ status.ReadFault
 steady found old new e s before now ends writes is_steady holds = λ same.
     let here : Writes e status.ReadFault before now = subst (λ (t : Status). Writes e t before now) same writes in
-    let comes : ComesTo found old new ending.ReadFault = subst (Ends found old new) (its_read_fault e here.0) ends in
+    let comes : ComesTo found old new ending.ReadFault = subst (Ends found old new) (ending_by status.ReadFault e here.0) ends in
     never_read_fault (IsHeld old.texts) found old new (λ file limit held. held) holds is_steady (stage_of found old new ending.ReadFault comes)
 
 -- ---- what is carried out

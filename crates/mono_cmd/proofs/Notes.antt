@@ -16,7 +16,7 @@ use Rattle.mono_answer.specs.Versions.{is_version_two, item_by, number_behind, i
 use Rattle.mono_answer.specs.Printed.{numbers_text, with_zero, literals_from, answer_lines}
 use Rattle.mono_problem.specs.Instance.{Instance}
 use Rattle.mono_check.specs.Answers.{step_item, HasModel, HasSteps}
-use Rattle.mono_check.proofs.Tokens.{numbers_tokens, steps_tokens, status_are_tokens}
+use Rattle.mono_answer.proofs.Tokens.{numbers_tokens, steps_tokens, status_are_tokens}
 use Rattle.mono_core.specs.declared.outcome.Need.{Need}
 use Rattle.mono_core.specs.declared.outcome.Need.TheVariants as need
 use Rattle.mono_cmd.specs.CoreTexts.{note, core_line, need_text, needs_text}

@@ -59,6 +59,30 @@ best_reply (bounded.Never steps) = refl
 best_reply (bounded.Beyond model) = refl
 best_reply (bounded.Unknown b steps) = refl
 
+-- the one ending of a status that no other ending has
+abbrev pub IsItsEnding : Status → Ending → Type 0
+IsItsEnding status.ReadFault e = e ≡ ending.ReadFault
+IsItsEnding status.TooLong e = e ≡ ending.TooLong
+IsItsEnding s e = Unit {0}
+
+reply_ending : (s : Status) (e : Ending) → is_reply s ≡ true → IsItsEnding s e
+reply_ending status.ReadFault e reply = absurd cc
+reply_ending status.TooLong e reply = absurd cc
+reply_ending s e reply = tt
+
+own_ending : (e : Ending) → IsItsEnding (status_of e) e
+own_ending ending.ReadFault = refl
+own_ending ending.TooLong = refl
+own_ending (ending.Solved a) = reply_ending (answer_status a) (ending.Solved a) (answer_reply a)
+own_ending (ending.Summed s) = reply_ending (answer_status s.answer) (ending.Summed s) (answer_reply s.answer)
+own_ending (ending.Judged v) = reply_ending (verdict_status v) (ending.Judged v) (verdict_reply v)
+own_ending (ending.Narrowed o) = reply_ending (outcome_status o) (ending.Narrowed o) (outcome_reply o)
+own_ending (ending.Bounded o) = reply_ending (best_status o) (ending.Bounded o) (best_reply o)
+own_ending e = tt
+
+pub ending_by : (s : Status) (e : Ending) → s ≡ status_of e → IsItsEnding s e
+ending_by s e is = subst (λ (t : Status). IsItsEnding t e) (sym is) (own_ending e)
+
 -- with such a status the text was written whole
 pub writes_reply : (e : Ending) (t : Status) (before now : Option (List ℕ)) → is_reply t ≡ true → Writes e t before now → (t ≡ status_of e) × (now ≡ append_known before (text_of e))
 writes_reply e status.WriteFault before now reply w = absurd (not_both status.WriteFault status.WriteFault refl reply refl)

@@ -1,7 +1,6 @@
 -- `check` accepts what an answer's text says.
 use Rattle.std.proofs.Common.{◌≡◌, ℕ, ◌+◌, ◌<◌, ◌^◌, Bool, List, [], ◌∷◌, length, map, Option, Some, refl, sym, ap, ◌∙◌, arith, append-nil}
 use Rattle.std.specs.Prelude.{IsTrue}
-use Rattle.std.specs.List.{enumerate_from}
 use Rattle.std.proofs.lemmas.Bool.{and_parts, le-leb}
 use Rattle.mono_base.specs.declared.limits.TheConstants.{MAX_VARS}
 use Rattle.mono_problem.specs.Instance.{Instance}
@@ -17,8 +16,9 @@ use Rattle.mono_answer.specs.declared.answer.Answer.{Answer}
 use Rattle.mono_answer.specs.declared.answer.Answer.TheVariants as answer
 use Rattle.mono_answer.specs.Printed.{literals_from, with_zero, answer_text, answer_items, in_lines, is_within_format}
 use Rattle.mono_answer.proofs.RoundTrip.{printed_is_read}
-use Rattle.mono_check.specs.Answers.{step_item, HasSteps, HasModel}
+use Rattle.mono_check.specs.Answers.{HasSteps, HasModel}
 use Rattle.mono_check.proofs.Accepted.{refutation_iff, progress_iff, model_iff}
+use Rattle.mono_check.proofs.Stands.{has_steps}
 use Rattle.mono_search.specs.Outcomes.{HasModel as HasModelOf}
 use Rattle.mono_steps.specs.Trimmed.{IsTrimRefutation}
 use Rattle.mono_steps.specs.New.{IsProgress}
@@ -51,17 +51,9 @@ model_solves p budget values ok h = record {
 
 -- ---- steps
 
-seconds : {A : Type 0} (n : ℕ) (xs : List A) → map (λ l. l.1) (enumerate_from n xs) ≡ xs
-seconds n [] = refl
-seconds n (x ∷ xs) = ap (λ (ys : List _). x ∷ ys) (seconds (n + 1) xs)
-
-step_items : (steps : List Step) → map Some (map says.Step steps) ≡ map step_item steps
-step_items [] = refl
-step_items (s ∷ ss) = ap (λ (is : List (Option Item)). step_item s ∷ is) (step_items ss)
-
 pub printed_steps : (c : ℕ) (k : Kind) (a : Answer) (steps : List Step) → answer_items a ≡ says.Status k ∷ map says.Step steps → IsTrue (is_within_format a) → HasSteps c k (answer_text a) steps
 printed_steps c k a steps is within =
-    (enumerate_from 2 (map Some (map says.Step steps)), (1, printed_is_read c a within ∙ ap in_lines is), seconds 2 (map Some (map says.Step steps)) ∙ step_items steps)
+    has_steps c 1 k (answer_text a) steps (printed_is_read c a within ∙ ap in_lines is)
 
 -- so many steps have clause numbers that the format can write
 pub few_steps : (p : Instance) (steps : List Step) → IsInstance p → length steps < 2 ^ 63 → length p.clauses + length steps < 2 ^ 64

@@ -1,5 +1,5 @@
 -- The command that a list of words is. Each word is the list of its bytes.
-use Rattle.std.specs.Prelude.{ℕ, ◌+◌, ◌-◌, ◌^◌, ◌≤◌, Bool, true, false, not, ◌&&◌, ◌==◌, nat_lt, nat_le, if◌then◌else◌, ℤ, nat_abs, List, [], ◌∷◌, length, Option, Some, None, option_map, option_and_then, codes, bytes_eq, All}
+use Rattle.std.specs.Prelude.{◌≡◌, ℕ, ◌+◌, ◌-◌, ◌^◌, ◌≤◌, Bool, true, false, not, ◌&&◌, ◌==◌, nat_lt, nat_le, if◌then◌else◌, ℤ, nat_abs, List, [], ◌∷◌, length, Option, Some, None, option_map, option_and_then, Result, IfOk, IfSome, OnErr, IsSome, codes, bytes_eq, All}
 use Rattle.std.specs.Result.{result_ok}
 use Rattle.mono_base.specs.declared.limits.TheConstants.{MAX_ATOMS, MAX_BOUND, MAX_VARS}
 use Rattle.mono_base.specs.Literal.{IsLitWithin}
@@ -17,9 +17,13 @@ abbrev pub is_file_name : List ℕ → Bool
 is_file_name [] = false
 is_file_name (b ∷ bs) = not (b == 45)
 
+-- a natural from 1 to the limit
+abbrev pub from_one : ℕ → List ℕ → Option ℕ
+from_one most word = option_and_then (λ n. if n == 0 then None else Some n) (result_ok (within most (natural word)))
+
 -- a budget is a natural from 1 to 2^64 - 1
 abbrev pub budget_of : List ℕ → Option ℕ
-budget_of word = option_and_then (λ n. if n == 0 then None else Some n) (result_ok (within (2 ^ 64 - 1) (natural word)))
+budget_of word = from_one (2 ^ 64 - 1) word
 
 -- a word that names a file, and the file
 abbrev pub file_command : List ℕ → List ℕ → Option Command
@@ -30,19 +34,27 @@ file_command verb file =
 
 abbrev pub budgeted_command : List ℕ → List ℕ → List ℕ → List ℕ → Option Command
 budgeted_command verb file option number =
-    if bytes_eq verb (codes "solve") && (is_file_name file && bytes_eq option (codes "--conflicts")) then option_map (λ n. command.Solve file n) (budget_of number) else None
+    if bytes_eq verb (codes "solve") && (is_file_name file && bytes_eq option (codes "--conflicts"))
+    then option_map (λ n. command.Solve file n) (budget_of number) else None
 
 -- the version that a word names: the word is exactly `1` or `2`
 abbrev pub version_of : List ℕ → Option Version
-version_of word = if bytes_eq word (codes "1") then Some version.One else if bytes_eq word (codes "2") then Some version.Two else None
+version_of word =
+    if bytes_eq word (codes "1") then Some version.One
+    else if bytes_eq word (codes "2") then Some version.Two
+    else None
 
 abbrev pub migrate_command : List ℕ → List ℕ → List ℕ → Option Command
-migrate_command file answer word = if is_file_name file && is_file_name answer then option_map (λ v. command.Migrate file answer v) (version_of word) else None
+migrate_command file answer word =
+    if is_file_name file && is_file_name answer then option_map (λ v. command.Migrate file answer v) (version_of word) else None
 
 -- ---- generated inputs
 
 abbrev pub kind_of : List ℕ → Option GenKind
-kind_of word = if bytes_eq word (codes "grid") then Some kind.Grid else if bytes_eq word (codes "wall") then Some kind.Wall else None
+kind_of word =
+    if bytes_eq word (codes "grid") then Some kind.Grid
+    else if bytes_eq word (codes "wall") then Some kind.Wall
+    else None
 
 -- a size is a natural from 2 to 100
 abbrev pub size_of : List ℕ → Option ℕ
@@ -52,7 +64,7 @@ size_of word = option_and_then (λ n. if nat_lt n 2 then None else Some n) (resu
 abbrev pub seed_of : List ℕ → Option ℕ
 seed_of word = result_ok (within (2 ^ 64 - 1) (natural word))
 
--- of what the words behind `gen` are, and of whether the input is solved
+-- the command of what the words behind `gen` are, and of whether the input is solved
 abbrev pub gen_command : Option GenKind → Option ℕ → Option ℕ → Bool → Option Command
 gen_command None n seed solve = None
 gen_command (Some k) None seed solve = None
@@ -61,13 +73,14 @@ gen_command (Some k) (Some n) (Some seed) solve = Some (command.Gen k n seed sol
 
 -- `check FILE ANSWER`
 abbrev pub check_command : List ℕ → List ℕ → List ℕ → Option Command
-check_command verb file answer = if bytes_eq verb (codes "check") && (is_file_name file && is_file_name answer) then Some (command.Check file answer) else None
+check_command verb file answer =
+    if bytes_eq verb (codes "check") && (is_file_name file && is_file_name answer) then Some (command.Check file answer) else None
 
 -- ---- bounds
 
 -- the number of a predicate is a natural from 1 to 100,000
 abbrev pub atom_of : List ℕ → Option ℕ
-atom_of word = option_and_then (λ n. if n == 0 then None else Some n) (result_ok (within MAX_ATOMS (natural word)))
+atom_of word = from_one MAX_ATOMS word
 
 -- a bound is a signed number of a magnitude up to 2^53 + 1
 abbrev pub bound_of : List ℕ → Option ℤ
@@ -77,7 +90,8 @@ abbrev pub best_command : List ℕ → List ℕ → Option Command
 best_command file atom = if is_file_name file then option_map (λ n. command.Best file n) (atom_of atom) else None
 
 abbrev pub ask_command : List ℕ → List ℕ → List ℕ → Option Command
-ask_command file atom bound = if is_file_name file then option_and_then (λ n. option_map (λ b. command.Ask file n b) (bound_of bound)) (atom_of atom) else None
+ask_command file atom bound =
+    if is_file_name file then option_and_then (λ n. option_map (λ b. command.Ask file n b) (bound_of bound)) (atom_of atom) else None
 
 -- ---- assumptions
 
@@ -94,24 +108,21 @@ lits_of (word ∷ words) = option_and_then (λ l. option_map (λ ls. l ∷ ls) (
 abbrev pub assumptions_of : List (List ℕ) → Option (List ℤ)
 assumptions_of words = if nat_le 1 (length words) && nat_le (length words) MAX_ASSUMPTIONS then lits_of words else None
 
--- of the words behind `core`
+-- the command of the words behind `core`
 abbrev pub core_command : List (List ℕ) → Option Command
 core_command [] = None
 core_command (file ∷ lits) = if is_file_name file then option_map (λ ls. command.Core file ls) (assumptions_of lits) else None
 
--- of the words behind `check-with`
+-- the command of the words behind `check-with`
 abbrev pub check_with_command : List (List ℕ) → Option Command
 check_with_command [] = None
 check_with_command (file ∷ []) = None
-check_with_command (file ∷ answer ∷ lits) = if is_file_name file && is_file_name answer then option_map (λ ls. command.CheckWith file answer ls) (assumptions_of lits) else None
+check_with_command (file ∷ answer ∷ lits) =
+    if is_file_name file && is_file_name answer then option_map (λ ls. command.CheckWith file answer ls) (assumptions_of lits) else None
 
 -- ---- workers that search in turn
 
--- a natural from 1 to the limit
-abbrev pub from_one : ℕ → List ℕ → Option ℕ
-from_one most word = option_and_then (λ n. if n == 0 then None else Some n) (result_ok (within most (natural word)))
-
--- of what the numbers of workers and of rounds are
+-- the command of a file and of what the numbers of workers and of rounds are
 abbrev pub team_of : List ℕ → Option ℕ → Option ℕ → Option Command
 team_of file None rounds = None
 team_of file (Some workers) None = None
@@ -147,7 +158,8 @@ command_of (verb ∷ words) =
     else if bytes_eq verb (codes "check-with") then check_with_command words
     else short_command (verb ∷ words)
 
--- the budget of `solve` is at least 1, the size of `gen` is from 2 to 100, assumptions are literals, and a team has 1 to 8 workers and 1 to 100 rounds
+-- the budget of `solve` is at least 1, the size of `gen` is from 2 to 100, assumptions are literals, and a team has 1 to 8 workers and
+-- 1 to 100 rounds
 abbrev pub IsWithinRange : Command → Type 0
 IsWithinRange (command.Solve file budget) = 1 ≤ budget
 IsWithinRange (command.Gen k size seed solve) = (2 ≤ size) × (size ≤ 100)
@@ -169,3 +181,10 @@ files_of (Some (command.CheckWith file answer lits)) = file ∷ answer ∷ []
 files_of (Some (command.Best file atom)) = file ∷ []
 files_of (Some (command.Ask file atom bound)) = file ∷ []
 files_of (Some (command.Team file workers rounds)) = file ∷ []
+
+-- what a call answers of words that are this command, if they are one: the command, whose numbers are within range; or that memory
+-- was wanting, where they are one
+pub record Tells {E : Type 0} (found : Option Command) (r : Result (Option Command) E) : Type 0 where
+  pub form : IfOk r (λ it. it ≡ found)
+  pub ranges : IfOk r (λ it. IfSome it IsWithinRange)
+  pub memory : OnErr r (IsSome found)

@@ -100,8 +100,14 @@ progress_text (answer.Progress steps) = answer_text (answer.Progress steps)
 abbrev pub summary_text : Summary → List ℕ
 summary_text s = summary_lines s.vars s.clauses s.edges s.predicates (result_word s.answer) (verdict_text s.verdict) ++ s.progress
 
+-- the one line that names all commands
+abbrev pub usage : List ℕ
+usage =
+    codes "usage: solve FILE [--conflicts N] | check FILE ANSWER | print FILE | gen KIND SIZE SEED [--solve]"
+    ++ codes " | migrate FILE ANSWER VERSION | core FILE LIT.. | check-with FILE ANSWER LIT.. | best FILE ATOM | ask FILE ATOM B | team FILE K R\n"
+
 abbrev pub text_of : Ending → List ℕ
-text_of ending.Words = codes "usage: solve FILE [--conflicts N] | check FILE ANSWER | print FILE | gen KIND SIZE SEED [--solve] | migrate FILE ANSWER VERSION | core FILE LIT.. | check-with FILE ANSWER LIT.. | best FILE ATOM | ask FILE ATOM B | team FILE K R\n"
+text_of ending.Words = usage
 text_of ending.ReadFault = codes "read fault\n"
 text_of ending.Memory = []
 text_of ending.TooLong = codes "too long\n"

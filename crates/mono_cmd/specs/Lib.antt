@@ -3,6 +3,7 @@ pub mod CoreTexts
 pub mod BestTexts
 pub mod Statuses
 pub mod Solved
+pub mod Told
 pub mod Teams
 pub mod Endings
 pub mod Runs

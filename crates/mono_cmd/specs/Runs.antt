@@ -53,6 +53,7 @@ use Rattle.mono_cmd.specs.BestTexts.{best_text}
 use Rattle.mono_cmd.specs.CoreTexts.{outcome_text}
 use Rattle.mono_cmd.specs.Solved.{IsSolution, IsSummary, IsNarrowing, IsBounding}
 use Rattle.mono_cmd.specs.Teams.{IsTeamed}
+use Rattle.mono_cmd.specs.Told.{RunsOver, WroteOver}
 
 -- ---- a file on the way
 
@@ -135,7 +136,8 @@ IsNarrowed p lits e = ⊥
 -- the verdict on ANSWER for FILE's problem under the assumptions, which are literals
 abbrev pub IsJudgedWith : Instance → List ℤ → List ℕ → ShelfView → ShelfView → Ending → Type 0
 IsJudgedWith p lits answer read new e =
-    All (IsLitWithin MAX_VARS) lits × HasRoom p lits × WithText answer MAX_ANSWER_BYTES read new e (λ text shelf. IsJudged (assuming p lits) text e × (new ≡ shelf))
+    All (IsLitWithin MAX_VARS) lits × HasRoom p lits
+    × WithText answer MAX_ANSWER_BYTES read new e (λ text shelf. IsJudged (assuming p lits) text e × (new ≡ shelf))
 
 -- ---- bounds
 
@@ -198,14 +200,17 @@ IsOutOfMemory (Some (command.Solve file budget)) old new = (new ≡ old) ⊎ IsG
 IsOutOfMemory (Some (command.Print file)) old new = (new ≡ old) ⊎ IsGivenUp MAX_INPUT_BYTES old new
 IsOutOfMemory (Some (command.Gen k size seed solve)) old new = new ≡ old
 IsOutOfMemory (Some (command.Check file answer)) old new =
-    ((new ≡ old) ⊎ IsGivenUp MAX_INPUT_BYTES old new) ⊎ ((p : Instance) × (read : ShelfView) × HasProblem file old read p × IsGivenUp MAX_ANSWER_BYTES read new)
+    ((new ≡ old) ⊎ IsGivenUp MAX_INPUT_BYTES old new)
+    ⊎ ((p : Instance) × (read : ShelfView) × HasProblem file old read p × IsGivenUp MAX_ANSWER_BYTES read new)
 IsOutOfMemory (Some (command.Migrate file answer v)) old new =
-    ((new ≡ old) ⊎ IsGivenUp MAX_INPUT_BYTES old new) ⊎ ((p : Instance) × (read : ShelfView) × HasProblem file old read p × IsGivenUp MAX_MIGRATED_BYTES read new)
+    ((new ≡ old) ⊎ IsGivenUp MAX_INPUT_BYTES old new)
+    ⊎ ((p : Instance) × (read : ShelfView) × HasProblem file old read p × IsGivenUp MAX_MIGRATED_BYTES read new)
 IsOutOfMemory (Some (command.Core file lits)) old new = (new ≡ old) ⊎ IsGivenUp MAX_INPUT_BYTES old new
 IsOutOfMemory (Some (command.Best file n)) old new = (new ≡ old) ⊎ IsGivenUp MAX_INPUT_BYTES old new
 IsOutOfMemory (Some (command.Ask file n b)) old new = (new ≡ old) ⊎ IsGivenUp MAX_INPUT_BYTES old new
 IsOutOfMemory (Some (command.CheckWith file answer lits)) old new =
-    ((new ≡ old) ⊎ IsGivenUp MAX_INPUT_BYTES old new) ⊎ ((p : Instance) × (read : ShelfView) × HasProblem file old read p × HasRoom p lits × IsGivenUp MAX_ANSWER_BYTES read new)
+    ((new ≡ old) ⊎ IsGivenUp MAX_INPUT_BYTES old new)
+    ⊎ ((p : Instance) × (read : ShelfView) × HasProblem file old read p × HasRoom p lits × IsGivenUp MAX_ANSWER_BYTES read new)
 IsOutOfMemory (Some (command.Team file workers rounds)) old new = (new ≡ old) ⊎ IsGivenUp MAX_INPUT_BYTES old new
 
 -- What a run comes to.
@@ -228,7 +233,7 @@ pub record Runs (found : Option Command) (old new : ShelfView) (s : Status) (bef
   pub ends : Ends found old new ending
   pub writes : Writes ending s before now
 
--- the same, and the process ends with the number of the status
+-- the run comes to an ending, writes its text by a status, and the process ends with the number of that
 pub record Exits (found : Option Command) (old new : ShelfView) (code : ℕ) (before now : Option (List ℕ)) : Type 0 where
   pub status : Status
   pub runs : Runs found old new status before now
@@ -241,60 +246,51 @@ untold_shelf = record { texts = None; chosen = []; place = None; begun = 0; faul
 -- The process ends with the number of the status of a run over real files and the standard output, which tell nothing; or
 -- no memory was found for its words.
 abbrev pub ExitsOverFiles : ℕ → Type 0
-ExitsOverFiles code = (code ≡ code_of status.Memory) ⊎ ((words : List (List ℕ)) × (new : ShelfView) × Exits (command_of words) untold_shelf new code None None)
+ExitsOverFiles code =
+    (code ≡ code_of status.Memory) ⊎ ((words : List (List ℕ)) × (new : ShelfView) × Exits (command_of words) untold_shelf new code None None)
 
 -- `solve` runs with this budget, and FILE is told and stands for the problem
-pub record Solves (found : Option Command) (texts : Option Texts) (p : Instance) (budget : ℕ) : Type 0 where
-  pub file : List ℕ
-  pub is : found ≡ Some (command.Solve file budget)
-  pub text : List ℕ
-  pub told : told_text texts file ≡ Some text
-  pub stands : Stands text p
+abbrev pub Solves : Option Command → Option Texts → Instance → ℕ → Type 0
+Solves found texts p budget = RunsOver found (λ file. command.Solve file budget) texts p
 
 -- `core` runs with these assumptions, and FILE is told and stands for the problem
-pub record Narrows (found : Option Command) (texts : Option Texts) (p : Instance) (lits : List ℤ) : Type 0 where
-  pub file : List ℕ
-  pub is : found ≡ Some (command.Core file lits)
-  pub text : List ℕ
-  pub told : told_text texts file ≡ Some text
-  pub stands : Stands text p
+abbrev pub Narrows : Option Command → Option Texts → Instance → List ℤ → Type 0
+Narrows found texts p lits = RunsOver found (λ file. command.Core file lits) texts p
 
--- what `core` writes with this status: with a model or progress what `check-with` accepts under all assumptions, and else the text of a core and what it accepts under that
+-- what `core` writes with this status: with a model or progress what `check-with` accepts under all assumptions, and else the text of
+-- a core and what it accepts under that
 abbrev pub IsCoreBy : Status → Instance → List ℤ → List ℕ → Type 0
 IsCoreBy status.Satisfiable p lits text = IsVerdict (assuming p lits) text verdict.Model
 IsCoreBy status.Unsatisfiable p lits text =
-    (some : List ℤ) × (needs : List Need) × (steps : List Step) × IsCore p DEFAULT_BUDGET lits some steps needs × (text ≡ outcome_text (outcome.Core some steps needs)) × IsVerdict (assuming p some) text verdict.Refutation
+    (some : List ℤ) × (needs : List Need) × (steps : List Step) × IsCore p DEFAULT_BUDGET lits some steps needs
+    × (text ≡ outcome_text (outcome.Core some steps needs)) × IsVerdict (assuming p some) text verdict.Refutation
 IsCoreBy status.Unknown p lits text = IsVerdict (assuming p lits) text (verdict.Progress DEFAULT_BUDGET)
 IsCoreBy s p lits text = Unit {0}
 
 -- `best` runs, and FILE is told and stands for the problem
-pub record Bounds (found : Option Command) (texts : Option Texts) (p : Instance) (n : ℕ) : Type 0 where
-  pub file : List ℕ
-  pub is : found ≡ Some (command.Best file n)
-  pub text : List ℕ
-  pub told : told_text texts file ≡ Some text
-  pub stands : Stands text p
+abbrev pub Bounds : Option Command → Option Texts → Instance → ℕ → Type 0
+Bounds found texts p n = RunsOver found (λ file. command.Best file n) texts p
 
 -- What `best` writes with this status: the best bound over all assignments that satisfy the problem, a flow beyond every bound,
 -- that no bound is met, or the bound on which the budget was spent. `check` accepts it of the problem that asks for the bound past
 -- the best one, for the greatest flow, for the weakest bound, or for that bound.
 abbrev pub IsBestBy : Status → Instance → ℕ → List ℕ → Type 0
 IsBestBy status.Satisfiable p n text =
-    ((b : ℤ) × (model : List Bool) × (steps : List Step) × IsBest p n b model steps × IsOptimum p n b × (text ≡ best_text (bounded.Best b model steps)) × IsVerdict (asking p n (beyond (predicate_of p n) b)) text verdict.Refutation)
-    ⊎ ((model : List Bool) × IsBeyondBounds p n model × (text ≡ best_text (bounded.Beyond model)) × IsVerdict (asking p n (pos (MAX_BOUND + 1))) text verdict.Model)
+    ((b : ℤ) × (model : List Bool) × (steps : List Step) × IsBest p n b model steps × IsOptimum p n b
+    × (text ≡ best_text (bounded.Best b model steps)) × IsVerdict (asking p n (beyond (predicate_of p n) b)) text verdict.Refutation)
+    ⊎ ((model : List Bool) × IsBeyondBounds p n model
+    × (text ≡ best_text (bounded.Beyond model)) × IsVerdict (asking p n (pos (MAX_BOUND + 1))) text verdict.Model)
 IsBestBy status.Unsatisfiable p n text =
-    (steps : List Step) × IsNeverMet p n × (text ≡ best_text (bounded.Never steps)) × IsVerdict (asking p n (weakest (predicate_of p n))) text verdict.Refutation
+    (steps : List Step) × IsNeverMet p n
+    × (text ≡ best_text (bounded.Never steps)) × IsVerdict (asking p n (weakest (predicate_of p n))) text verdict.Refutation
 IsBestBy status.Unknown p n text =
-    (b : ℤ) × (steps : List Step) × IsOpen p n DEFAULT_BUDGET b steps × (text ≡ best_text (bounded.Unknown b steps)) × IsVerdict (asking p n b) text (verdict.Progress DEFAULT_BUDGET)
+    (b : ℤ) × (steps : List Step) × IsOpen p n DEFAULT_BUDGET b steps
+    × (text ≡ best_text (bounded.Unknown b steps)) × IsVerdict (asking p n b) text (verdict.Progress DEFAULT_BUDGET)
 IsBestBy s p n text = Unit {0}
 
 -- `ask` runs, and FILE is told and stands for the problem
-pub record Asks (found : Option Command) (texts : Option Texts) (p : Instance) (n : ℕ) (b : ℤ) : Type 0 where
-  pub file : List ℕ
-  pub is : found ≡ Some (command.Ask file n b)
-  pub text : List ℕ
-  pub told : told_text texts file ≡ Some text
-  pub stands : Stands text p
+abbrev pub Asks : Option Command → Option Texts → Instance → ℕ → ℤ → Type 0
+Asks found texts p n b = RunsOver found (λ file. command.Ask file n b) texts p
 
 -- the verdict of `check` on a text that was written with this status
 abbrev pub IsVerdictBy : Status → Instance → ℕ → List ℕ → Type 0
@@ -320,32 +316,18 @@ abbrev pub IsSummaryBy : Status → Instance → List ℕ → Type 0
 IsSummaryBy status.Satisfiable p text = text ≡ summary_of p (codes "satisfiable") (codes "accepted model\n")
 IsSummaryBy status.Unsatisfiable p text = text ≡ summary_of p (codes "unsatisfiable") (codes "accepted refutation\n")
 IsSummaryBy status.Unknown p text =
-    (steps : List Step) × IsProgress p DEFAULT_BUDGET steps × (text ≡ summary_of p (codes "unknown") (verdict_text (verdict.Progress DEFAULT_BUDGET)) ++ answer_text (answer.Progress steps))
+    (steps : List Step) × IsProgress p DEFAULT_BUDGET steps
+    × (text ≡ summary_of p (codes "unknown") (verdict_text (verdict.Progress DEFAULT_BUDGET)) ++ answer_text (answer.Progress steps))
 IsSummaryBy s p text = Unit {0}
 
 -- `check` wrote this behind what was there, and FILE is told and stands for the problem
-pub record CheckWrote (found : Option Command) (texts : Option Texts) (before now : Option (List ℕ)) (p : Instance) (written : List ℕ) : Type 0 where
-  pub file : List ℕ
-  pub answer : List ℕ
-  pub is : found ≡ Some (command.Check file answer)
-  pub text : List ℕ
-  pub told : told_text texts file ≡ Some text
-  pub stands : Stands text p
-  pub there : List ℕ
-  pub held : before ≡ Some there
-  pub wrote : now ≡ Some (there ++ written)
+abbrev pub CheckWrote : Option Command → Option Texts → Option (List ℕ) → Option (List ℕ) → Instance → List ℕ → Type 0
+CheckWrote found texts before now p written = WroteOver found (λ file answer. command.Check file answer) texts before now p written
 
 -- `check-with` wrote this behind what was there, and FILE is told and stands for the problem
-pub record CheckWithWrote (found : Option Command) (texts : Option Texts) (before now : Option (List ℕ)) (p : Instance) (lits : List ℤ) (written : List ℕ) : Type 0 where
-  pub file : List ℕ
-  pub answer : List ℕ
-  pub is : found ≡ Some (command.CheckWith file answer lits)
-  pub text : List ℕ
-  pub told : told_text texts file ≡ Some text
-  pub stands : Stands text p
-  pub there : List ℕ
-  pub held : before ≡ Some there
-  pub wrote : now ≡ Some (there ++ written)
+abbrev pub CheckWithWrote : Option Command → Option Texts → Option (List ℕ) → Option (List ℕ) → Instance → List ℤ → List ℕ → Type 0
+CheckWithWrote found texts before now p lits written =
+    WroteOver found (λ file answer. command.CheckWith file answer lits) texts before now p written
 
 -- ---- what a command needs
 
@@ -353,7 +335,7 @@ pub record CheckWithWrote (found : Option Command) (texts : Option Texts) (befor
 abbrev pub IsHeld : Option Texts → List ℕ → ℕ → Type 0
 IsHeld texts file limit = IsSome (told_text texts file)
 
--- and the file isn't beyond its limit
+-- the shelf tells its texts and holds that file, which isn't beyond its limit
 abbrev pub IsHeldWithin : Option Texts → List ℕ → ℕ → Type 0
 IsHeldWithin texts file limit = IsSomeAnd (told_text texts file) (λ text. length text ≤ limit)
 
@@ -361,9 +343,10 @@ IsHeldWithin texts file limit = IsSomeAnd (told_text texts file) (λ text. lengt
 abbrev pub HasNoFault : Option Texts → List ℕ → Type 0
 HasNoFault texts file = IsSomeAnd (told_text texts file) (λ text. (length text ≤ MAX_INPUT_BYTES) × (first_fault text ≡ None))
 
--- and there is room for the assumptions
+-- FILE is read and has no fault, and there is room for the assumptions, so that the run goes on behind it
 abbrev pub HasNoFaultWith : Option Texts → List ℕ → List ℤ → Type 0
-HasNoFaultWith texts file lits = IsSomeAnd (told_text texts file) (λ text. (length text ≤ MAX_INPUT_BYTES) × ((p : Instance) × Stands text p × HasRoom p lits))
+HasNoFaultWith texts file lits =
+    IsSomeAnd (told_text texts file) (λ text. (length text ≤ MAX_INPUT_BYTES) × ((p : Instance) × Stands text p × HasRoom p lits))
 
 -- each file that the command comes to meets the condition, by its limit: ANSWER only where FILE has no fault
 abbrev pub EachReached : (List ℕ → ℕ → Type 0) → Option Texts → Command → Type 0
@@ -375,7 +358,8 @@ EachReached Holds texts (command.Gen k size seed solve) = Unit {0}
 EachReached Holds texts (command.Core file lits) = Holds file MAX_INPUT_BYTES
 EachReached Holds texts (command.Best file n) = Holds file MAX_INPUT_BYTES
 EachReached Holds texts (command.Ask file n b) = Holds file MAX_INPUT_BYTES
-EachReached Holds texts (command.CheckWith file answer lits) = Holds file MAX_INPUT_BYTES × (HasNoFaultWith texts file lits → Holds answer MAX_ANSWER_BYTES)
+EachReached Holds texts (command.CheckWith file answer lits) =
+    Holds file MAX_INPUT_BYTES × (HasNoFaultWith texts file lits → Holds answer MAX_ANSWER_BYTES)
 EachReached Holds texts (command.Team file workers rounds) = Holds file MAX_INPUT_BYTES
 
 -- how a command ends that is carried out
@@ -390,7 +374,8 @@ IsCarriedOut (command.Core file lits) s = (s ≡ status.Satisfiable) ⊎ (s ≡ 
 IsCarriedOut (command.Best file n) s = (s ≡ status.Satisfiable) ⊎ (s ≡ status.Unsatisfiable) ⊎ (s ≡ status.Unknown) ⊎ (s ≡ status.Refused)
 IsCarriedOut (command.Ask file n b) s = (s ≡ status.Printed) ⊎ (s ≡ status.Refused)
 IsCarriedOut (command.CheckWith file answer lits) s = (s ≡ status.Accepted) ⊎ (s ≡ status.Rejected) ⊎ (s ≡ status.Refused)
-IsCarriedOut (command.Team file workers rounds) s = (s ≡ status.Satisfiable) ⊎ (s ≡ status.Unsatisfiable) ⊎ (s ≡ status.Unknown) ⊎ (s ≡ status.Refused)
+IsCarriedOut (command.Team file workers rounds) s =
+    (s ≡ status.Satisfiable) ⊎ (s ≡ status.Unsatisfiable) ⊎ (s ≡ status.Unknown) ⊎ (s ≡ status.Refused)
 
 -- ---- two runs
 
@@ -409,14 +394,14 @@ AreConsistent (answer.Model values) (answer.Refutation steps) = ⊥
 AreConsistent (answer.Refutation steps) (answer.Model values) = ⊥
 AreConsistent a b = Unit {0}
 
--- and so for what was found under assumptions: not a model under all of them and a core
+-- what was found twice under assumptions doesn't contradict itself: not a model under all of them and a core
 abbrev pub AreConsistentOutcomes : CoreOutcome → CoreOutcome → Type 0
 AreConsistentOutcomes (outcome.Model values) (outcome.Core lits steps needs) = ⊥
 AreConsistentOutcomes (outcome.Core lits steps needs) (outcome.Model values) = ⊥
 AreConsistentOutcomes a b = Unit {0}
 
--- And so for what was found of a bound: two best bounds are one, and otherwise only a spent budget stands beside the other. Which
--- values meet it isn't fixed.
+-- What was found twice of a bound doesn't contradict itself: two best bounds are one, and otherwise only a spent budget stands beside
+-- the other. Which values meet a bound isn't fixed.
 abbrev pub AreConsistentBounds : BestOutcome → BestOutcome → Type 0
 AreConsistentBounds (bounded.Best b model steps) (bounded.Best c other later) = b ≡ c
 AreConsistentBounds (bounded.Best b model steps) (bounded.Never later) = ⊥
@@ -427,7 +412,7 @@ AreConsistentBounds (bounded.Beyond model) (bounded.Best c other later) = ⊥
 AreConsistentBounds (bounded.Beyond model) (bounded.Never later) = ⊥
 AreConsistentBounds a b = Unit {0}
 
--- the same ending, or two answers that don't contradict each other
+-- one ending twice, or two answers that don't contradict each other
 abbrev pub AreAlike : Ending → Ending → Type 0
 AreAlike (ending.Solved a) (ending.Solved b) = AreConsistent a b
 AreAlike (ending.Summed s) (ending.Summed t) = AreConsistent s.answer t.answer

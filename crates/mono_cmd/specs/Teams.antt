@@ -1,13 +1,12 @@
 -- What `team` answers, and what it writes.
-use Rattle.std.specs.Prelude.{◌≡◌, ℕ, List, Option, Some}
+use Rattle.std.specs.Prelude.{◌≡◌, ℕ, List, Option}
 use Rattle.mono_problem.specs.Instance.{Instance}
-use Rattle.mono_gnf.specs.Stands.{Stands}
 use Rattle.mono_steps.specs.declared.step.Step.{Step}
 use Rattle.mono_steps.specs.Journals.{chain_count}
 use Rattle.mono_search.specs.Outcomes.{HasModel}
 use Rattle.mono_steps.specs.Trimmed.{IsTrimRefutation}
 use Rattle.mono_portfolio.specs.Outcomes.{IsBoardOfRounds}
-use Rattle.mono_io.specs.Shelf.{Texts, told_text}
+use Rattle.mono_io.specs.Shelf.{Texts}
 use Rattle.mono_answer.specs.declared.answer.Answer.{Answer}
 use Rattle.mono_answer.specs.declared.answer.Answer.TheVariants as answer
 use Rattle.mono_answer.specs.Printed.{answer_text}
@@ -20,6 +19,7 @@ use Rattle.mono_cmd.specs.declared.status.Status.TheVariants as status
 use Rattle.mono_cmd.specs.declared.ending.Ending.{Ending}
 use Rattle.mono_cmd.specs.declared.ending.Ending.TheVariants as ending
 use Rattle.mono_cmd.specs.Solved.{verdict_of}
+use Rattle.mono_cmd.specs.Told.{RunsOver}
 
 -- a model, a refutation, or the board of all rounds of so many workers
 abbrev pub IsTeamAnswer : Instance → ℕ → ℕ → Answer → Type 0
@@ -39,17 +39,15 @@ pub record IsTeamed (p : Instance) (workers rounds : ℕ) (e : Ending) : Type 0 
   pub right : IsTeamSolution p workers rounds answer
 
 -- `team` runs with so many workers and rounds, and FILE is told and stands for the problem
-pub record PlaysTeam (found : Option Command) (texts : Option Texts) (p : Instance) (workers rounds : ℕ) : Type 0 where
-  pub file : List ℕ
-  pub is : found ≡ Some (command.Team file workers rounds)
-  pub text : List ℕ
-  pub told : told_text texts file ≡ Some text
-  pub stands : Stands text p
+abbrev pub PlaysTeam : Option Command → Option Texts → Instance → ℕ → ℕ → Type 0
+PlaysTeam found texts p workers rounds = RunsOver found (λ file. command.Team file workers rounds) texts p
 
--- what `team` writes with this status: what `check` accepts as a model or as a refutation, or the board of all rounds, which it accepts as progress
+-- what `team` writes with this status: what `check` accepts as a model or as a refutation, or the board of all rounds, which it
+-- accepts as progress
 abbrev pub IsTeamTextBy : Status → Instance → ℕ → ℕ → List ℕ → Type 0
 IsTeamTextBy status.Satisfiable p workers rounds text = IsVerdict p text verdict.Model
 IsTeamTextBy status.Unsatisfiable p workers rounds text = IsVerdict p text verdict.Refutation
 IsTeamTextBy status.Unknown p workers rounds text =
-    (board : List Step) × IsBoardOfRounds p workers rounds board × (text ≡ answer_text (answer.Progress board)) × IsVerdict p text (verdict.Progress (chain_count board))
+    (board : List Step) × IsBoardOfRounds p workers rounds board
+    × (text ≡ answer_text (answer.Progress board)) × IsVerdict p text (verdict.Progress (chain_count board))
 IsTeamTextBy s p workers rounds text = Unit {0}

@@ -12,6 +12,7 @@ ghost use Rattle.mono_cmd.specs.Solved.{IsBounding};
 
 use crate::command::DEFAULT_BUDGET;
 use crate::ending::Ending;
+use crate::solving::few_steps;
 use mono_base::Row;
 use mono_best::{BestOutcome, ask, best, has_bounded_atom, has_room_to_ask, is_bound_of};
 use mono_gnf::print_gnf;
@@ -70,7 +71,7 @@ fn best_of(alloc: Global, problem: &Problem, atom: u32) -> Result<BestOutcome, A
     Ok(bounding(problem, atom, outcome))
 }
 
-/// The outcome as it is. Its steps are as few as a list in memory has, so the numbers of their lines are within the format.
+/// The outcome as it is, with steps that are few.
 fn bounding(problem: &Problem, atom: u32, outcome: BestOutcome) -> BestOutcome
     requires problem { IsInstance problem.now }
     requires atom { HasBoundedAtom problem.now atom }
@@ -83,20 +84,17 @@ fn bounding(problem: &Problem, atom: u32, outcome: BestOutcome) -> BestOutcome
             bound,
             model,
             steps,
-        } => {
-            let steps = Row::from_vec(steps.into_vec());
-            BestOutcome::Best {
-                bound,
-                model,
-                steps,
-            }
-        }
-        BestOutcome::Never(steps) => BestOutcome::Never(Row::from_vec(steps.into_vec())),
+        } => BestOutcome::Best {
+            bound,
+            model,
+            steps: few_steps(steps),
+        },
+        BestOutcome::Never(steps) => BestOutcome::Never(few_steps(steps)),
         BestOutcome::Beyond(model) => BestOutcome::Beyond(model),
-        BestOutcome::Unknown { bound, steps } => {
-            let steps = Row::from_vec(steps.into_vec());
-            BestOutcome::Unknown { bound, steps }
-        }
+        BestOutcome::Unknown { bound, steps } => BestOutcome::Unknown {
+            bound,
+            steps: few_steps(steps),
+        },
     }
 }
 

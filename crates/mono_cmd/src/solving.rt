@@ -1,6 +1,6 @@
 //! Answers to problems, looked for by the search.
 
-ghost use Rattle.std.specs.Prelude.{◌≤◌, ℕ, All, IfOk};
+ghost use Rattle.std.specs.Prelude.{◌≡◌, ◌≤◌, ◌<◌, ◌^◌, ℕ, All, IfOk, length};
 ghost use Rattle.mono_base.specs.declared.limits.TheConstants.{MAX_VARS};
 ghost use Rattle.mono_base.specs.Literal.{IsLitWithin};
 ghost use Rattle.mono_problem.specs.Instance.{Instance};
@@ -18,6 +18,7 @@ use mono_core::{CoreOutcome, core};
 use mono_kinds::all_theories;
 use mono_problem::Problem;
 use mono_search::{Solved, solve};
+use mono_steps::Step;
 use std::alloc::{AllocError, Global};
 
 /// What the search comes to when it may learn so many clauses: a model, a refutation, or as much progress.
@@ -31,14 +32,22 @@ pub fn answer_to(alloc: Global, problem: &Problem, budget: u64) -> Result<Answer
     Ok(answer_of(solved))
 }
 
-/// What was found as an answer. Its steps are as few as a list in memory has, so the numbers of their lines are within the format.
+/// The steps, which are as few as a list in memory has. So the numbers of their lines are within the format.
+pub(crate) fn few_steps(steps: Row<Step>) -> Row<Step>
+    ensures same { result ≡ steps }
+    ensures few { length result < 2 ^ 63 }
+{
+    Row::from_vec(steps.into_vec())
+}
+
+/// What was found as an answer.
 fn answer_of(solved: Solved) -> Answer
     ensures { (p : Instance) (budget : ℕ) → IsInstance p → IsSolved p budget solved → IsSolution p budget result }
 {
     match solved {
         Solved::Model(values) => Answer::Model(values),
-        Solved::Refutation(steps) => Answer::Refutation(Row::from_vec(steps.into_vec())),
-        Solved::Progress(steps) => Answer::Progress(Row::from_vec(steps.into_vec())),
+        Solved::Refutation(steps) => Answer::Refutation(few_steps(steps)),
+        Solved::Progress(steps) => Answer::Progress(few_steps(steps)),
     }
 }
 
@@ -54,7 +63,7 @@ pub fn core_of(alloc: Global, problem: &Problem, lits: &[Lit]) -> Result<CoreOut
     Ok(narrowed(problem, lits, outcome))
 }
 
-/// The outcome as it is. Its steps are as few as a list in memory has, so the numbers of their lines are within the format.
+/// The outcome as it is, with steps that are few.
 fn narrowed(problem: &Problem, assumed: &[Lit], outcome: CoreOutcome) -> CoreOutcome
     requires problem { IsInstance problem.now }
     requires literals { All (IsLitWithin MAX_VARS) assumed.now }
@@ -64,10 +73,11 @@ fn narrowed(problem: &Problem, assumed: &[Lit], outcome: CoreOutcome) -> CoreOut
 {
     match outcome {
         CoreOutcome::Model(values) => CoreOutcome::Model(values),
-        CoreOutcome::Core { lits, steps, needs } => {
-            let steps = Row::from_vec(steps.into_vec());
-            CoreOutcome::Core { lits, steps, needs }
-        }
-        CoreOutcome::Unknown(steps) => CoreOutcome::Unknown(Row::from_vec(steps.into_vec())),
+        CoreOutcome::Core { lits, steps, needs } => CoreOutcome::Core {
+            lits,
+            steps: few_steps(steps),
+            needs,
+        },
+        CoreOutcome::Unknown(steps) => CoreOutcome::Unknown(few_steps(steps)),
     }
 }

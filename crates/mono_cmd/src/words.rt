@@ -5,7 +5,7 @@ ghost use Rattle.std.specs.List.{list_all};
 ghost use Rattle.mono_base.specs.declared.limits.TheConstants.{MAX_VARS};
 ghost use Rattle.mono_base.specs.Literal.{IsLitWithin};
 ghost use Rattle.mono_cmd.specs.declared.command.TheConstants.{MAX_ASSUMPTIONS};
-ghost use Rattle.mono_cmd.specs.Commands.{team_command as teaming, from_one, IsWithinRange, command_of, short_command as short, core_command as core_of, check_with_command as check_with_of, assumptions_of, lit_of, lits_of, budget_of, budgeted_command as budgeted, atom_of as atom_numbered, bound_of as bound_named, best_command as best_of, ask_command as ask_of, check_command as checking, migrate_command as migrating, version_of as version_named, kind_of as kind_named, size_of as size_named, seed_of as seed_named, gen_command as generating, is_file_name as is_name};
+ghost use Rattle.mono_cmd.specs.Commands.{team_command as teaming, from_one, IsWithinRange, Tells, command_of, short_command as short, core_command as core_of, check_with_command as check_with_of, assumptions_of, lit_of, lits_of, budgeted_command as budgeted, bound_of as bound_named, best_command as best_of, ask_command as ask_of, check_command as checking, migrate_command as migrating, version_of as version_named, kind_of as kind_named, size_of as size_named, seed_of as seed_named, gen_command as generating, is_file_name as is_name};
 
 use crate::command::{Command, DEFAULT_BUDGET, MAX_ASSUMPTIONS, MAX_ROUNDS, MAX_WORKERS};
 use mono_answer::Version;
@@ -79,9 +79,7 @@ fn name(alloc: Global, word: &str) -> Result<Name, AllocError>
 
 /// `solve FILE` or `print FILE`.
 fn file_command(alloc: Global, verb: &str, file: &str) -> Result<Option<Command>, AllocError>
-    ensures form { IfOk result (λ found. found ≡ short (verb.now ∷ file.now ∷ [])) }
-    ensures ranges { IfOk result (λ found. IfSome found IsWithinRange) }
-    ensures err { OnErr result (IsSome (short (verb.now ∷ file.now ∷ []))) }
+    ensures { Tells (short (verb.now ∷ file.now ∷ [])) result }
 {
     if !is_file_name(file) {
         return Ok(None);
@@ -107,9 +105,7 @@ fn three_words(
     first: &str,
     second: &str,
 ) -> Result<Option<Command>, AllocError>
-    ensures form { IfOk result (λ found. found ≡ short (verb.now ∷ first.now ∷ second.now ∷ [])) }
-    ensures ranges { IfOk result (λ found. IfSome found IsWithinRange) }
-    ensures err { OnErr result (IsSome (short (verb.now ∷ first.now ∷ second.now ∷ []))) }
+    ensures { Tells (short (verb.now ∷ first.now ∷ second.now ∷ [])) result }
 {
     if verb == "best" {
         return best_command(alloc, first, second);
@@ -124,9 +120,7 @@ fn check_command(
     file: &str,
     answer: &str,
 ) -> Result<Option<Command>, AllocError>
-    ensures form { IfOk result (λ found. found ≡ checking verb.now file.now answer.now) }
-    ensures ranges { IfOk result (λ found. IfSome found IsWithinRange) }
-    ensures err { OnErr result (IsSome (checking verb.now file.now answer.now)) }
+    ensures { Tells (checking verb.now file.now answer.now) result }
 {
     if verb != "check" || !is_file_name(file) || !is_file_name(answer) {
         return Ok(None);
@@ -156,9 +150,7 @@ fn migrate_command(
     answer: &str,
     word: &str,
 ) -> Result<Option<Command>, AllocError>
-    ensures form { IfOk result (λ found. found ≡ migrating file.now answer.now word.now) }
-    ensures ranges { IfOk result (λ found. IfSome found IsWithinRange) }
-    ensures err { OnErr result (IsSome (migrating file.now answer.now word.now)) }
+    ensures { Tells (migrating file.now answer.now word.now) result }
 {
     if !is_file_name(file) || !is_file_name(answer) {
         return Ok(None);
@@ -177,14 +169,14 @@ fn migrate_command(
     }
 }
 
-/// The budget that a word is: a natural from 1 on.
-fn budget(number: &str) -> Option<u64>
-    ensures value { result ≡ budget_of number.now }
-    ensures some { IfSome result (λ n. 1 ≤ n) }
+/// The number that a word is: a natural from 1 to the limit.
+fn from_one(word: &str, most: u64) -> Option<u64>
+    ensures value { result ≡ from_one most word.now }
+    ensures some { IfSome result (λ n. (1 ≤ n) × (n ≤ most)) }
 {
-    match natural(number.as_bytes(), u64::MAX) {
+    match natural(word.as_bytes(), most) {
         Ok(0) => None,
-        Ok(budget) => Some(budget),
+        Ok(number) => Some(number),
         Err(_) => None,
     }
 }
@@ -197,14 +189,12 @@ fn budgeted_command(
     option: &str,
     number: &str,
 ) -> Result<Option<Command>, AllocError>
-    ensures form { IfOk result (λ found. found ≡ budgeted verb.now file.now option.now number.now) }
-    ensures ranges { IfOk result (λ found. IfSome found IsWithinRange) }
-    ensures err { OnErr result (IsSome (budgeted verb.now file.now option.now number.now)) }
+    ensures { Tells (budgeted verb.now file.now option.now number.now) result }
 {
     if verb != "solve" || !is_file_name(file) || option != "--conflicts" {
         return Ok(None);
     }
-    match budget(number) {
+    match from_one(number, u64::MAX) {
         None => Ok(None),
         Some(budget) => {
             let file = name(alloc, file)?;
@@ -294,9 +284,7 @@ fn four_words(
     second: &str,
     third: &str,
 ) -> Result<Option<Command>, AllocError>
-    ensures form { IfOk result (λ found. found ≡ short (verb.now ∷ first.now ∷ second.now ∷ third.now ∷ [])) }
-    ensures ranges { IfOk result (λ found. IfSome found IsWithinRange) }
-    ensures err { OnErr result (IsSome (short (verb.now ∷ first.now ∷ second.now ∷ third.now ∷ []))) }
+    ensures { Tells (short (verb.now ∷ first.now ∷ second.now ∷ third.now ∷ [])) result }
 {
     if verb == "gen" {
         return Ok(gen_command(kind(first), size(second), seed(third), false));
@@ -313,17 +301,6 @@ fn four_words(
     budgeted_command(alloc, verb, first, second, third)
 }
 
-/// The number of a predicate that a word is: a natural from 1 to 100,000.
-fn atom(word: &str) -> Option<u32>
-    ensures { result ≡ atom_numbered word.now }
-{
-    match natural(word.as_bytes(), u64::from(MAX_ATOMS)) {
-        Ok(0) => None,
-        Ok(number) => Some(number as u32),
-        Err(_) => None,
-    }
-}
-
 /// The bound that a word is: a signed number of a magnitude up to 2^53 + 1.
 fn bound(word: &str) -> Option<i64>
     ensures { result ≡ bound_named word.now }
@@ -336,18 +313,19 @@ fn bound(word: &str) -> Option<i64>
 
 /// `best FILE ATOM`.
 fn best_command(alloc: Global, file: &str, number: &str) -> Result<Option<Command>, AllocError>
-    ensures form { IfOk result (λ found. found ≡ best_of file.now number.now) }
-    ensures ranges { IfOk result (λ found. IfSome found IsWithinRange) }
-    ensures err { OnErr result (IsSome (best_of file.now number.now)) }
+    ensures { Tells (best_of file.now number.now) result }
 {
     if !is_file_name(file) {
         return Ok(None);
     }
-    let Some(atom) = atom(number) else {
+    let Some(atom) = from_one(number, u64::from(MAX_ATOMS)) else {
         return Ok(None);
     };
     let file = name(alloc, file)?;
-    Ok(Some(Command::Best { file, atom }))
+    Ok(Some(Command::Best {
+        file,
+        atom: atom as u32,
+    }))
 }
 
 /// `ask FILE ATOM B`.
@@ -357,33 +335,23 @@ fn ask_command(
     number: &str,
     word: &str,
 ) -> Result<Option<Command>, AllocError>
-    ensures form { IfOk result (λ found. found ≡ ask_of file.now number.now word.now) }
-    ensures ranges { IfOk result (λ found. IfSome found IsWithinRange) }
-    ensures err { OnErr result (IsSome (ask_of file.now number.now word.now)) }
+    ensures { Tells (ask_of file.now number.now word.now) result }
 {
     if !is_file_name(file) {
         return Ok(None);
     }
-    let Some(atom) = atom(number) else {
+    let Some(atom) = from_one(number, u64::from(MAX_ATOMS)) else {
         return Ok(None);
     };
     let Some(bound) = bound(word) else {
         return Ok(None);
     };
     let file = name(alloc, file)?;
-    Ok(Some(Command::Ask { file, atom, bound }))
-}
-
-/// The count that a word is: a natural from 1 to the limit.
-fn count(word: &str, most: u32) -> Option<u32>
-    ensures value { result ≡ from_one most word.now }
-    ensures some { IfSome result (λ n. (1 ≤ n) × (n ≤ most)) }
-{
-    match natural(word.as_bytes(), u64::from(most)) {
-        Ok(0) => None,
-        Ok(count) => Some(count as u32),
-        Err(_) => None,
-    }
+    Ok(Some(Command::Ask {
+        file,
+        atom: atom as u32,
+        bound,
+    }))
 }
 
 /// `team FILE K R`.
@@ -393,24 +361,22 @@ fn team_command(
     workers: &str,
     rounds: &str,
 ) -> Result<Option<Command>, AllocError>
-    ensures form { IfOk result (λ found. found ≡ teaming file.now workers.now rounds.now) }
-    ensures ranges { IfOk result (λ found. IfSome found IsWithinRange) }
-    ensures err { OnErr result (IsSome (teaming file.now workers.now rounds.now)) }
+    ensures { Tells (teaming file.now workers.now rounds.now) result }
 {
     if !is_file_name(file) {
         return Ok(None);
     }
-    let Some(workers) = count(workers, MAX_WORKERS) else {
+    let Some(workers) = from_one(workers, u64::from(MAX_WORKERS)) else {
         return Ok(None);
     };
-    let Some(rounds) = count(rounds, MAX_ROUNDS) else {
+    let Some(rounds) = from_one(rounds, u64::from(MAX_ROUNDS)) else {
         return Ok(None);
     };
     let file = name(alloc, file)?;
     Ok(Some(Command::Team {
         file,
-        workers,
-        rounds,
+        workers: workers as u32,
+        rounds: rounds as u32,
     }))
 }
 

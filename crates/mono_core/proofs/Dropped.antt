@@ -3,7 +3,7 @@ use Rattle.std.proofs.Common.{◌≡◌, ℕ, zero, suc, ◌+◌, ◌-◌, ◌<�
 use Rattle.std.specs.Prelude.{IsTrue, slice_get, nat_le, replicate, option_map}
 use Rattle.std.specs.List.{list_all, list_any}
 use Rattle.std.proofs.lemmas.Bool.{and_parts, or_left, or_right, leb-true, leb-false}
-use Rattle.std.proofs.lemmas.Option.{same_Some, slice_get-map}
+use Rattle.std.proofs.lemmas.Option.{same_Some, slice_get_within, slice_get-map, slice_get-get_or}
 use Rattle.std.proofs.lemmas.List.{length-replicate, get_or_append_left, get_or_push}
 use Rattle.mono_problem.specs.Assuming.{assuming}
 use Rattle.mono_problem.specs.Growth.{greatest_var}
@@ -18,7 +18,7 @@ use Rattle.mono_steps.specs.Trimmed.{renumbered}
 use Rattle.mono_steps.proofs.CarriedSteps.{carried_refutes}
 use Rattle.mono_steps.proofs.NeededSteps.{names_held, names_below}
 use Rattle.mono_steps.proofs.Ranks.{rank_zero, set_within, length_pick, pick_get, renumbered_low, renumbered_high}
-use Rattle.mono_steps.proofs.StepLists.{numbered_more, slice_get_is}
+use Rattle.mono_steps.proofs.StepLists.{numbered_more}
 use Rattle.mono_core.specs.Cores.{AreAmong, IsRefuted}
 use Rattle.mono_core.specs.Dropped.{is_over, are_over, AreNamed, AreNarrowed, steps_without}
 
@@ -103,11 +103,6 @@ get_behind (x ∷ xs) ys (suc n) k e = get_behind xs ys n k (omega (arith, e))
 numbered_behind : {A : Type 0} (xs ys : List A) (k : ℕ) → numbered (xs ++ ys) (length xs + 1 + k) ≡ slice_get ys k
 numbered_behind xs ys k = let e : length xs + 1 + k ≡ suc (length xs + k) = omega arith in ap (numbered (xs ++ ys)) e ∙ get_behind xs ys (length xs + k) k refl
 
-get_there : {A : Type 0} (xs : List A) (k : ℕ) (x : A) → slice_get xs k ≡ Some x → k < length xs
-get_there [] k x e = absurd cc
-get_there (y ∷ xs) zero x e = omega arith
-get_there (y ∷ xs) (suc k) x e = omega (arith, get_there xs k x e)
-
 -- ---- what is said of all steps, and of one
 
 all_at : (test : Step → Bool) (ss : List Step) (k : ℕ) (s : Step) → IsTrue (list_all test ss) → slice_get ss k ≡ Some s → IsTrue (test s)
@@ -132,7 +127,7 @@ behind_first c u k n (step.Chain d) le h = λ i m lt. omega (arith, h i m lt, le
 pub names_behind : (p : Instance) (lits : List ℤ) (steps : List Step) → IsTrue (is_refutation (assuming p lits) steps) → All (StepNamesHeld (length p.clauses) (length lits + length steps)) steps
 names_behind p lits steps r = λ k d lt.
     let q = assuming p lits in
-    let held = (names_held q steps (and_parts (are_justified q steps) (ends_empty steps) r).0).at k (get_or steps k d) (slice_get_is steps k d lt) in
+    let held = (names_held q steps (and_parts (are_justified q steps) (ends_empty steps) r).0).at k (get_or steps k d) (slice_get-get_or steps k d lt) in
     behind_first (length p.clauses) (length lits) k (length steps) (get_or steps k d) (omega (arith, lt)) (subst (λ (n : ℕ). StepNamesHeld n k (get_or steps k d)) (assuming-clauses p lits) held)
 
 some_steps : (p : Instance) (ss : List Step) → IsTrue (is_refutation p ss) → 0 < length ss
@@ -197,7 +192,7 @@ module _ (p : Instance) (lits : List ℤ) (named : List Bool) (steps : List Step
       clauses = λ n names low. same_clause k n s at names low;
       steps = λ j names.
           let held = (names_held before steps (and_parts (are_justified before steps) (ends_empty steps) refutes).0).at k s at in
-          all_set (length steps) j (omega (arith, names_below (length before.clauses) k j s held names, get_there steps k s at));
+          all_set (length steps) j (omega (arith, names_below (length before.clauses) k j s held names, slice_get_within steps k s at));
     };
     places = λ k lt.
         let e : length before.clauses + 1 + k ≡ count + 1 + (length lits + k) = omega (arith, assuming-clauses p lits) in

@@ -70,7 +70,7 @@ minimal p budget assumed lits steps needs ok c models = record {
 
 -- ---- the problem under a core is a problem
 
-pick_within : (n : ℕ) (bs : List Bool) (xs : List ℤ) → All (IsLitWithin n) xs → All (IsLitWithin n) (pick bs xs)
+pub pick_within : (n : ℕ) (bs : List Bool) (xs : List ℤ) → All (IsLitWithin n) xs → All (IsLitWithin n) (pick bs xs)
 pick_within n [] xs h = All-nil (IsLitWithin n)
 pick_within n (b ∷ bs) [] h = All-nil (IsLitWithin n)
 pick_within n (true ∷ bs) (x ∷ xs) h = All-cons (IsLitWithin n) x (pick bs xs) (h 0 x (omega arith)) (pick_within n bs xs (λ k d lt. h (suc k) d (omega (arith, lt))))

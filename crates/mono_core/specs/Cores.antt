@@ -83,7 +83,7 @@ abbrev pub IsFoundAt : Instance → ℕ → List ℤ → List Bool → ℕ → O
 IsFoundAt p budget assumed kept j None = is_set kept j ≡ false
 IsFoundAt p budget assumed kept j (Some n) = IsEarlyNeed p budget assumed kept j n
 
--- so it is of the last assumptions, the last one first
+-- what was found of the last assumptions, the last one first
 pub record AreFound (p : Instance) (budget : ℕ) (assumed : List ℤ) (kept : List Bool) (found : List (Option Need)) : Type 0 where
   pub at : (i : ℕ) (o : Option Need) → i < length found → IsFoundAt p budget assumed kept (length assumed - 1 - i) (slice_index_or found i o)
 

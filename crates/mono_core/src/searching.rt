@@ -10,8 +10,8 @@ ghost use Rattle.mono_problem.specs.Assuming.{assuming, HasRoom};
 use crate::assuming::with_lits;
 use mono_base::Lit;
 use mono_problem::Problem;
-use mono_search::{Solved, solve_preferring};
-use mono_theory::{Theory, literal};
+use mono_search::{Solved, signs_of, solve_preferring};
+use mono_theory::Theory;
 use std::alloc::{AllocError, Global};
 
 /// What a search comes to under the assumptions. Its first decisions have the signs of the values.
@@ -30,19 +30,17 @@ pub(crate) fn solve_under<T: Theory, F: Fn(&Problem) -> Result<Vec<T>, AllocErro
     ensures { IfOk result (IsSolved (assuming problem.now assumed.now) budget) }
 {
     let whole = with_lits(problem, assumed)?;
-    let signs = signs_of(alloc, values, whole.vars())?;
+    let signs = signs_within(alloc, values, whole.vars())?;
     let solved = solve_preferring(alloc, &whole, make, signs.as_slice(), budget)?;
     Ok(solved)
 }
 
 /// The literals that the values make true, variable 1 first, up to the last of `vars` variables.
-fn signs_of(alloc: Global, values: &[bool], vars: u32) -> Result<Vec<Lit>, AllocError>
+fn signs_within(alloc: Global, values: &[bool], vars: u32) -> Result<Vec<Lit>, AllocError>
     requires { vars ≤ MAX_VARS }
     ensures { IfOk result (λ signs. All (IsLitWithin vars) signs.items) }
 {
-    let mut signs = Vec::new(alloc);
-    for place in 0..values.len().min(vars as usize) {
-        signs.push(literal(place as u32 + 1, values[place]))?;
-    }
+    let known = values.len().min(vars as usize);
+    let signs = signs_of(alloc, &values[..known])?;
     Ok(signs)
 }

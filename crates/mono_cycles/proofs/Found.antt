@@ -16,7 +16,7 @@ use Rattle.mono_cycles.specs.Behind.{AllClear, Continues, IsOnward, AreFound, Is
 use Rattle.mono_graph.proofs.Pigeons.{pigeon, all_has}
 use Rattle.mono_cycles.proofs.Lists.{index_of}
 use Rattle.mono_cycles.proofs.Ranked.{rank_at, rank_before}
-use Rattle.mono_cycles.proofs.Walking.{walk_push}
+use Rattle.mono_cycles.proofs.Walking.{walk_step}
 
 pub few_found : (g : Digraph) (P : List Bool) (nodes : List ℕ) (marks : List Bool) (onward : List ℕ) → AreFound g P nodes marks onward → length nodes ≤ g.nodes
 few_found g P nodes marks onward f =
@@ -157,7 +157,7 @@ way_more g P nodes marks onward from at old walk f ne w =
     record {
       found = o.2;
       len = let less = o.1 in let len = w.len in omega (arith, less, len, length-append walk (k ∷ []));
-      way = λ u h. walk_push g P u at (edge_at g k).to k walk (w.way u h) o.0.step;
+      way = λ u h. walk_step g P u at (edge_at g k).to k walk (w.way u h) o.0.step;
     }
 
 -- ---- as the code reads it

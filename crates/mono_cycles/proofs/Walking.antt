@@ -1,38 +1,18 @@
 -- Walks that grow at their ends, and the cycle that an edge closes on a path.
-use Rattle.std.proofs.Common.{◌≡◌, ℕ, zero, suc, ◌+◌, ◌-◌, ◌<◌, Bool, true, ◌&&◌, List, [], ◌∷◌, ◌++◌, length, take, get_or, refl, sym, subst, ◌∙◌, inl, inr, arith, length-append}
-use Rattle.std.specs.Prelude.{IsTrue, All, ◌==◌}
-use Rattle.std.specs.List.{list_all}
-use Rattle.std.proofs.lemmas.Bool.{and_from, and_parts, eq-eqb, eqb-true, lt-ltb}
+use Rattle.std.proofs.Common.{◌≡◌, ℕ, zero, suc, ◌+◌, ◌-◌, ◌<◌, Bool, List, [], ◌∷◌, ◌++◌, length, take, get_or, sym, subst, inl, inr, arith, length-append}
+use Rattle.std.specs.Prelude.{IsTrue, All}
 use Rattle.std.proofs.lemmas.List.{take_more, take_all}
 use Rattle.std.proofs.lemmas.List.Elements.{All-push, All-nil}
-use Rattle.mono_graph.specs.Digraph.{Digraph, edge_at, present, has, is_place}
-use Rattle.mono_graph.specs.Walks.{leads, is_walk}
+use Rattle.mono_graph.specs.Digraph.{Digraph, has}
+use Rattle.mono_graph.specs.Walks.{is_walk}
 use Rattle.mono_graph.proofs.Membership.{has_append_cases, has_cons}
 use Rattle.mono_graph.specs.Cycles.{is_cycle}
 use Rattle.mono_cycles.specs.Searches.{IsStep, IsPath}
+use Rattle.mono_graph.proofs.GrownWalks.{walk_none, walk_push}
 use Rattle.mono_graph.proofs.RisingRanks.{is_cycle_of}
 
-list_all_push : (p : ℕ → Bool) (xs : List ℕ) (x : ℕ) → IsTrue (list_all p xs) → IsTrue (p x) → IsTrue (list_all p (xs ++ x ∷ []))
-list_all_push p [] x h t = and_from (p x) true t refl
-list_all_push p (y ∷ ys) x h t = let a = and_parts (p y) (list_all p ys) h in and_from (p y) (list_all p (ys ++ x ∷ [])) a.0 (list_all_push p ys x a.1 t)
-
-leads_push : (g : Digraph) (u k v : ℕ) (ks : List ℕ) → IsTrue (leads g u ks v) → (edge_at g k).from ≡ v → IsTrue (leads g u (ks ++ k ∷ []) (edge_at g k).to)
-leads_push g u k v [] way from = and_from ((edge_at g k).from == u) ((edge_at g k).to == (edge_at g k).to) (eq-eqb (edge_at g k).from u (from ∙ sym (eqb-true u v way))) (eq-eqb (edge_at g k).to (edge_at g k).to refl)
-leads_push g u k v (j ∷ ks) way from =
-    let w = and_parts ((edge_at g j).from == u) (leads g (edge_at g j).to ks v) way in
-    and_from ((edge_at g j).from == u) (leads g (edge_at g j).to (ks ++ k ∷ []) (edge_at g k).to) w.0 (leads_push g (edge_at g j).to k v ks w.1 from)
-
-pub walk_none : (g : Digraph) (P : List Bool) (v : ℕ) → IsTrue (is_walk g P v v [])
-walk_none g P v = and_from (true && true) (v == v) refl (eq-eqb v v refl)
-
-pub walk_push : (g : Digraph) (P : List Bool) (u v w k : ℕ) (ks : List ℕ) → IsTrue (is_walk g P u v ks) → IsStep g P k v w → IsTrue (is_walk g P u w (ks ++ k ∷ []))
-walk_push g P u v w k ks h s =
-    let a = and_parts (list_all (is_place g) ks && list_all (present P) ks) (leads g u ks v) h in
-    let b = and_parts (list_all (is_place g) ks) (list_all (present P) ks) a.0 in
-    let js : List ℕ = ks ++ k ∷ [] in
-    and_from (list_all (is_place g) js && list_all (present P) js) (leads g u js w)
-    (and_from (list_all (is_place g) js) (list_all (present P) js) (list_all_push (is_place g) ks k b.0 (lt-ltb k (length g.edges) s.known)) (list_all_push (present P) ks k b.1 s.here))
-    (subst (λ (x : ℕ). IsTrue (leads g u js x)) s.to (leads_push g u k v ks a.1 s.from))
+pub walk_step : (g : Digraph) (P : List Bool) (u v w k : ℕ) (ks : List ℕ) → IsTrue (is_walk g P u v ks) → IsStep g P k v w → IsTrue (is_walk g P u w (ks ++ k ∷ []))
+walk_step g P u v w k ks h s = subst (λ (x : ℕ). IsTrue (is_walk g P u x (ks ++ k ∷ []))) s.to (walk_push g P u v k ks h s.known s.here s.from)
 
 -- the edges so far lead from the start to the node at a place on the path, which the start is at or before
 pub record IsClosing (g : Digraph) (P : List Bool) (path : List ℕ) (start at : ℕ) (ks : List ℕ) : Type 0 where
@@ -43,7 +23,7 @@ pub record IsClosing (g : Digraph) (P : List Bool) (path : List ℕ) (start at :
 pub closing_first : (g : Digraph) (P : List Bool) (path : List ℕ) (start k : ℕ) → IsStep g P k start (get_or path (length path - 1) 0) → IsClosing g P path start (length path - 1) (k ∷ [])
 closing_first g P path start k s = record {
   some = omega arith;
-  way = walk_push g P start start (get_or path (length path - 1) 0) k [] (walk_none g P start) s;
+  way = walk_step g P start start (get_or path (length path - 1) 0) k [] (walk_none g P start) s;
   known = All-push (λ j. j < length g.edges) [] k (All-nil (λ j. j < length g.edges)) s.known;
 }
 
@@ -55,7 +35,7 @@ closing_more g P path taken start at ks p pos lt c =
     subst (λ (i : ℕ). IsStep g P (get_or taken i 0) (get_or path i 0) (get_or path (at - 1) 0)) e (p.step (at - 1) (omega arith)) in
     record {
       some = omega (arith, length-append ks (get_or taken at 0 ∷ []));
-      way = walk_push g P start (get_or path at 0) (get_or path (at - 1) 0) (get_or taken at 0) ks c.way s;
+      way = walk_step g P start (get_or path at 0) (get_or path (at - 1) 0) (get_or taken at 0) ks c.way s;
       known = All-push (λ j. j < length g.edges) ks (get_or taken at 0) c.known s.known;
     }
 

@@ -4,7 +4,7 @@ ghost use Rattle.std.specs.Prelude.{◌≡◌, ◌<◌, All, length};
 ghost use Rattle.mono_graph.specs.Digraph.{IsPartOf};
 ghost use Rattle.mono_graph.specs.Cycles.{is_cycle as is_cycle_of};
 
-use mono_graph::{Graph, Part};
+use mono_graph::{Graph, Part, is_walk};
 
 /// Whether the edges are present and form a nonempty walk from a node to itself. Where it begins is free, and an edge or a
 /// node may come again: where it is so, no order of the nodes has each present edge begin before it ends.
@@ -19,16 +19,5 @@ pub fn is_cycle(graph: &Graph, part: &Part, edges: &[u32]) -> bool
         return false;
     }
     let start = graph.edge(edges[0]).from;
-    let mut at = start;
-    for place in edges {
-        if !part.has(*place) {
-            return false;
-        }
-        let edge = graph.edge(*place);
-        if edge.from != at {
-            return false;
-        }
-        at = edge.to;
-    }
-    at == start
+    is_walk(graph, part, start, start, edges)
 }

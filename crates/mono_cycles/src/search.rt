@@ -19,7 +19,7 @@ pub struct Search {
     /// By node: which of the edges that enter it is looked at next. Those before it are absent or begin at nodes that are done.
     pub next: Vec<usize>,
     /// By node: whether it is on the path.
-    pub open: Vec<bool>,
+    pub on_path: Vec<bool>,
     /// By node: whether it is in the order.
     pub done: Vec<bool>,
     pub path: Vec<u32>,
@@ -84,7 +84,7 @@ impl Search {
     {
         Ok(Search {
             next: vec![in alloc; 0; nodes as usize]?,
-            open: vec![in alloc; false; nodes as usize]?,
+            on_path: vec![in alloc; false; nodes as usize]?,
             done: vec![in alloc; false; nodes as usize]?,
             path: Vec::new(alloc),
             taken: Vec::new(alloc),
@@ -100,7 +100,7 @@ impl Search {
         ensures order { self.new.order.items ≡ [] }
     {
         self.next.fill(0);
-        self.open.fill(false);
+        self.on_path.fill(false);
         self.done.fill(false);
         self.path.clear();
         self.taken.clear();
@@ -109,16 +109,16 @@ impl Search {
 
     /// Opens a node at the end of the path.
     fn enter(&mut self, node: u32, place: u32) -> Result<(), AllocError>
-        requires { node < length self.old.open.items }
+        requires { node < length self.old.on_path.items }
         ensures room { (n : ℕ) → HasRoom n self.old → HasRoom n self.new }
         ensures next { self.new.next.items ≡ self.old.next.items }
         ensures done { self.new.done.items ≡ self.old.done.items }
         ensures order { self.new.order.items ≡ self.old.order.items }
-        ensures open { self.new.open.items ≡ slice_set self.old.open.items node true }
+        ensures on_path { self.new.on_path.items ≡ slice_set self.old.on_path.items node true }
         ensures path { IfOk result (λ _. self.new.path.items ≡ self.old.path.items ++ node ∷ []) }
         ensures taken { IfOk result (λ _. self.new.taken.items ≡ self.old.taken.items ++ place ∷ []) }
     {
-        self.open[node as usize] = true;
+        self.on_path[node as usize] = true;
         self.path.push(node)?;
         self.taken.push(place)?;
         Ok(())
@@ -126,17 +126,17 @@ impl Search {
 
     /// Puts the last node of the path into the order.
     fn leave(&mut self, node: u32) -> Result<(), AllocError>
-        requires open { node < length self.old.open.items }
+        requires on_path { node < length self.old.on_path.items }
         requires done { node < length self.old.done.items }
         ensures room { (n : ℕ) → HasRoom n self.old → HasRoom n self.new }
         ensures next { self.new.next.items ≡ self.old.next.items }
         ensures done { self.new.done.items ≡ slice_set self.old.done.items node true }
         ensures order { IfOk result (λ _. self.new.order.items ≡ self.old.order.items ++ node ∷ []) }
-        ensures open { self.new.open.items ≡ slice_set self.old.open.items node false }
+        ensures on_path { self.new.on_path.items ≡ slice_set self.old.on_path.items node false }
         ensures path { self.new.path.items ≡ take (length self.old.path.items - 1) self.old.path.items }
         ensures taken { self.new.taken.items ≡ take (length self.old.taken.items - 1) self.old.taken.items }
     {
-        self.open[node as usize] = false;
+        self.on_path[node as usize] = false;
         self.done[node as usize] = true;
         let _ = self.path.pop();
         let _ = self.taken.pop();
@@ -163,7 +163,7 @@ impl Search {
         requires node { node < graph.now.nodes }
         requires search { IsSearch graph.now part.now self.old }
         ensures search { IsSearch graph.now part.now self.new }
-        ensures open { self.new.open.items ≡ self.old.open.items }
+        ensures on_path { self.new.on_path.items ≡ self.old.on_path.items }
         ensures done { self.new.done.items ≡ self.old.done.items }
         ensures path { self.new.path.items ≡ self.old.path.items }
         ensures taken { self.new.taken.items ≡ self.old.taken.items }
@@ -209,7 +209,7 @@ impl Search {
                 None => self.leave(node)?,
                 Some(place) => {
                     let before = graph.edge(place).from;
-                    if self.open[before as usize] {
+                    if self.on_path[before as usize] {
                         let cycle = close(alloc, &self.path, &self.taken, before, place)?;
                         return Ok(Some(cycle));
                     }

@@ -19,22 +19,27 @@ use Rattle.mono_problem.specs.WellFormed.{IsOver}
 use Rattle.mono_steps.specs.declared.lemma.Witness.TheVariants as by
 use Rattle.mono_steps.specs.Witnesses.{passes, rests_on_present}
 use Rattle.mono_theory.specs.declared.evidence.Evidence.{Evidence}
+use Rattle.mono_theory.specs.Asked.{asks_walk}
 use Rattle.mono_theory.specs.Evidences.{IsEvidence}
 use Rattle.mono_theory.specs.Walked.{walk_evidence}
 use Rattle.mono_theory.proofs.RestingOnAbsent.{alike_none, evidence_within, resting_evidence}
+use Rattle.mono_theory.proofs.AskedRows.{walk_rises}
 use Rattle.mono_theory.proofs.WalksAsEvidence.{walk_is_evidence}
 use Rattle.mono_distance.specs.Distances.{is_distance, predicate_of, IsLabelEvidence}
 
 -- ---- what a predicate asks for
 
+pub distance_asks : (q : Predicate) → IsTrue (is_distance q) → IsTrue (asks_walk q)
+distance_asks (kind.Reach u v) d = refl
+distance_asks (kind.Steps u v most) d = refl
+distance_asks (kind.Distance u v most) d = refl
+distance_asks (kind.Flow u v least) d = absurd cc
+distance_asks (kind.Tree most) d = absurd cc
+distance_asks kind.Acyclic d = absurd cc
+
 -- distances rise as edges come
 pub distance_rises : (q : Predicate) → IsTrue (is_distance q) → falls q ≡ false
-distance_rises (kind.Reach u v) d = refl
-distance_rises (kind.Steps u v most) d = refl
-distance_rises (kind.Distance u v most) d = refl
-distance_rises (kind.Flow u v least) d = refl
-distance_rises (kind.Tree most) d = refl
-distance_rises kind.Acyclic d = absurd cc
+distance_rises q d = walk_rises q (distance_asks q d)
 
 pub has_bound : (g : Digraph) (u v : ℕ) (l : Limit) → IsTrue (is_distance (predicate_of u v l)) → IsOver g (predicate_of u v l) → HasBound l
 has_bound g u v limit.Free d h = absurd cc

@@ -12,11 +12,12 @@ use Rattle.mono_graph.specs.declared.label.Label.{Label}
 use Rattle.mono_graph.specs.declared.limit.Limit.{Limit}
 use Rattle.mono_graph.specs.declared.limit.Limit.TheVariants as limit
 use Rattle.mono_graph.specs.Digraph.{Digraph, IsGraph, is_place, places, present, edge_at, weight_of}
-use Rattle.mono_graph.specs.Walks.{is_light, is_path, is_walk, is_labelling, is_tense, label_at, bound_of, cost_of, leads, cost_along}
+use Rattle.mono_graph.specs.Walks.{admits, is_light, is_path, is_walk, is_labelling, is_tense, label_at, bound_of, cost_of, leads, cost_along}
 use Rattle.mono_graph.proofs.CutsBoundWalks.{IsPotential, labels_are_potential}
 use Rattle.mono_dynamic.specs.LeastRows.{costs_at}
 use Rattle.mono_paths.specs.Found.{HasBound}
-use Rattle.mono_paths.proofs.Ends.{ones}
+use Rattle.mono_graph.proofs.Limits.{light_of, low_enough, ones, under_cap}
+use Rattle.mono_dynamic.proofs.Lightest.{same_cost}
 use Rattle.mono_problem.specs.declared.atom.Atom.{Atom}
 use Rattle.mono_problem.specs.declared.atom.Predicate.{Predicate}
 use Rattle.mono_problem.specs.declared.atom.Predicate.TheVariants as kind
@@ -52,33 +53,23 @@ use Rattle.mono_theory.proofs.SidesStay.{shown_now}
 use Rattle.mono_theory.proofs.KeptEvidenceDecides.{rising_decides, sound_witness}
 use Rattle.mono_distance.specs.declared.node_labels.Labels.{Labels}
 use Rattle.mono_distance.specs.Readings.{AreBothDecided, DistanceView, IsDecidedSide, IsPossiblyDecided, IsPossiblyRight, IsReached, IsLeast, IsRightSide, above, bound_number, labels_at, labels_in, over_at, over_by, over_in, over_known, over_of, under_at, under_in}
-use Rattle.mono_distance.specs.SureLabels.{SureLabels, AreLabelsAfter, first_node, last_node, is_alike, is_within, limit_of, row_of_atom, under_label}
+use Rattle.mono_theory.specs.SureRows.{row_of_atom}
+use Rattle.mono_distance.specs.SureLabels.{SureLabels, AreLabelsAfter, first_node, last_node, limit_of, under_label}
 use Rattle.mono_distance.proofs.DistanceEvidence.{distance_rises}
 use Rattle.mono_distance.proofs.TableLabels.{label_is}
 use Rattle.mono_theory.proofs.AskedRows.{last_asked, limit_asked}
 use Rattle.mono_theory.proofs.PossibleParts.{only_shrinks}
 use Rattle.mono_theory.proofs.WalksTold.{cut_off_fails, lacking_decides, none_later}
-use Rattle.mono_distance.proofs.SureLabels.{alike_itself, label_walk, label_decides, labels_uncut, light_of, low_enough, of_holds, under_cap}
+use Rattle.mono_distance.proofs.SureLabels.{label_walk, label_decides, labels_uncut, of_holds}
 
 -- ---- with the surely present edges
 
-same_cost : (k l : Limit) (g : Digraph) (ks : List ℕ) → is_alike k l ≡ true → cost_along k g ks ≡ cost_along l g ks
-same_cost limit.Free limit.Free g ks e = refl
-same_cost limit.Free (limit.Steps b) g ks e = absurd cc
-same_cost limit.Free (limit.Weight b) g ks e = absurd cc
-same_cost (limit.Steps a) limit.Free g ks e = absurd cc
-same_cost (limit.Steps a) (limit.Steps b) g ks e = refl
-same_cost (limit.Steps a) (limit.Weight b) g ks e = absurd cc
-same_cost (limit.Weight a) limit.Free g ks e = absurd cc
-same_cost (limit.Weight a) (limit.Steps b) g ks e = absurd cc
-same_cost (limit.Weight a) (limit.Weight b) g ks e = refl
-
-under_is_reached : {f : Facts} {s : SureLabels} {n : ℕ} (a v : ℕ) → a < length f.atoms → v < f.graph.nodes → n ≤ length f.seen → AreLabelsAfter f n s → IsTrue (is_within (under_label s a v) (limit_of (atom_at f.atoms a).predicate))
+under_is_reached : {f : Facts} {s : SureLabels} {n : ℕ} (a v : ℕ) → a < length f.atoms → v < f.graph.nodes → n ≤ length f.seen → AreLabelsAfter f n s → IsTrue (admits (limit_of (atom_at f.atoms a).predicate) (under_label s a v))
     → IsReached f.graph (under f.graph f.seen) (atom_at f.atoms a).predicate v (under_label s a v)
 under_is_reached {f = f} {s = s} a v lt inside fits h low =
     let q = (atom_at f.atoms a).predicate in
     let own = h.each a lt in
-    let row = costs_at s.rows (row_of_atom s a) in
+    let row = costs_at s.rows.rows (row_of_atom s.rows a) in
     let w = label_walk a v lt inside fits h (under_cap (under_label s a v) row.cap (bound_of (limit_of q)) low own.beyond) in
     record {
       within = low;
@@ -184,7 +175,7 @@ over_some l v (stage.Forcing m) (Some x) w e is = ap (over_by l v) (sym is)
 
 -- ---- a witness against a predicate puts its last node above the bound
 
-labelled_high : (g : Digraph) (P : List Bool) (u v : ℕ) (l : Limit) (ls : List Label) → HasBound l → IsTrue (is_labelling g P u v l ls) → is_within (over_in l ls v) l ≡ false
+labelled_high : (g : Digraph) (P : List Bool) (u v : ℕ) (l : Limit) (ls : List Label) → HasBound l → IsTrue (is_labelling g P u v l ls) → admits l (over_in l ls v) ≡ false
 labelled_high g P u v l ls bound h =
     let label : ℕ → ℤ = label_at ls (bound_of l) in
     let a = and_parts _ (list_all (λ k. not (present P k && is_tense label l (edge_at g k))) (places g)) h in
@@ -193,7 +184,7 @@ labelled_high g P u v l ls bound h =
     let top = above_is l bound in
     let high : above (bound_of l) ≤ value_by (above (bound_of l)) (entry_in ls v) = far (bound_of l) (label v) (above (bound_of l)) (value_by (above (bound_of l)) (entry_in ls v)) top value b.1 in
     let most : over_in l ls v ≡ above (bound_of l) = omega (arith, high) in
-    ap (λ (n : ℕ). is_within n l) most ∙ beyond (bound_of l) (above (bound_of l)) top
+    ap (λ (n : ℕ). admits l n) most ∙ beyond (bound_of l) (above (bound_of l)) top
   where
     far : (x y : ℤ) (m n : ℕ) → pos m ≡ x +ℤ pos 1 → pos n ≡ y → IsTrue (int_lt x y) → m ≤ n
     far x y m n e1 e2 lt = grind (arith, ints)
@@ -201,7 +192,7 @@ labelled_high g P u v l ls bound h =
     beyond : (x : ℤ) (m : ℕ) → pos m ≡ x +ℤ pos 1 → int_le (pos m) x ≡ false
     beyond x m e = grind (arith, ints)
 
-witness_high : (g : Digraph) (P : List Bool) (q : Predicate) (w : Witness) → HasBound (limit_of q) → IsTrue (is_distance q) → rests_on_present w ≡ false → IsTrue (passes g P q w) → is_within (over_by (limit_of q) (last_node q) w) (limit_of q) ≡ false
+witness_high : (g : Digraph) (P : List Bool) (q : Predicate) (w : Witness) → HasBound (limit_of q) → IsTrue (is_distance q) → rests_on_present w ≡ false → IsTrue (passes g P q w) → admits (limit_of q) (over_by (limit_of q) (last_node q) w) ≡ false
 witness_high g P (kind.Steps x y most) (by.Label ls) bound d sign h = labelled_high g P x y (limit.Steps most) ls bound h
 witness_high g P (kind.Distance x y most) (by.Label ls) bound d sign h = labelled_high g P x y (limit.Weight most) ls bound h
 witness_high g P (kind.Steps x y most) (by.Path es) bound d sign h = absurd cc
@@ -233,7 +224,7 @@ decides_by : (g : Digraph) (P : List Bool) (q : Predicate) (b c : Bool) → c �
 decides_by g P q b c e h = subst (Decides g P q) (sym e) h
 
 shown_high : (g : Digraph) (P : List Bool) (q : Predicate) (m : ℕ) (o : Option Evidence) → length P ≡ length g.edges → HasBound (limit_of q) → IsTrue (is_distance q) → IfSome o (IsSound g q false) → IsRightIn P false o
-    → is_within (over_of (limit_of q) (last_node q) (stage.Forcing m) o) (limit_of q) ≡ false
+    → admits (limit_of q) (over_of (limit_of q) (last_node q) (stage.Forcing m) o) ≡ false
 shown_high g P q m None len bound d sound right = absurd right
 shown_high g P q m (Some e) len bound d sound right = (let w = sound_witness g P q false e len sound right in witness_high g P q e.witness bound d w.rests w.passes)
 
@@ -246,22 +237,22 @@ bound_of_kind g (kind.Tree most) d h = absurd cc
 bound_of_kind g kind.Acyclic d h = absurd cc
 
 at_stage : {f : Facts} {r : SideView} (a : ℕ) (st : Stage) → IsGraph f.graph → IsOver f.graph (atom_at f.atoms a).predicate → IsTrue (is_distance (atom_at f.atoms a).predicate) → a < length f.atoms → IsSideFor f true true r → stage_at r.stages a ≡ st → (st ≡ stage.Waits → ⊥)
-    → Decides f.graph (over f.graph f.seen) (atom_at f.atoms a).predicate (is_within (over_of (limit_of (atom_at f.atoms a).predicate) (last_node (atom_at f.atoms a).predicate) st (evidence_at r.shown a)) (limit_of (atom_at f.atoms a).predicate))
+    → Decides f.graph (over f.graph f.seen) (atom_at f.atoms a).predicate (admits (limit_of (atom_at f.atoms a).predicate) (over_of (limit_of (atom_at f.atoms a).predicate) (last_node (atom_at f.atoms a).predicate) st (evidence_at r.shown a)))
 at_stage a stage.Waits graph over-it kind-it lt h at some = absurd (some refl)
 at_stage {f = f} {r = r} a stage.Supported graph over-it kind-it lt h at some =
     let q = (atom_at f.atoms a).predicate in
     let P = over f.graph f.seen in
     let right : StageIs f true r a stage.Supported = subst (StageIs f true r a) at (h.side.right a lt) in
     let holds : Holds f.graph P q = rising_decides f.graph P q true (evidence_at r.supports a) (distance_rises q kind-it) graph over-it (part_len f.graph f.seen true) (h.side.supports.each a lt) right in
-    let w = of_holds f.graph P q (limit_of q) kind-it (alike_itself (limit_of q)) holds in
-    decides_by f.graph P q true (is_within 0 (limit_of q)) (low_enough 0 (cost_along (limit_of q) f.graph w.0) (bound_of (limit_of q)) (omega arith) w.2) holds
+    let w = of_holds f.graph P q (limit_of q) kind-it refl holds in
+    decides_by f.graph P q true (admits (limit_of q) 0) (low_enough 0 (cost_along (limit_of q) f.graph w.0) (bound_of (limit_of q)) (omega arith) w.2) holds
 at_stage {f = f} {r = r} a (stage.Forcing m) graph over-it kind-it lt h at some =
     let q = (atom_at f.atoms a).predicate in
     let P = over f.graph f.seen in
     let shown : StageIs f true r a (stage.Forcing m) = subst (StageIs f true r a) at (h.side.right a lt) in
     let sound = h.side.shown.each a lt in
     let right : IsRightIn P false (evidence_at r.shown a) = shown_now {x = atom_at f.atoms a} shown h.thorough sound in
-    decides_by f.graph P q false (is_within (over_of (limit_of q) (last_node q) (stage.Forcing m) (evidence_at r.shown a)) (limit_of q))
+    decides_by f.graph P q false (admits (limit_of q) (over_of (limit_of q) (last_node q) (stage.Forcing m) (evidence_at r.shown a)))
     (shown_high f.graph P q m (evidence_at r.shown a) (part_len f.graph f.seen true) (bound_of_kind f.graph q kind-it over-it) kind-it sound right)
     (rising_decides f.graph P q false (evidence_at r.shown a) (distance_rises q kind-it) graph over-it (part_len f.graph f.seen true) sound right)
 
@@ -282,8 +273,8 @@ decided_by_rows : {f : Facts} {s : SureLabels} {n : ℕ} (a : ℕ) → IsOver f.
 decided_by_rows {f = f} {s = s} {n = n} a over-it kind-it lt e h =
     let q = (atom_at f.atoms a).predicate in
     let label = under_label s a (last_node q) in
-    decides_by f.graph (under f.graph f.seen) q (is_within label (limit_of q)) (is_some (under_at s a q (last_node q))) (some_within (is_within label (limit_of q)) label)
-    (subst (λ (P : List Bool). Decides f.graph P q (is_within label (limit_of q))) (sure_all f n e) (label_decides a lt kind-it (last_inside f.graph q kind-it over-it) h))
+    decides_by f.graph (under f.graph f.seen) q (admits (limit_of q) label) (is_some (under_at s a q (last_node q))) (some_within (admits (limit_of q) label) label)
+    (subst (λ (P : List Bool). Decides f.graph P q (admits (limit_of q) label)) (sure_all f n e) (label_decides a lt kind-it (last_inside f.graph q kind-it over-it) h))
 
 by_stage : {f : Facts} {s : SideView} (a : ℕ) (st : Stage) → IsGraph f.graph → IsOver f.graph (atom_at f.atoms a).predicate → IsTrue (is_distance (atom_at f.atoms a).predicate) → a < length f.atoms → IsSideFor f false true s → stage_at s.stages a ≡ st → (st ≡ stage.Waits → ⊥)
     → Decides f.graph (under f.graph f.seen) (atom_at f.atoms a).predicate (shows st)
@@ -316,21 +307,21 @@ to_is_last q u w l is = sym (ap last_node is ∙ last_asked u w l)
 
 -- ---- where rows of the possibly present edges are kept
 
-beyond_bound : (l : Limit) → HasBound l → is_within (above (bound_of l)) l ≡ false
+beyond_bound : (l : Limit) → HasBound l → admits l (above (bound_of l)) ≡ false
 beyond_bound l bound = beyond (bound_of l) (above (bound_of l)) (above_is l bound)
   where
     beyond : (x : ℤ) (m : ℕ) → pos m ≡ x +ℤ pos 1 → int_le (pos m) x ≡ false
     beyond x m e = grind (arith, ints)
 
 -- the label says whether a walk within the bound leads to the last node, where that is known
-rows_decide : (g : Digraph) (P : List Bool) (q : Predicate) (b : Bool) → IsTrue (is_distance q) → HasBound (limit_of q) → Decides g P q (not b) → Decides g P q (is_within (cond b (above (bound_of (limit_of q))) 0) (limit_of q))
-rows_decide g P q true kind-it bound fails = decides_by g P q false (is_within (above (bound_of (limit_of q))) (limit_of q)) (beyond_bound (limit_of q) bound) fails
+rows_decide : (g : Digraph) (P : List Bool) (q : Predicate) (b : Bool) → IsTrue (is_distance q) → HasBound (limit_of q) → Decides g P q (not b) → Decides g P q (admits (limit_of q) (cond b (above (bound_of (limit_of q))) 0))
+rows_decide g P q true kind-it bound fails = decides_by g P q false (admits (limit_of q) (above (bound_of (limit_of q)))) (beyond_bound (limit_of q) bound) fails
 rows_decide g P q false kind-it bound holds =
-    let w = of_holds g P q (limit_of q) kind-it (alike_itself (limit_of q)) holds in
-    decides_by g P q true (is_within 0 (limit_of q)) (low_enough 0 (cost_along (limit_of q) g w.0) (bound_of (limit_of q)) (omega arith) w.2) holds
+    let w = of_holds g P q (limit_of q) kind-it refl holds in
+    decides_by g P q true (admits (limit_of q) 0) (low_enough 0 (cost_along (limit_of q) g w.0) (bound_of (limit_of q)) (omega arith) w.2) holds
 
-pub rows_decided : (g : Digraph) (P : List Bool) (q : Predicate) (b : Bool) (r : ℕ) → IsTrue (is_distance q) → HasBound (limit_of q) → r ≡ cond b (above (bound_of (limit_of q))) 0 → Decides g P q (not b) → Decides g P q (is_within r (limit_of q))
-rows_decided g P q b r kind-it bound read h = decides_by g P q (is_within (cond b (above (bound_of (limit_of q))) 0) (limit_of q)) (is_within r (limit_of q)) (ap (λ (m : ℕ). is_within m (limit_of q)) read) (rows_decide g P q b kind-it bound h)
+pub rows_decided : (g : Digraph) (P : List Bool) (q : Predicate) (b : Bool) (r : ℕ) → IsTrue (is_distance q) → HasBound (limit_of q) → r ≡ cond b (above (bound_of (limit_of q))) 0 → Decides g P q (not b) → Decides g P q (admits (limit_of q) r)
+rows_decided g P q b r kind-it bound read h = decides_by g P q (admits (limit_of q) (cond b (above (bound_of (limit_of q))) 0)) (admits (limit_of q) r) (ap (λ (m : ℕ). admits (limit_of q) m) read) (rows_decide g P q b kind-it bound h)
 
 -- a walk that costs less than that is within the bound
 below_above : (b : ℤ) (m n : ℕ) → pos m ≡ b +ℤ pos 1 → n < m → int_le (pos n) b ≡ true
@@ -339,7 +330,7 @@ below_above b m n e lt = grind (arith, ints)
 no_walk_below : (g : Digraph) (P : List Bool) (q : Predicate) (ks : List ℕ) → HasBound (limit_of q) → ((js : List ℕ) → IsTrue (is_path g P (first_node q) (last_node q) (limit_of q) js) → ⊥) → IsTrue (is_walk g P (first_node q) (last_node q) ks) → above (bound_of (limit_of q)) ≤ cost_along (limit_of q) g ks
 no_walk_below g P q ks bound none way = elim (cases_lt (cost_along (limit_of q) g ks) (above (bound_of (limit_of q)))) [
   | inl low ↦ absurd (none ks (and_from (is_walk g P (first_node q) (last_node q) ks) (is_light (limit_of q) g ks) way
-      (light_of g (limit_of q) (limit_of q) ks (alike_itself (limit_of q)) (below_above (bound_of (limit_of q)) (above (bound_of (limit_of q))) (cost_along (limit_of q) g ks) (above_is (limit_of q) bound) low))))
+      (light_of (limit_of q) g ks (below_above (bound_of (limit_of q)) (above (bound_of (limit_of q))) (cost_along (limit_of q) g ks) (above_is (limit_of q) bound) low))))
   | inr high ↦ high
 ]
 
@@ -361,7 +352,7 @@ over_at_last s a v w u l q b r is last cut read =
     ∙ sym (ap (λ (c : Bool). cond (c && is_cut_off s a) (above (bound_of (limit_of q))) 0) (eq-eqb v (last_node q) (last ∙ sym (ap last_node is ∙ last_asked u w l))))))
 
 decided_over : (f : Facts) (d : EitherSide PossibleView) (a : ℕ) → IsGraph f.graph → IsOver f.graph (atom_at f.atoms a).predicate → IsTrue (is_distance (atom_at f.atoms a).predicate) → a < length f.atoms → IsPossiblyDecided f d → IsPossiblyRight f d
-    → Decides f.graph (over f.graph f.seen) (atom_at f.atoms a).predicate (is_within (over_known d a (atom_at f.atoms a).predicate (last_node (atom_at f.atoms a).predicate)) (limit_of (atom_at f.atoms a).predicate))
+    → Decides f.graph (over f.graph f.seen) (atom_at f.atoms a).predicate (admits (limit_of (atom_at f.atoms a).predicate) (over_known d a (atom_at f.atoms a).predicate (last_node (atom_at f.atoms a).predicate)))
 decided_over f (side.Rows s) a graph over-it kind-it lt stands h =
     let q = (atom_at f.atoms a).predicate in
     let P = over f.graph f.seen in
@@ -369,7 +360,7 @@ decided_over f (side.Rows s) a graph over-it kind-it lt stands h =
     let fails : IsTrue off → Decides f.graph (part_of f.graph (take s.looked f.seen) true) q (shown_by q false) = λ on. cut_off_fails {f = cut_to s.looked f} a lt (only_shrinks (cut_to s.looked f) _) h.rows on in
     let same : cond (eqb (last_node q) (last_node q) && off) (above (bound_of (limit_of q))) 0 ≡ cond off (above (bound_of (limit_of q))) 0 =
     ap (λ (c : Bool). cond (c && off) (above (bound_of (limit_of q))) 0) (eq-eqb (last_node q) (last_node q) refl) in
-    decides_by f.graph P q (is_within (cond off (above (bound_of (limit_of q))) 0) (limit_of q)) (is_within (over_at s.rows a q (last_node q)) (limit_of q)) (ap (λ (m : ℕ). is_within m (limit_of q)) same)
+    decides_by f.graph P q (admits (limit_of q) (cond off (above (bound_of (limit_of q))) 0)) (admits (limit_of q) (over_at s.rows a q (last_node q))) (ap (λ (m : ℕ). admits (limit_of q) m) same)
     (rows_decide f.graph P q off kind-it (bound_of_kind f.graph q kind-it over-it) (lacking_decides a off lt h stands refl fails))
 decided_over f (side.Searches r) a graph over-it kind-it lt none h =
     let len = h.side.stages_len in
@@ -386,7 +377,7 @@ found_at f n x known is =
 
 -- the labels of an atom's last node decide once what is kept does
 pub labels_decide : (s : DistanceView) (n : ℕ) (x : Atom) → IsGraph s.graph → AreAtomsOf s.graph s.atoms → AreCovered is_distance s.atoms → IsRightSide (facts_in s) s.surely → IsPossiblyRight (facts_in s) s.possibly → AreBothDecided s → atom_of s.atoms n ≡ Some x
-    → Decides s.graph (under s.graph s.seen) x.predicate (is_some (labels_in s n (last_node x.predicate)).under) × Decides s.graph (over s.graph s.seen) x.predicate (is_within (labels_in s n (last_node x.predicate)).over (limit_of x.predicate))
+    → Decides s.graph (under s.graph s.seen) x.predicate (is_some (labels_in s n (last_node x.predicate)).under) × Decides s.graph (over s.graph s.seen) x.predicate (admits (limit_of x.predicate) (labels_in s n (last_node x.predicate)).over)
 labels_decide s n x graph known covered right possibly decides is =
     let f : Facts = facts_in s in
     let a = place_of_atom s.atoms n in
@@ -394,7 +385,7 @@ labels_decide s n x graph known covered right possibly decides is =
     let over-it : IsOver s.graph (atom_at s.atoms a).predicate = (known.over a no_atom p.0).1 in
     let kind-it : IsTrue (is_distance (atom_at s.atoms a).predicate) = covered.each a no_atom p.0 in
     subst
-    (λ (y : Atom). Decides s.graph (under s.graph s.seen) y.predicate (is_some (labels_in s n (last_node y.predicate)).under) × Decides s.graph (over s.graph s.seen) y.predicate (is_within (labels_in s n (last_node y.predicate)).over (limit_of y.predicate))) p.1 (
+    (λ (y : Atom). Decides s.graph (under s.graph s.seen) y.predicate (is_some (labels_in s n (last_node y.predicate)).under) × Decides s.graph (over s.graph s.seen) y.predicate (admits (limit_of y.predicate) (labels_in s n (last_node y.predicate)).over)) p.1 (
       decided_under f s.surely a graph over-it kind-it p.0 decides.surely right,
       decided_over f s.possibly a graph over-it kind-it p.0 decides.possibly possibly,
     )
@@ -453,16 +444,16 @@ least_read (Some w) value r g P q u x v l is bound d r-is right =
     (witness_least g P q v (value w) (subst HasBound (sym (limit_is q u x l is)) bound) d right.passes)
 
 -- a label of rows
-pub rows_read : (s : SureLabels) (a v u w label : ℕ) (l : Limit) (q : Predicate) (o : Option ℕ) → q ≡ predicate_of u w l → label ≡ under_label s a v → o ≡ cond (is_within label l) (Some label) None → o ≡ under_at s a q v
+pub rows_read : (s : SureLabels) (a v u w label : ℕ) (l : Limit) (q : Predicate) (o : Option ℕ) → q ≡ predicate_of u w l → label ≡ under_label s a v → o ≡ cond (admits l label) (Some label) None → o ≡ under_at s a q v
 rows_read s a v u w label l q o is at read =
-    read ∙ (ap (λ (k : Limit). cond (is_within label k) (Some label) None) (sym (limit_is q u w l is)) ∙ ap (λ (m : ℕ). cond (is_within m (limit_of q)) (Some m) None) at)
+    read ∙ (ap (λ (k : Limit). cond (admits k label) (Some label) None) (sym (limit_is q u w l is)) ∙ ap (λ (m : ℕ). cond (admits (limit_of q) m) (Some m) None) at)
 
 pub rows_reach : {f : Facts} {s : SureLabels} {n : ℕ} (a v : ℕ) (o : Option ℕ) → a < length f.atoms → v < f.graph.nodes → n ≤ length f.seen → AreLabelsAfter f n s → o ≡ under_at s a (atom_at f.atoms a).predicate v
     → IfSome o (IsReached f.graph (under f.graph f.seen) (atom_at f.atoms a).predicate v)
 rows_reach {f = f} {s = s} a v o lt inside fits h read =
-    subst (λ (p : Option ℕ). IfSome p (IsReached f.graph (under f.graph f.seen) (atom_at f.atoms a).predicate v)) (sym read) (by (is_within (under_label s a v) (limit_of (atom_at f.atoms a).predicate)) refl)
+    subst (λ (p : Option ℕ). IfSome p (IsReached f.graph (under f.graph f.seen) (atom_at f.atoms a).predicate v)) (sym read) (by (admits (limit_of (atom_at f.atoms a).predicate) (under_label s a v)) refl)
   where
-    by : (b : Bool) → is_within (under_label s a v) (limit_of (atom_at f.atoms a).predicate) ≡ b → IfSome (cond b (Some (under_label s a v)) None) (IsReached f.graph (under f.graph f.seen) (atom_at f.atoms a).predicate v)
+    by : (b : Bool) → admits (limit_of (atom_at f.atoms a).predicate) (under_label s a v) ≡ b → IfSome (cond b (Some (under_label s a v)) None) (IsReached f.graph (under f.graph f.seen) (atom_at f.atoms a).predicate v)
     by false e = tt
     by true e = under_is_reached a v lt inside fits h e
 
@@ -546,12 +537,12 @@ under_decides f d a v o graph over-it kind-it lt decided right read last =
 
 pub over_decides : (f : Facts) (r : SideView) (a u w v d : ℕ) (l : Limit) → IsGraph f.graph → IsOver f.graph (atom_at f.atoms a).predicate → IsTrue (is_distance (atom_at f.atoms a).predicate) → a < length f.atoms → NoneWaits r.stages → IsSideFor f true true r
     → (atom_at f.atoms a).predicate ≡ predicate_of u w l → d ≡ over_of l v (stage_at r.stages a) (evidence_at r.shown a) → v ≡ last_node (atom_at f.atoms a).predicate
-    → Decides f.graph (over f.graph f.seen) (atom_at f.atoms a).predicate (is_within d (limit_of (atom_at f.atoms a).predicate))
+    → Decides f.graph (over f.graph f.seen) (atom_at f.atoms a).predicate (admits (limit_of (atom_at f.atoms a).predicate) d)
 over_decides f r a u w v d l graph over-it kind-it lt none right is read last =
     let q = (atom_at f.atoms a).predicate in
     let st = stage_at r.stages a in
     let len = right.side.stages_len in
     let same : d ≡ over_of (limit_of q) (last_node q) st (evidence_at r.shown a) =
     read ∙ (ap (λ (k : Limit). over_of k v st (evidence_at r.shown a)) (sym (limit_is q u w l is)) ∙ ap (λ (x : ℕ). over_of (limit_of q) x st (evidence_at r.shown a)) last) in
-    decides_by f.graph (over f.graph f.seen) q (is_within (over_of (limit_of q) (last_node q) st (evidence_at r.shown a)) (limit_of q)) (is_within d (limit_of q)) (ap (λ (m : ℕ). is_within m (limit_of q)) same)
+    decides_by f.graph (over f.graph f.seen) q (admits (limit_of q) (over_of (limit_of q) (last_node q) st (evidence_at r.shown a))) (admits (limit_of q) d) (ap (λ (m : ℕ). admits (limit_of q) m) same)
     (at_stage {f = f} a st graph over-it kind-it lt right refl (none a stage.Waits (omega (arith, lt, len))))

@@ -1,64 +1,44 @@
 -- What is kept of the labels along the surely present edges stays right, and decides each predicate.
-use Rattle.std.proofs.Common.{◌≡◌, ℕ, ◌+◌, ◌<◌, ◌≤◌, Bool, true, false, List, length, map, take, get_or, refl, sym, ap, subst, ◌∙◌, inl, inr, arith, ℤ, pos, nat_abs, int_lt, int_le, All}
+use Rattle.std.proofs.Common.{◌≡◌, ℕ, ◌+◌, ◌<◌, ◌≤◌, Bool, true, false, List, length, map, get_or, sym, ap, subst, ◌∙◌, inl, inr, arith, pos, int_lt, All}
 use Rattle.std.specs.Prelude.{IsTrue, slice_index}
 use Rattle.std.specs.List.{AllZip}
 use Rattle.std.proofs.lemmas.Bool.{cases_lt, cases_Bool, both_ways, and_from, and_parts}
 use Rattle.std.proofs.lemmas.List.{get_or_default, get_or_past, get_or-map, length-map}
 use Rattle.std.proofs.lemmas.List.Elements.{length_all_zip, AllZip-get_or}
-use Rattle.std.proofs.lemmas.Int.{ints}
-use Rattle.mono_base.specs.Literal.{is_lit}
-use Rattle.mono_base.specs.Partial.{is_partial}
 use Rattle.mono_graph.specs.declared.limit.Limit.{Limit}
 use Rattle.mono_graph.specs.declared.limit.Limit.TheVariants as limit
-use Rattle.mono_graph.specs.Digraph.{Digraph, weight_of}
-use Rattle.mono_graph.specs.Walks.{is_walk, is_light, is_path, bound_of, cost_along}
+use Rattle.mono_graph.specs.Digraph.{Digraph}
+use Rattle.mono_graph.specs.Walks.{admits, is_walk, is_light, is_path, bound_of, cost_along}
+use Rattle.mono_graph.proofs.Limits.{light_of, low_enough, of_light, under_cap}
 use Rattle.mono_graph.proofs.Subparts.{is_walk-larger}
-use Rattle.mono_paths.proofs.Ends.{ones}
 use Rattle.mono_dynamic.specs.declared.cost_source.CostSource.{CostSource}
+use Rattle.mono_dynamic.specs.Arrivals.{GrowsAfter}
 use Rattle.mono_dynamic.specs.Costs.{Costs, label_of, labels_after, made_after, unwound, AreLeast, AreLeastAlong}
 use Rattle.mono_dynamic.specs.LeastRows.{no_costs, costs_at, costs_from, measure_of, IsBackCosts, IsCostRow, IsCostSource, IsGrownCosts}
 use Rattle.mono_dynamic.proofs.CostLists.{after_none, label_same, length-unwound}
+use Rattle.mono_dynamic.proofs.Lightest.{same_cost}
 use Rattle.mono_dynamic.proofs.LeastExact.{least_first, least_same, least_still}
 use Rattle.mono_problem.specs.declared.atom.Predicate.{Predicate}
-use Rattle.mono_problem.specs.declared.atom.Predicate.TheVariants as kind
 use Rattle.mono_problem.specs.Holds.{Holds}
 use Rattle.mono_problem.specs.Quiet.{under}
-use Rattle.mono_theory.specs.Bound.{Bound, edge_vars, IsBoundOf}
 use Rattle.mono_theory.specs.DueAtoms.{PutsDue}
 use Rattle.mono_theory.specs.DueNodes.{PutsRows}
 use Rattle.mono_theory.proofs.DueNodes.{none_new}
+use Rattle.mono_theory.proofs.DueStay.{due_none}
 use Rattle.mono_theory.specs.Evidences.{Decides}
-use Rattle.mono_theory.specs.Index.{ArePlacesOf}
 use Rattle.mono_problem.specs.Read.{no_atom}
 use Rattle.mono_theory.specs.RowSides.{DecidesRest}
 use Rattle.mono_theory.specs.Supports.{AreCovered, atom_at}
 use Rattle.mono_theory.proofs.KeptEvidenceDecides.{shown_rising}
-use Rattle.mono_distance.proofs.DistanceEvidence.{distance_rises}
+use Rattle.mono_distance.proofs.DistanceEvidence.{distance_asks, distance_rises}
 use Rattle.mono_theory.specs.Theories.{Facts, cut_to}
 use Rattle.mono_theory.specs.SureParts.{sure_parts}
-use Rattle.mono_theory.proofs.SureEdges.{bounds_grown, cut_length, none_sure, parts_cut, sure_larger, sure_still, sure_within}
+use Rattle.mono_theory.specs.SureRows.{SureRowsView, HaveLooked, row_of_atom}
+use Rattle.mono_theory.proofs.SureEdges.{cut_length, none_sure, parts_cut, still_until, sure_larger, sure_within}
 use Rattle.mono_distance.specs.Distances.{is_distance, predicate_of}
-use Rattle.mono_theory.specs.Asked.{no_source, source_at, AreOfAtoms, HaveRows}
-use Rattle.mono_theory.proofs.AskedRows.{first_asked, last_asked, limit_asked}
-use Rattle.mono_distance.specs.SureLabels.{SureLabels, AreLabelsAfter, AreSureLabels, HasLast, HasLimit, shows_last, IsRowFor, is_alike, is_within, first_node, last_node, limit_of, under_label, row_of_atom}
-
--- ---- limits that measure alike
-
-pub alike_itself : (l : Limit) → is_alike l l ≡ true
-alike_itself limit.Free = refl
-alike_itself (limit.Steps a) = refl
-alike_itself (limit.Weight a) = refl
-
-measure_alike : (k l : Limit) → measure_of k ≡ measure_of l → is_alike k l ≡ true
-measure_alike limit.Free limit.Free same = refl
-measure_alike (limit.Steps a) (limit.Steps b) same = refl
-measure_alike (limit.Weight a) (limit.Weight b) same = refl
-measure_alike limit.Free (limit.Steps b) same = absurd (omega (arith, same))
-measure_alike limit.Free (limit.Weight b) same = absurd (omega (arith, same))
-measure_alike (limit.Steps a) limit.Free same = absurd (omega (arith, same))
-measure_alike (limit.Steps a) (limit.Weight b) same = absurd (omega (arith, same))
-measure_alike (limit.Weight a) limit.Free same = absurd (omega (arith, same))
-measure_alike (limit.Weight a) (limit.Steps b) same = absurd (omega (arith, same))
+use Rattle.mono_theory.specs.Asked.{no_source, source_at, AreOfAtoms, HasLast, HaveRows}
+use Rattle.mono_theory.proofs.AskedRows.{first_asked, holds_walk, last_asked, limit_asked, walk_holds}
+use Rattle.mono_distance.specs.SureLabels.{SureLabels, AreLabelsAfter, AreSureLabels, HasLimit, shows_last, IsRowFor, first_node, last_node, limit_of, under_label}
 
 -- ---- the first literals alone
 
@@ -67,8 +47,8 @@ pub labels_uncut : {f : Facts} {s : SureLabels} (n : ℕ) → n ≤ length f.see
 labels_uncut {f = f} {s = s} n le h = record {
   sources = h.sources;
   rows = record {
-    each = λ i lt. least_same f.graph (sure_parts (cut_to n f)) (sure_parts f) n (get_or h.sources i 0) (costs_at s.rows i) (λ m low. sym (parts_cut f m n low))
-        (subst (λ (k : ℕ). AreLeastAlong f.graph (sure_parts (cut_to n f)) k (get_or h.sources i 0) (costs_at s.rows i)) (cut_length f n le) (h.rows.each i lt));
+    each = λ i lt. least_same f.graph (sure_parts (cut_to n f)) (sure_parts f) n (get_or h.sources i 0) (costs_at s.rows.rows i) (λ m low. sym (parts_cut f m n low))
+        (subst (λ (k : ℕ). AreLeastAlong f.graph (sure_parts (cut_to n f)) k (get_or h.sources i 0) (costs_at s.rows.rows i)) (cut_length f n le) (h.rows.each i lt));
   };
   row_of_len = h.row_of_len;
   lasts = h.lasts;
@@ -80,8 +60,8 @@ pub labels_cut : {f : Facts} {s : SureLabels} (n : ℕ) → n ≤ length f.seen 
 labels_cut {f = f} {s = s} n le h = record {
   sources = h.sources;
   rows = record {
-    each = λ i lt. subst (λ (k : ℕ). AreLeastAlong f.graph (sure_parts (cut_to n f)) k (get_or h.sources i 0) (costs_at s.rows i)) (sym (cut_length f n le))
-        (least_same f.graph (sure_parts f) (sure_parts (cut_to n f)) n (get_or h.sources i 0) (costs_at s.rows i) (λ m low. parts_cut f m n low) (h.rows.each i lt));
+    each = λ i lt. subst (λ (k : ℕ). AreLeastAlong f.graph (sure_parts (cut_to n f)) k (get_or h.sources i 0) (costs_at s.rows.rows i)) (sym (cut_length f n le))
+        (least_same f.graph (sure_parts f) (sure_parts (cut_to n f)) n (get_or h.sources i 0) (costs_at s.rows.rows i) (λ m low. parts_cut f m n low) (h.rows.each i lt));
   };
   row_of_len = h.row_of_len;
   lasts = h.lasts;
@@ -95,155 +75,141 @@ row_like : {sources : List ℕ} {rows : List Costs} (news : List Costs) (r : ℕ
 row_like news r q len same cap h = record {
   held = let held = h.held in omega (arith, len, held);
   source = h.source;
-  alike = ap (λ (l : Limit). is_alike l (limit_of q)) same ∙ h.alike;
+  alike = ap measure_of same ∙ h.alike;
   beyond = ap (λ (n : ℕ). int_lt (bound_of (limit_of q)) (pos n)) cap ∙ h.beyond;
 }
 
-pub labels_back : {f : Facts} {s r : SureLabels} (n kept : ℕ) → kept ≤ n → AllZip (IsBackCosts kept) s.rows r.rows → r ≡ record { rows = r.rows; row_of = s.row_of; lasts = s.lasts; limits = s.limits } → AreLabelsAfter f n s → AreLabelsAfter f kept r
-labels_back {f = f} {s = s} {r = r} n kept le back is h =
-    subst (AreLabelsAfter f kept) (sym is) (record {
+pub labels_back : {f : Facts} {s : SureLabels} (t : SureRowsView Costs) (n kept : ℕ) → kept ≤ n → AllZip (IsBackCosts kept) s.rows.rows t.rows → t ≡ record { rows = t.rows; row_of = s.rows.row_of; lasts = s.rows.lasts } → AreLabelsAfter f n s
+    → AreLabelsAfter f kept (record { rows = t; limits = s.limits })
+labels_back {f = f} {s = s} t n kept le back is h =
+    subst (λ (m : SureRowsView Costs). AreLabelsAfter f kept (record { rows = m; limits = s.limits })) (sym is) (record {
       sources = h.sources;
       rows = record { each = λ i lt. (one i (omega (arith, lt, len))).along f.graph (sure_parts f) n (get_or h.sources i 0) le (h.rows.each i (omega (arith, lt, len))) };
       row_of_len = h.row_of_len;
       lasts = h.lasts;
       limits = h.limits;
-      each = λ a lt. (let own = h.each a lt in let at = (one (row_of_atom s a) own.held).is in row_like r.rows (row_of_atom s a) (atom_at f.atoms a).predicate len (ap (λ (t : Costs). t.limit) at) (ap (λ (t : Costs). t.cap) at) own);
+      each = λ a lt. (let own = h.each a lt in let at = (one (row_of_atom s.rows a) own.held).is in row_like t.rows (row_of_atom s.rows a) (atom_at f.atoms a).predicate len (ap (λ (x : Costs). x.limit) at) (ap (λ (x : Costs). x.cap) at) own);
     })
   where
-    len : length r.rows ≡ length s.rows
-    len = sym (length_all_zip (IsBackCosts kept) s.rows r.rows back)
+    len : length t.rows ≡ length s.rows.rows
+    len = sym (length_all_zip (IsBackCosts kept) s.rows.rows t.rows back)
 
-    one : (i : ℕ) → i < length s.rows → IsBackCosts kept (costs_at s.rows i) (costs_at r.rows i)
-    one i lt = AllZip-get_or (IsBackCosts kept) s.rows r.rows i no_costs no_costs back lt
+    one : (i : ℕ) → i < length s.rows.rows → IsBackCosts kept (costs_at s.rows.rows i) (costs_at t.rows i)
+    one i lt = AllZip-get_or (IsBackCosts kept) s.rows.rows t.rows i no_costs no_costs back lt
 
 -- the next literal is positive, and the rows have grown by its edges
-pub labels_grown : {f : Facts} {s r : SureLabels} (n : ℕ) (l : ℤ) (b : Bound) (ks : List ℕ) → n < length f.seen → get_or f.seen n l ≡ l → IsTrue (is_partial f.seen) → IsBoundOf b (edge_vars f.graph) (take (n + 1) f.seen)
-    → int_lt (pos 0) l ≡ true → ArePlacesOf b.vars (nat_abs l) ks → AllZip (IsGrownCosts f.graph b.under ks (n + 1)) s.rows r.rows → r ≡ record { rows = r.rows; row_of = s.row_of; lasts = s.lasts; limits = s.limits } → AreLabelsAfter f n s → AreLabelsAfter f (n + 1) r
-labels_grown {f = f} {s = s} {r = r} n l b ks lt at partial bounds up places grown is h =
-    subst (AreLabelsAfter f (n + 1)) (sym is) (record {
+pub labels_grown : {f : Facts} {s : SureLabels} (t : SureRowsView Costs) (n : ℕ) (ks : List ℕ) (P : List Bool) → GrowsAfter (sure_parts f) n (n + 1) P ks → AllZip (IsGrownCosts f.graph P ks (n + 1)) s.rows.rows t.rows
+    → t ≡ record { rows = t.rows; row_of = s.rows.row_of; lasts = s.rows.lasts } → AreLabelsAfter f n s → AreLabelsAfter f (n + 1) (record { rows = t; limits = s.limits })
+labels_grown {f = f} {s = s} t n ks P grows grown is h =
+    subst (λ (m : SureRowsView Costs). AreLabelsAfter f (n + 1) (record { rows = m; limits = s.limits })) (sym is) (record {
       sources = h.sources;
-      rows = record { each = λ i inside. (one i (omega (arith, inside, len))).along (sure_parts f) n (get_or h.sources i 0) (h.rows.each i (omega (arith, inside, len))) (bounds_grown f n l b ks lt at partial bounds up places) };
+      rows = record { each = λ i inside. (one i (omega (arith, inside, len))).along (sure_parts f) n (get_or h.sources i 0) (h.rows.each i (omega (arith, inside, len))) grows };
       row_of_len = h.row_of_len;
       lasts = h.lasts;
       limits = h.limits;
-      each = λ a held. (let own = h.each a held in let later = (one (row_of_atom s a) own.held).later in row_like r.rows (row_of_atom s a) (atom_at f.atoms a).predicate len later.limit later.cap own);
+      each = λ a held. (let own = h.each a held in let later = (one (row_of_atom s.rows a) own.held).later in row_like t.rows (row_of_atom s.rows a) (atom_at f.atoms a).predicate len later.limit later.cap own);
     })
   where
-    len : length r.rows ≡ length s.rows
-    len = sym (length_all_zip (IsGrownCosts f.graph b.under ks (n + 1)) s.rows r.rows grown)
+    len : length t.rows ≡ length s.rows.rows
+    len = sym (length_all_zip (IsGrownCosts f.graph P ks (n + 1)) s.rows.rows t.rows grown)
 
-    one : (i : ℕ) → i < length s.rows → IsGrownCosts f.graph b.under ks (n + 1) (costs_at s.rows i) (costs_at r.rows i)
-    one i inside = AllZip-get_or (IsGrownCosts f.graph b.under ks (n + 1)) s.rows r.rows i no_costs no_costs grown inside
+    one : (i : ℕ) → i < length s.rows.rows → IsGrownCosts f.graph P ks (n + 1) (costs_at s.rows.rows i) (costs_at t.rows i)
+    one i inside = AllZip-get_or (IsGrownCosts f.graph P ks (n + 1)) s.rows.rows t.rows i no_costs no_costs grown inside
 
 -- the next literal is negative
-pub labels_passed : {f : Facts} {s : SureLabels} (n : ℕ) (l : ℤ) → n < length f.seen → get_or f.seen n l ≡ l → IsTrue (is_lit l) → int_lt (pos 0) l ≡ false → AreLabelsAfter f n s → AreLabelsAfter f (n + 1) s
-labels_passed {f = f} {s = s} n l lt at lit down h = record {
+pub labels_passed : {f : Facts} {s : SureLabels} (n : ℕ) → sure_parts f (n + 1) ≡ sure_parts f n → AreLabelsAfter f n s → AreLabelsAfter f (n + 1) s
+labels_passed {f = f} {s = s} n same h = record {
   sources = h.sources;
   rows = record {
-    each = λ i inside. least_still f.graph (sure_parts f) n (n + 1) (get_or h.sources i 0) (costs_at s.rows i) (omega arith) still (h.rows.each i inside);
+    each = λ i inside. least_still f.graph (sure_parts f) n (n + 1) (get_or h.sources i 0) (costs_at s.rows.rows i) (omega arith) (still_until f n same) (h.rows.each i inside);
   };
   row_of_len = h.row_of_len;
   lasts = h.lasts;
   limits = h.limits;
   each = h.each;
 }
-  where
-    still : (m : ℕ) → n ≤ m → m ≤ n + 1 → sure_parts f m ≡ sure_parts f n
-    still m low high = elim (cases_lt n m) [
-      | inl more ↦ ap (sure_parts f) (omega (arith, more, high)) ∙ sure_still f n l lt at lit down
-      | inr le ↦ ap (sure_parts f) (omega (arith, low, le))
-    ]
 
-row_known : {f : Facts} {s : SureLabels} {n : ℕ} (i : ℕ) → i < length s.rows → AreLabelsAfter f n s → IsCostRow f.graph.nodes n (costs_at s.rows i)
+-- what is kept of the next literal
+abbrev pub Looks : Facts → ℕ → SureRowsView Costs → SureRowsView Costs → List Bool → List Bool → Type 0
+Looks = HaveLooked (λ g P ks n. IsGrownCosts g P ks (n + 1)) (λ n t. map (λ c. c.node) (made_after n t.changes))
+
+pub labels_looked : {f : Facts} {s : SureLabels} {before later : List Bool} (t : SureRowsView Costs) (n : ℕ) → Looks f n s.rows t before later → AreLabelsAfter f n s → AreLabelsAfter f (n + 1) (record { rows = t; limits = s.limits })
+labels_looked {f = f} {s = s} t n (inl stays) h = subst (λ (m : SureRowsView Costs). AreLabelsAfter f (n + 1) (record { rows = m; limits = s.limits })) (sym stays.rows) (labels_passed n stays.parts h)
+labels_looked t n (inr more) h = labels_grown t n more.places more.part more.grows more.grown more.same h
+
+row_known : {f : Facts} {s : SureLabels} {n : ℕ} (i : ℕ) → i < length s.rows.rows → AreLabelsAfter f n s → IsCostRow f.graph.nodes n (costs_at s.rows.rows i)
 row_known {s = s} i lt h = record {
-  sized = (let t = costs_at s.rows i in sym (length-unwound t.labels (made_after 0 t.changes)) ∙ ((h.rows.each i lt).each 0 (omega arith)).len);
+  sized = (let t = costs_at s.rows.rows i in sym (length-unwound t.labels (made_after 0 t.changes)) ∙ ((h.rows.each i lt).each 0 (omega arith)).len);
   stamps = (h.rows.each i lt).latest;
 }
 
-pub rows_known : {f : Facts} {s : SureLabels} {n : ℕ} → AreLabelsAfter f n s → All (IsCostRow f.graph.nodes n) s.rows
-rows_known {f = f} {s = s} {n = n} h = λ i d lt. subst (IsCostRow f.graph.nodes n) (get_or_default s.rows i no_costs d lt) (row_known i lt h)
+pub rows_known : {f : Facts} {s : SureLabels} {n : ℕ} → AreLabelsAfter f n s → All (IsCostRow f.graph.nodes n) s.rows.rows
+rows_known {f = f} {s = s} {n = n} h = λ i d lt. subst (IsCostRow f.graph.nodes n) (get_or_default s.rows.rows i no_costs d lt) (row_known i lt h)
 
-pub node_held : {f : Facts} {s : SureLabels} {n : ℕ} (a v : ℕ) → a < length f.atoms → v < f.graph.nodes → AreLabelsAfter f n s → v < length (costs_at s.rows (row_of_atom s a)).labels
-node_held {f = f} {s = s} a v lt inside h = (let size = (row_known (row_of_atom s a) (h.each a lt).held h).sized in omega (arith, size, inside))
+pub node_held : {f : Facts} {s : SureLabels} {n : ℕ} (a v : ℕ) → a < length f.atoms → v < f.graph.nodes → AreLabelsAfter f n s → v < length (costs_at s.rows.rows (row_of_atom s.rows a)).labels
+node_held {f = f} {s = s} a v lt inside h = (let size = (row_known (row_of_atom s.rows a) (h.each a lt).held h).sized in omega (arith, size, inside))
 
 -- ---- labels and bounds
 
-pub low_enough : (n m : ℕ) (b : ℤ) → n ≤ m → IsTrue (int_le (pos m) b) → IsTrue (int_le (pos n) b)
-low_enough n m b le h = grind (arith, ints)
+-- a walk that costs so much by a like measure is within the limit
+pub light_by : (k l : Limit) (g : Digraph) (ks : List ℕ) → measure_of k ≡ measure_of l → IsTrue (admits l (cost_along k g ks)) → IsTrue (is_light l g ks)
+light_by k l g ks alike low = light_of l g ks (subst (λ (n : ℕ). IsTrue (admits l n)) (same_cost k l g ks alike) low)
 
-pub under_cap : (n c : ℕ) (b : ℤ) → IsTrue (int_le (pos n) b) → int_lt b (pos c) ≡ true → n < c
-under_cap n c b h beyond = grind (arith, ints)
+-- it shows the predicate
+holds_of : (g : Digraph) (P : List Bool) (q : Predicate) (l : Limit) (ks : List ℕ) → IsTrue (is_distance q) → measure_of l ≡ measure_of (limit_of q) → IsTrue (is_walk g P (first_node q) (last_node q) ks) → IsTrue (admits (limit_of q) (cost_along l g ks)) → Holds g P q
+holds_of g P q l ks d alike w low = walk_holds g P q (distance_asks q d) (ks, and_from (is_walk g P (first_node q) (last_node q) ks) (is_light (limit_of q) g ks) w (light_by l (limit_of q) g ks alike low))
 
--- a walk that costs so much by a like measure shows the predicate
-holds_of : (g : Digraph) (P : List Bool) (q : Predicate) (l : Limit) (ks : List ℕ) → IsTrue (is_distance q) → is_alike l (limit_of q) ≡ true → IsTrue (is_walk g P (first_node q) (last_node q) ks) → IsTrue (is_within (cost_along l g ks) (limit_of q)) → Holds g P q
-holds_of g P (kind.Steps u v most) limit.Free ks d alike w low = absurd cc
-holds_of g P (kind.Steps u v most) (limit.Steps a) ks d alike w low = (ks, and_from (is_walk g P u v ks) (int_le (pos (length ks)) most) w (subst (λ (n : ℕ). IsTrue (int_le (pos n) most)) (ones ks) low))
-holds_of g P (kind.Steps u v most) (limit.Weight a) ks d alike w low = absurd cc
-holds_of g P (kind.Distance u v most) limit.Free ks d alike w low = absurd cc
-holds_of g P (kind.Distance u v most) (limit.Steps a) ks d alike w low = absurd cc
-holds_of g P (kind.Distance u v most) (limit.Weight a) ks d alike w low = (ks, and_from (is_walk g P u v ks) (int_le (pos (weight_of g ks)) most) w low)
-holds_of g P (kind.Reach u v) l ks d alike w low = absurd cc
-holds_of g P (kind.Flow u v least) l ks d alike w low = absurd cc
-holds_of g P (kind.Tree most) l ks d alike w low = absurd cc
-holds_of g P kind.Acyclic l ks d alike w low = absurd cc
-
-pub of_holds : (g : Digraph) (P : List Bool) (q : Predicate) (l : Limit) → IsTrue (is_distance q) → is_alike l (limit_of q) ≡ true → Holds g P q → (ks : List ℕ) × IsTrue (is_walk g P (first_node q) (last_node q) ks) × IsTrue (is_within (cost_along l g ks) (limit_of q))
-of_holds g P (kind.Steps u v most) limit.Free d alike h = absurd cc
-of_holds g P (kind.Steps u v most) (limit.Steps a) d alike h = (let p = and_parts (is_walk g P u v h.0) (int_le (pos (length h.0)) most) h.1 in (h.0, p.0, subst (λ (n : ℕ). IsTrue (int_le (pos n) most)) (sym (ones h.0)) p.1))
-of_holds g P (kind.Steps u v most) (limit.Weight a) d alike h = absurd cc
-of_holds g P (kind.Distance u v most) limit.Free d alike h = absurd cc
-of_holds g P (kind.Distance u v most) (limit.Steps a) d alike h = absurd cc
-of_holds g P (kind.Distance u v most) (limit.Weight a) d alike h = (let p = and_parts (is_walk g P u v h.0) (int_le (pos (weight_of g h.0)) most) h.1 in (h.0, p.0, p.1))
-of_holds g P (kind.Reach u v) l d alike h = absurd cc
-of_holds g P (kind.Flow u v least) l d alike h = absurd cc
-of_holds g P (kind.Tree most) l d alike h = absurd cc
-of_holds g P kind.Acyclic l d alike h = absurd cc
+pub of_holds : (g : Digraph) (P : List Bool) (q : Predicate) (l : Limit) → IsTrue (is_distance q) → measure_of l ≡ measure_of (limit_of q) → Holds g P q → (ks : List ℕ) × IsTrue (is_walk g P (first_node q) (last_node q) ks) × IsTrue (admits (limit_of q) (cost_along l g ks))
+of_holds g P q l d alike h =
+    let w = holds_walk g P q (distance_asks q d) h in
+    let p = and_parts (is_walk g P (first_node q) (last_node q) w.0) (is_light (limit_of q) g w.0) w.1 in
+    (w.0, p.0, subst (λ (n : ℕ). IsTrue (admits (limit_of q) n)) (sym (same_cost l (limit_of q) g w.0 alike)) (of_light (limit_of q) g w.0 p.1))
 
 -- ---- what labels tell
 
 -- the least costs from the atom's first node
 pub own_least : {f : Facts} {s : SureLabels} {n : ℕ} (a : ℕ) → a < length f.atoms → AreLabelsAfter f n s
-    → AreLeast f.graph (sure_parts f n) (costs_at s.rows (row_of_atom s a)).limit (first_node (atom_at f.atoms a).predicate) (costs_at s.rows (row_of_atom s a)).cap (costs_at s.rows (row_of_atom s a)).labels
+    → AreLeast f.graph (sure_parts f n) (costs_at s.rows.rows (row_of_atom s.rows a)).limit (first_node (atom_at f.atoms a).predicate) (costs_at s.rows.rows (row_of_atom s.rows a)).cap (costs_at s.rows.rows (row_of_atom s.rows a)).labels
 own_least {f = f} {s = s} {n = n} a lt h =
     let own = h.each a lt in
-    let row = costs_at s.rows (row_of_atom s a) in
-    let along = h.rows.each (row_of_atom s a) own.held in
+    let row = costs_at s.rows.rows (row_of_atom s.rows a) in
+    let along = h.rows.each (row_of_atom s.rows a) own.held in
     subst (λ (u : ℕ). AreLeast f.graph (sure_parts f n) row.limit u row.cap row.labels) own.source
-    (subst (λ (ls : List ℕ). AreLeast f.graph (sure_parts f n) row.limit (get_or h.sources (row_of_atom s a) 0) row.cap ls) (ap (λ cs. unwound row.labels cs) (after_none n row.changes along.latest)) (along.each n (omega arith)))
+    (subst (λ (ls : List ℕ). AreLeast f.graph (sure_parts f n) row.limit (get_or h.sources (row_of_atom s.rows a) 0) row.cap ls) (ap (λ cs. unwound row.labels cs) (after_none n row.changes along.latest)) (along.each n (omega arith)))
 
 pub within_holds : {f : Facts} {s : SureLabels} {n : ℕ} (a : ℕ) → a < length f.atoms → IsTrue (is_distance (atom_at f.atoms a).predicate) → last_node (atom_at f.atoms a).predicate < f.graph.nodes → AreLabelsAfter f n s
-    → IsTrue (is_within (under_label s a (last_node (atom_at f.atoms a).predicate)) (limit_of (atom_at f.atoms a).predicate)) → Holds f.graph (sure_parts f n) (atom_at f.atoms a).predicate
+    → IsTrue (admits (limit_of (atom_at f.atoms a).predicate) (under_label s a (last_node (atom_at f.atoms a).predicate))) → Holds f.graph (sure_parts f n) (atom_at f.atoms a).predicate
 within_holds {f = f} {s = s} {n = n} a lt kind-it inside h low =
     let q = (atom_at f.atoms a).predicate in
     let own = h.each a lt in
-    let row = costs_at s.rows (row_of_atom s a) in
+    let row = costs_at s.rows.rows (row_of_atom s.rows a) in
     let w = (own_least a lt h).attained.walk (last_node q) inside (under_cap (under_label s a (last_node q)) row.cap (bound_of (limit_of q)) low own.beyond) in
-    holds_of f.graph (sure_parts f n) q row.limit w.0 kind-it own.alike w.1 (subst (λ (k : ℕ). IsTrue (is_within k (limit_of q))) (sym w.2) low)
+    holds_of f.graph (sure_parts f n) q row.limit w.0 kind-it own.alike w.1 (subst (λ (k : ℕ). IsTrue (admits (limit_of q) k)) (sym w.2) low)
 
 pub beyond_fails : {f : Facts} {s : SureLabels} {n : ℕ} (a : ℕ) → a < length f.atoms → IsTrue (is_distance (atom_at f.atoms a).predicate) → AreLabelsAfter f n s
-    → is_within (under_label s a (last_node (atom_at f.atoms a).predicate)) (limit_of (atom_at f.atoms a).predicate) ≡ false → ¬ Holds f.graph (sure_parts f n) (atom_at f.atoms a).predicate
+    → admits (limit_of (atom_at f.atoms a).predicate) (under_label s a (last_node (atom_at f.atoms a).predicate)) ≡ false → ¬ Holds f.graph (sure_parts f n) (atom_at f.atoms a).predicate
 beyond_fails {f = f} {s = s} {n = n} a lt kind-it h none holds =
     let q = (atom_at f.atoms a).predicate in
     let own = h.each a lt in
-    let row = costs_at s.rows (row_of_atom s a) in
+    let row = costs_at s.rows.rows (row_of_atom s.rows a) in
     let w = of_holds f.graph (sure_parts f n) q row.limit kind-it own.alike holds in
     let least = (own_least a lt h).least (last_node q) w.0 w.1 in
-    both_ways (is_within (under_label s a (last_node q)) (limit_of q)) none (low_enough (under_label s a (last_node q)) (cost_along row.limit f.graph w.0) (bound_of (limit_of q)) least w.2)
+    both_ways (admits (limit_of q) (under_label s a (last_node q))) none (low_enough (under_label s a (last_node q)) (cost_along row.limit f.graph w.0) (bound_of (limit_of q)) least w.2)
 
 -- the label of the last node decides
 pub label_decides : {f : Facts} {s : SureLabels} {n : ℕ} (a : ℕ) → a < length f.atoms → IsTrue (is_distance (atom_at f.atoms a).predicate) → last_node (atom_at f.atoms a).predicate < f.graph.nodes → AreLabelsAfter f n s
-    → Decides f.graph (sure_parts f n) (atom_at f.atoms a).predicate (is_within (under_label s a (last_node (atom_at f.atoms a).predicate)) (limit_of (atom_at f.atoms a).predicate))
+    → Decides f.graph (sure_parts f n) (atom_at f.atoms a).predicate (admits (limit_of (atom_at f.atoms a).predicate) (under_label s a (last_node (atom_at f.atoms a).predicate)))
 label_decides {f = f} {s = s} {n = n} a lt kind-it inside h =
     let q = (atom_at f.atoms a).predicate in
-    let low = is_within (under_label s a (last_node q)) (limit_of q) in
+    let low = admits (limit_of q) (under_label s a (last_node q)) in
     elim (cases_Bool low) [
       | inl small ↦ subst (Decides f.graph (sure_parts f n) q) (sym small) (within_holds a lt kind-it inside h small)
       | inr high ↦ subst (Decides f.graph (sure_parts f n) q) (sym high) (beyond_fails a lt kind-it h high)
     ]
 
 -- a walk to a node with a label below the cap costs that under all later literals too
-pub label_walk : {f : Facts} {s : SureLabels} {n : ℕ} (a v : ℕ) → a < length f.atoms → v < f.graph.nodes → n ≤ length f.seen → AreLabelsAfter f n s → under_label s a v < (costs_at s.rows (row_of_atom s a)).cap
-    → (ks : List ℕ) × IsTrue (is_walk f.graph (under f.graph f.seen) (first_node (atom_at f.atoms a).predicate) v ks) × (cost_along (costs_at s.rows (row_of_atom s a)).limit f.graph ks ≡ under_label s a v)
+pub label_walk : {f : Facts} {s : SureLabels} {n : ℕ} (a v : ℕ) → a < length f.atoms → v < f.graph.nodes → n ≤ length f.seen → AreLabelsAfter f n s → under_label s a v < (costs_at s.rows.rows (row_of_atom s.rows a)).cap
+    → (ks : List ℕ) × IsTrue (is_walk f.graph (under f.graph f.seen) (first_node (atom_at f.atoms a).predicate) v ks) × (cost_along (costs_at s.rows.rows (row_of_atom s.rows a)).limit f.graph ks ≡ under_label s a v)
 label_walk {f = f} {s = s} {n = n} a v lt inside fits h low =
     let q = (atom_at f.atoms a).predicate in
     let w = (own_least a lt h).attained.walk v inside low in
@@ -251,33 +217,23 @@ label_walk {f = f} {s = s} {n = n} a v lt inside fits h low =
 
 -- ---- what was asked
 
-pub within_asked : (s : SureLabels) (a u v n : ℕ) (l : Limit) (q : Predicate) → q ≡ predicate_of u v l → n ≡ under_label s a v → is_within n l ≡ is_within (under_label s a (last_node q)) (limit_of q)
+pub within_asked : (s : SureLabels) (a u v n : ℕ) (l : Limit) (q : Predicate) → q ≡ predicate_of u v l → n ≡ under_label s a v → admits l n ≡ admits (limit_of q) (under_label s a (last_node q))
 within_asked s a u v n l q is label =
-    ap (λ (m : ℕ). is_within m l) (label ∙ ap (λ (w : ℕ). under_label s a w) (sym (ap last_node is ∙ last_asked u v l)))
-    ∙ ap (λ (k : Limit). is_within (under_label s a (last_node q)) k) (sym (ap limit_of is ∙ limit_asked u v l))
+    ap (λ (m : ℕ). admits l m) (label ∙ ap (λ (w : ℕ). under_label s a w) (sym (ap last_node is ∙ last_asked u v l)))
+    ∙ ap (λ (k : Limit). admits k (under_label s a (last_node q))) (sym (ap limit_of is ∙ limit_asked u v l))
 
 -- the label of what was asked for decides
 pub asked_decides : {f : Facts} {s : SureLabels} {n : ℕ} (a u v label : ℕ) (l : Limit) → a < length f.atoms → IsTrue (is_distance (atom_at f.atoms a).predicate) → (atom_at f.atoms a).predicate ≡ predicate_of u v l → v < f.graph.nodes → label ≡ under_label s a v → AreLabelsAfter f n s
-    → Decides f.graph (sure_parts f n) (atom_at f.atoms a).predicate (is_within label l)
+    → Decides f.graph (sure_parts f n) (atom_at f.atoms a).predicate (admits l label)
 asked_decides {f = f} {s = s} {n = n} a u v label l lt kind-it is inside at h =
     let q = (atom_at f.atoms a).predicate in
     subst (Decides f.graph (sure_parts f n) q) (sym (within_asked s a u v label l q is at))
     (label_decides a lt kind-it (subst (λ (w : ℕ). w < f.graph.nodes) (sym (ap last_node is ∙ last_asked u v l)) inside) h)
 
--- a walk whose cost by a like measure is within the bound is within the limit
-pub light_of : (g : Digraph) (k l : Limit) (ks : List ℕ) → is_alike k l ≡ true → IsTrue (is_within (cost_along k g ks) l) → IsTrue (is_light l g ks)
-light_of g k limit.Free ks alike low = refl
-light_of g limit.Free (limit.Steps most) ks alike low = absurd cc
-light_of g (limit.Steps a) (limit.Steps most) ks alike low = subst (λ (n : ℕ). IsTrue (int_le (pos n) most)) (ones ks) low
-light_of g (limit.Weight a) (limit.Steps most) ks alike low = absurd cc
-light_of g limit.Free (limit.Weight most) ks alike low = absurd cc
-light_of g (limit.Steps a) (limit.Weight most) ks alike low = absurd cc
-light_of g (limit.Weight a) (limit.Weight most) ks alike low = low
-
 -- ---- at first
 
 pub labels_start : (f : Facts) (sources : List CostSource) (row_of lasts : List ℕ) (limits : List Limit) → All (IsCostSource f.graph.nodes) sources → HaveRows f.atoms (length f.atoms) row_of sources → AreOfAtoms HasLast f.atoms (length f.atoms) lasts → AreOfAtoms HasLimit f.atoms (length f.atoms) limits
-    → AreLabelsAfter f 0 (record { rows = map (costs_from f.graph.nodes) sources; row_of = row_of; lasts = lasts; limits = limits })
+    → AreLabelsAfter f 0 (record { rows = record { rows = map (costs_from f.graph.nodes) sources; row_of = row_of; lasts = lasts }; limits = limits })
 labels_start f sources row_of lasts limits known have ends bounds = record {
   sources = map (λ (x : CostSource). x.node) sources;
   rows = record {
@@ -297,7 +253,7 @@ labels_start f sources row_of lasts limits known have ends bounds = record {
       let q = (atom_at f.atoms a).predicate in record {
         held = (let held = own.0 in omega (arith, held, length-map sources (costs_from f.graph.nodes)));
         source = get_or-map (λ (y : CostSource). y.node) sources r no_source 0 own.0 ∙ own.1.node;
-        alike = ap (λ (t : Costs). is_alike t.limit (limit_of q)) (at r own.0) ∙ measure_alike (source_at sources r).limit (limit_of q) own.1.alike;
+        alike = ap (λ (t : Costs). measure_of t.limit) (at r own.0) ∙ own.1.alike;
         beyond = ap (λ (t : Costs). int_lt (bound_of (limit_of q)) (pos t.cap)) (at r own.0) ∙ own.1.beyond;
       };
 }
@@ -314,100 +270,104 @@ labels_start f sources row_of lasts limits known have ends bounds = record {
 abbrev pub IsWalkAfter : Costs → ℕ → ℕ → List ℕ → Type 0
 IsWalkAfter t v stamp ks = (g : Digraph) (parts : ℕ → List Bool) (n u : ℕ) → stamp ≤ n → AreLeastAlong g parts n u t → IsTrue (is_walk g (parts stamp) u v ks) × (cost_along t.limit g ks ≡ label_of (labels_after stamp t) v)
 
-kept_walk : {f : Facts} {s : SureLabels} {n : ℕ} (a v stamp kept : ℕ) (ks : List ℕ) → a < length f.atoms → stamp ≤ kept → stamp ≤ n → IsWalkAfter (costs_at s.rows (row_of_atom s a)) v stamp ks → AreLabelsAfter f n s
-    → IsTrue (is_walk f.graph (sure_parts f kept) (first_node (atom_at f.atoms a).predicate) v ks) × (cost_along (costs_at s.rows (row_of_atom s a)).limit f.graph ks ≡ label_of (labels_after stamp (costs_at s.rows (row_of_atom s a))) v)
+kept_walk : {f : Facts} {s : SureLabels} {n : ℕ} (a v stamp kept : ℕ) (ks : List ℕ) → a < length f.atoms → stamp ≤ kept → stamp ≤ n → IsWalkAfter (costs_at s.rows.rows (row_of_atom s.rows a)) v stamp ks → AreLabelsAfter f n s
+    → IsTrue (is_walk f.graph (sure_parts f kept) (first_node (atom_at f.atoms a).predicate) v ks) × (cost_along (costs_at s.rows.rows (row_of_atom s.rows a)).limit f.graph ks ≡ label_of (labels_after stamp (costs_at s.rows.rows (row_of_atom s.rows a))) v)
 kept_walk {f = f} {s = s} {n = n} a v stamp kept ks lt le low walk h =
     let own = h.each a lt in
-    let w = walk f.graph (sure_parts f) n (get_or h.sources (row_of_atom s a) 0) low (h.rows.each (row_of_atom s a) own.held) in
+    let w = walk f.graph (sure_parts f) n (get_or h.sources (row_of_atom s.rows a) 0) low (h.rows.each (row_of_atom s.rows a) own.held) in
     let first = subst (λ (u : ℕ). IsTrue (is_walk f.graph (sure_parts f stamp) u v ks)) own.source w.0 in
     (is_walk-larger f.graph (sure_parts f stamp) (sure_parts f kept) (sure_larger f.graph f.seen stamp kept le) (first_node (atom_at f.atoms a).predicate) v ks first, w.1)
 
 -- the walk that is kept is within the limit
 pub kept_path : {f : Facts} {s : SureLabels} {n : ℕ} (a u v stamp kept : ℕ) (l : Limit) (ks : List ℕ) → a < length f.atoms → (atom_at f.atoms a).predicate ≡ predicate_of u v l → stamp ≤ kept → stamp ≤ n
-    → IsTrue (is_within (label_of (labels_after stamp (costs_at s.rows (row_of_atom s a))) v) l) → IsWalkAfter (costs_at s.rows (row_of_atom s a)) v stamp ks → AreLabelsAfter f n s
+    → IsTrue (admits l (label_of (labels_after stamp (costs_at s.rows.rows (row_of_atom s.rows a))) v)) → IsWalkAfter (costs_at s.rows.rows (row_of_atom s.rows a)) v stamp ks → AreLabelsAfter f n s
     → IsTrue (is_path f.graph (sure_parts f kept) u v l ks)
 kept_path {f = f} {s = s} a u v stamp kept l ks lt is le low within walk h =
     let q = (atom_at f.atoms a).predicate in
-    let row = costs_at s.rows (row_of_atom s a) in
+    let row = costs_at s.rows.rows (row_of_atom s.rows a) in
     let w = kept_walk a v stamp kept ks lt le low walk h in
     let first : first_node q ≡ u = ap first_node is ∙ first_asked u v l in
-    let alike : is_alike row.limit l ≡ true = ap (λ (k : Limit). is_alike row.limit k) (sym (ap limit_of is ∙ limit_asked u v l)) ∙ (h.each a lt).alike in
+    let alike : measure_of row.limit ≡ measure_of l = (h.each a lt).alike ∙ ap measure_of (ap limit_of is ∙ limit_asked u v l) in
     and_from (is_walk f.graph (sure_parts f kept) u v ks) (is_light l f.graph ks)
     (subst (λ (x : ℕ). IsTrue (is_walk f.graph (sure_parts f kept) x v ks)) first w.0)
-    (light_of f.graph row.limit l ks alike (subst (λ (m : ℕ). IsTrue (is_within m l)) (sym w.1) within))
+    (light_by row.limit l f.graph ks alike (subst (λ (m : ℕ). IsTrue (admits l m)) (sym w.1) within))
 
 -- a label within the bound is below the cap
-pub below_cap : {f : Facts} {s : SureLabels} {n : ℕ} (a label u v : ℕ) (l : Limit) → a < length f.atoms → (atom_at f.atoms a).predicate ≡ predicate_of u v l → IsTrue (is_within label l) → AreLabelsAfter f n s → label < (costs_at s.rows (row_of_atom s a)).cap
+pub below_cap : {f : Facts} {s : SureLabels} {n : ℕ} (a label u v : ℕ) (l : Limit) → a < length f.atoms → (atom_at f.atoms a).predicate ≡ predicate_of u v l → IsTrue (admits l label) → AreLabelsAfter f n s → label < (costs_at s.rows.rows (row_of_atom s.rows a)).cap
 below_cap {f = f} {s = s} a label u v l lt is low h =
     let same : limit_of (atom_at f.atoms a).predicate ≡ l = ap limit_of is ∙ limit_asked u v l in
-    under_cap label (costs_at s.rows (row_of_atom s a)).cap (bound_of l) low (ap (λ (k : Limit). int_lt (bound_of k) (pos (costs_at s.rows (row_of_atom s a)).cap)) (sym same) ∙ (h.each a lt).beyond)
+    under_cap label (costs_at s.rows.rows (row_of_atom s.rows a)).cap (bound_of l) low (ap (λ (k : Limit). int_lt (bound_of k) (pos (costs_at s.rows.rows (row_of_atom s.rows a)).cap)) (sym same) ∙ (h.each a lt).beyond)
 
 -- ---- what is shown
 
 -- the label of an atom's last node is within its limit exactly where that is shown
-pub shown_last : {f : Facts} {s : SureLabels} {n : ℕ} (a : ℕ) → a < length f.atoms → AreLabelsAfter f n s → shows_last s a ≡ is_within (under_label s a (last_node (atom_at f.atoms a).predicate)) (limit_of (atom_at f.atoms a).predicate)
+pub shown_last : {f : Facts} {s : SureLabels} {n : ℕ} (a : ℕ) → a < length f.atoms → AreLabelsAfter f n s → shows_last s a ≡ admits (limit_of (atom_at f.atoms a).predicate) (under_label s a (last_node (atom_at f.atoms a).predicate))
 shown_last {f = f} {s = s} a lt h =
-    ap (λ (v : ℕ). is_within (under_label s a v) (get_or s.limits a limit.Free)) (h.lasts.each a 0 lt) ∙ ap (is_within (under_label s a (last_node (atom_at f.atoms a).predicate))) (h.limits.each a limit.Free lt)
+    ap (λ (v : ℕ). admits (get_or s.limits a limit.Free) (under_label s a v)) (h.lasts.each a 0 lt) ∙ ap (λ (l : Limit). admits l (under_label s a (last_node (atom_at f.atoms a).predicate))) (h.limits.each a limit.Free lt)
 
 -- an atom whose last node has a label that fell is due
-pub labels_put_due : {f : Facts} {s r : SureLabels} {before later : List Bool} (n : ℕ) (P : List Bool) (ks : List ℕ) → AreLabelsAfter f n s → r ≡ record { rows = r.rows; row_of = s.row_of; lasts = s.lasts; limits = s.limits } → AllZip (IsGrownCosts f.graph P ks (n + 1)) s.rows r.rows
-    → PutsRows r.lasts (λ i. map (λ c. c.node) (made_after n (costs_at r.rows i).changes)) (length r.rows) before later → PutsDue (length f.atoms) (shows_last s) (shows_last r) before later
-labels_put_due {f = f} {s = s} {r = r} {before = before} {later = later} n P ks h is grown puts = record {
+labels_put_due : {f : Facts} {s : SureLabels} {before later : List Bool} (t : SureRowsView Costs) (n : ℕ) (P : List Bool) (ks : List ℕ) → AreLabelsAfter f n s → t ≡ record { rows = t.rows; row_of = s.rows.row_of; lasts = s.rows.lasts } → AllZip (IsGrownCosts f.graph P ks (n + 1)) s.rows.rows t.rows
+    → PutsRows t.lasts (λ (x : Costs). map (λ c. c.node) (made_after n x.changes)) t.rows (length t.rows) before later → PutsDue (length f.atoms) (shows_last s) (shows_last (record { rows = t; limits = s.limits })) before later
+labels_put_due {f = f} {s = s} {before = before} {later = later} t n P ks h is grown puts = record {
   size = puts.size;
   stay = puts.stay;
   newly = λ a lt off on.
       let own = h.each a lt in
       let held = own.held in
-      let i = row_of_atom s a in
-      let len : length s.rows ≡ length r.rows = length_all_zip (IsGrownCosts f.graph P ks (n + 1)) s.rows r.rows grown in
-      let lasts : length r.lasts ≡ length f.atoms = ap length own_lasts ∙ h.lasts.len in
-      let v = slice_index r.lasts a in
-      let none = none_new {nodes = λ j. map (λ c. c.node) (made_after n (costs_at r.rows j).changes)} i a puts (omega (arith, held, len)) (omega (arith, lt, lasts)) off in
-      let one = AllZip-get_or (IsGrownCosts f.graph P ks (n + 1)) s.rows r.rows i no_costs no_costs grown held in
-      let label : label_of (costs_at r.rows i).labels v ≡ label_of (costs_at s.rows i).labels v = label_same n (n + 1) v (costs_at s.rows i) (costs_at r.rows i) (omega arith) (row_known i held h).stamps one.later none in
-      let now : is_within (label_of (costs_at r.rows i).labels v) (get_or s.limits a limit.Free) ≡ true =
-      subst (λ (ls : List Limit). is_within (label_of (costs_at r.rows i).labels v) (get_or ls a limit.Free) ≡ true) own_limits
-      (subst (λ (is : List ℕ). is_within (label_of (costs_at r.rows (get_or is a 0)).labels v) (get_or r.limits a limit.Free) ≡ true) own_rows on) in
-      subst (λ (vs : List ℕ). is_within (under_label s a (slice_index vs a)) (get_or s.limits a limit.Free) ≡ true) own_lasts (subst (λ (m : ℕ). is_within m (get_or s.limits a limit.Free) ≡ true) label now);
+      let i = row_of_atom s.rows a in
+      let l = get_or s.limits a limit.Free in
+      let len : length s.rows.rows ≡ length t.rows = length_all_zip (IsGrownCosts f.graph P ks (n + 1)) s.rows.rows t.rows grown in
+      let lasts : length t.lasts ≡ length f.atoms = ap length own_lasts ∙ h.lasts.len in
+      let v = slice_index t.lasts a in
+      let none = none_new {nodes = λ (x : Costs). map (λ c. c.node) (made_after n x.changes)} i a no_costs puts (omega (arith, held, len)) (omega (arith, lt, lasts)) off in
+      let one = AllZip-get_or (IsGrownCosts f.graph P ks (n + 1)) s.rows.rows t.rows i no_costs no_costs grown held in
+      let label : label_of (costs_at t.rows i).labels v ≡ label_of (costs_at s.rows.rows i).labels v = label_same n (n + 1) v (costs_at s.rows.rows i) (costs_at t.rows i) (omega arith) (row_known i held h).stamps one.later none in
+      let now : admits l (label_of (costs_at t.rows i).labels v) ≡ true =
+      subst (λ (is : List ℕ). admits l (label_of (costs_at t.rows (get_or is a 0)).labels v) ≡ true) own_rows on in
+      subst (λ (vs : List ℕ). admits l (under_label s a (slice_index vs a)) ≡ true) own_lasts (subst (λ (m : ℕ). admits l m ≡ true) label now);
 }
   where
-    own_rows : r.row_of ≡ s.row_of
-    own_rows = ap (λ (m : SureLabels). m.row_of) is
+    own_rows : t.row_of ≡ s.rows.row_of
+    own_rows = ap (λ (m : SureRowsView Costs). m.row_of) is
 
-    own_lasts : r.lasts ≡ s.lasts
-    own_lasts = ap (λ (m : SureLabels). m.lasts) is
+    own_lasts : t.lasts ≡ s.rows.lasts
+    own_lasts = ap (λ (m : SureRowsView Costs). m.lasts) is
 
-    own_limits : r.limits ≡ s.limits
-    own_limits = ap (λ (m : SureLabels). m.limits) is
+pub looked_due : {f : Facts} {s : SureLabels} {before later : List Bool} (t : SureRowsView Costs) (n : ℕ) → Looks f n s.rows t before later → AreLabelsAfter f n s → PutsDue (length f.atoms) (shows_last s) (shows_last (record { rows = t; limits = s.limits })) before later
+looked_due {f = f} {s = s} {before = before} t n (inl stays) h =
+    subst (λ (due : List Bool). PutsDue (length f.atoms) (shows_last s) (shows_last (record { rows = t; limits = s.limits })) before due) (sym stays.due)
+    (subst (λ (m : SureRowsView Costs). PutsDue (length f.atoms) (shows_last s) (shows_last (record { rows = m; limits = s.limits })) before before) (sym stays.rows) (due_none (length f.atoms) (shows_last s) before))
+looked_due t n (inr more) h = labels_put_due t n more.part more.places h more.same more.grown more.due
 
 -- labels only fall while literals come
-label_falls : {f : Facts} {s : SureLabels} {n kept : ℕ} (a v : ℕ) (rows : List Costs) → a < length f.atoms → kept ≤ n → AreLabelsAfter f n s → AreLabelsAfter f kept (record { rows = rows; row_of = s.row_of; lasts = s.lasts; limits = s.limits }) → (costs_at rows (row_of_atom s a)).limit ≡ (costs_at s.rows (row_of_atom s a)).limit
-    → label_of (costs_at rows (row_of_atom s a)).labels v < (costs_at rows (row_of_atom s a)).cap → label_of (costs_at s.rows (row_of_atom s a)).labels v ≤ label_of (costs_at rows (row_of_atom s a)).labels v
+label_falls : {f : Facts} {s : SureLabels} {n kept : ℕ} (a v : ℕ) (rows : List Costs) → a < length f.atoms → kept ≤ n → AreLabelsAfter f n s → AreLabelsAfter f kept (record { rows = record { rows = rows; row_of = s.rows.row_of; lasts = s.rows.lasts }; limits = s.limits }) → (costs_at rows (row_of_atom s.rows a)).limit ≡ (costs_at s.rows.rows (row_of_atom s.rows a)).limit
+    → label_of (costs_at rows (row_of_atom s.rows a)).labels v < (costs_at rows (row_of_atom s.rows a)).cap → label_of (costs_at s.rows.rows (row_of_atom s.rows a)).labels v ≤ label_of (costs_at rows (row_of_atom s.rows a)).labels v
 label_falls {f = f} {s = s} {n = n} {kept = kept} a v rows lt le h k same low = elim (cases_lt v f.graph.nodes) [
   | inl inside ↦
-      let i = row_of_atom s a in
+      let i = row_of_atom s.rows a in
       let w = (own_least a lt k).attained.walk v inside low in
       let least = (own_least a lt h).least v w.0 (is_walk-larger f.graph (sure_parts f kept) (sure_parts f n) (sure_larger f.graph f.seen kept n le) (first_node (atom_at f.atoms a).predicate) v w.0 w.1) in
-      subst (λ (m : ℕ). label_of (costs_at s.rows i).labels v ≤ m) (ap (λ (l : Limit). cost_along l f.graph w.0) (sym same) ∙ w.2) least
+      subst (λ (m : ℕ). label_of (costs_at s.rows.rows i).labels v ≤ m) (ap (λ (l : Limit). cost_along l f.graph w.0) (sym same) ∙ w.2) least
   | inr past ↦
-      let size = (row_known (row_of_atom s a) (h.each a lt).held h).sized in
-      let none = get_or_past (costs_at s.rows (row_of_atom s a)).labels v 0 (omega (arith, past, size)) in
+      let size = (row_known (row_of_atom s.rows a) (h.each a lt).held h).sized in
+      let none = get_or_past (costs_at s.rows.rows (row_of_atom s.rows a)).labels v 0 (omega (arith, past, size)) in
       omega (arith, none)
 ]
 
 -- what is shown was shown before literals went
-pub back_shows : {f : Facts} {s r : SureLabels} (n kept a : ℕ) → a < length f.atoms → kept ≤ n → AreLabelsAfter f n s → AllZip (IsBackCosts kept) s.rows r.rows → r ≡ record { rows = r.rows; row_of = s.row_of; lasts = s.lasts; limits = s.limits } → shows_last r a ≡ true → shows_last s a ≡ true
-back_shows {f = f} {s = s} {r = r} n kept a lt le h back is on =
-    let i = row_of_atom s a in
-    let v = slice_index s.lasts a in
+pub back_shows : {f : Facts} {s : SureLabels} (t : SureRowsView Costs) (n kept a : ℕ) → a < length f.atoms → kept ≤ n → AreLabelsAfter f n s → AllZip (IsBackCosts kept) s.rows.rows t.rows → t ≡ record { rows = t.rows; row_of = s.rows.row_of; lasts = s.rows.lasts }
+    → shows_last (record { rows = t; limits = s.limits }) a ≡ true → shows_last s a ≡ true
+back_shows {f = f} {s = s} t n kept a lt le h back is on =
+    let i = row_of_atom s.rows a in
+    let v = slice_index s.rows.lasts a in
     let l = get_or s.limits a limit.Free in
-    let q = (atom_at f.atoms a).predicate in
-    let k = subst (AreLabelsAfter f kept) is (labels_back {f = f} {s = s} {r = r} n kept le back is h) in
-    let now : is_within (label_of (costs_at r.rows i).labels v) l ≡ true = subst (λ (m : SureLabels). shows_last m a ≡ true) is on in
-    let same = ap (λ (t : Costs). t.limit) (AllZip-get_or (IsBackCosts kept) s.rows r.rows i no_costs no_costs back (h.each a lt).held).is in
-    let beyond : int_lt (bound_of l) (pos (costs_at r.rows i).cap) ≡ true = subst (λ (m : Limit). int_lt (bound_of m) (pos (costs_at r.rows i).cap) ≡ true) (sym (h.limits.each a limit.Free lt)) (k.each a lt).beyond in
-    low_enough (label_of (costs_at s.rows i).labels v) (label_of (costs_at r.rows i).labels v) (bound_of l)
-    (label_falls a v r.rows lt le h k same (under_cap (label_of (costs_at r.rows i).labels v) (costs_at r.rows i).cap (bound_of l) now beyond)) now
+    let k : AreLabelsAfter f kept (record { rows = record { rows = t.rows; row_of = s.rows.row_of; lasts = s.rows.lasts }; limits = s.limits }) =
+    subst (λ (m : SureRowsView Costs). AreLabelsAfter f kept (record { rows = m; limits = s.limits })) is (labels_back {f = f} {s = s} t n kept le back is h) in
+    let now : admits l (label_of (costs_at t.rows i).labels v) ≡ true = subst (λ (m : SureRowsView Costs). shows_last (record { rows = m; limits = s.limits }) a ≡ true) is on in
+    let same = ap (λ (x : Costs). x.limit) (AllZip-get_or (IsBackCosts kept) s.rows.rows t.rows i no_costs no_costs back (h.each a lt).held).is in
+    let beyond : int_lt (bound_of l) (pos (costs_at t.rows i).cap) ≡ true = subst (λ (m : Limit). int_lt (bound_of m) (pos (costs_at t.rows i).cap) ≡ true) (sym (h.limits.each a limit.Free lt)) (k.each a lt).beyond in
+    low_enough (label_of (costs_at s.rows.rows i).labels v) (label_of (costs_at t.rows i).labels v) (bound_of l)
+    (label_falls a v t.rows lt le h k same (under_cap (label_of (costs_at t.rows i).labels v) (costs_at t.rows i).cap (bound_of l) now beyond)) now
 
 -- what isn't shown of an atom fails
 pub rest_fails : {f : Facts} {s : SureLabels} {n : ℕ} (a : ℕ) → a < length f.atoms → IsTrue (is_distance (atom_at f.atoms a).predicate) → AreLabelsAfter f n s → shows_last s a ≡ false → ¬ Holds f.graph (sure_parts f n) (atom_at f.atoms a).predicate

@@ -1,9 +1,8 @@
 -- Labels as a table has them, and the absent edges along which they rise.
 use Rattle.std.proofs.Common.{◌≡◌, ◌≢◌, ℕ, zero, suc, ◌+◌, ◌-◌, ◌<◌, ◌≤◌, Bool, true, false, not, ◌&&◌, ◌||◌, ◌==◌, cond, List, [], ◌∷◌, map, length, get_or, set, drop, eqb, ltb, refl, sym, ap, subst, ◌∙◌, ◌⊎◌, inl, inr, arith, ℤ, pos, ◌+ℤ◌, All, lt-ltb, eq-eqb}
-use Rattle.std.specs.Prelude.{IsTrue, filter, flat_map, nat_lt, int_lt, Contains}
-use Rattle.std.proofs.lemmas.Bool.{and_parts, and_from, not-true, not_from_false, cases_lt, cases_eq, le-ltb, ltb-true, ne_eqb}
+use Rattle.std.specs.Prelude.{IsTrue, filter, flat_map, Contains}
+use Rattle.std.proofs.lemmas.Bool.{and_parts, and_from, not-true, not_from_false, cases_eq, ltb-true, ne_eqb}
 use Rattle.std.proofs.lemmas.Bool.Decides.{eqb_tells}
-use Rattle.std.proofs.lemmas.Int.{ints}
 use Rattle.std.proofs.lemmas.List.{get_or-set_same, get_or-set_other}
 use Rattle.std.proofs.lemmas.List.Elements.{All-tail}
 use Rattle.mono_base.specs.declared.limits.TheConstants.{MAX_BOUND, MAX_WITNESS_VALUE}
@@ -12,6 +11,7 @@ use Rattle.mono_graph.specs.declared.label.Label.{Label}
 use Rattle.mono_graph.specs.declared.limit.Limit.{Limit}
 use Rattle.mono_graph.specs.Digraph.{Digraph, edge_at, present, places, leaving, entering, has}
 use Rattle.mono_graph.specs.Walks.{label_at, is_tense, bound_of, cost_of}
+use Rattle.mono_paths.proofs.Listed.{lt_same}
 use Rattle.mono_graph.proofs.Membership.{has_append_cases, has_append_left, has_append_right, has_filter, filter_has, places_at, at_places}
 use Rattle.mono_theory.specs.Resting.{AreAbsent}
 use Rattle.mono_theory.proofs.WalksAsEvidence.{all_by}
@@ -92,18 +92,6 @@ unlisted (l ∷ ls) u h = by (eqb l.node u) h (unlisted ls u)
     by false q rest = rest q
 
 -- ---- edges
-
-lt_same : (x y : ℤ) (a b c : ℕ) → x ≡ pos a → y ≡ pos b → nat_lt (a + c) b ≡ int_lt (x +ℤ pos c) y
-lt_same x y a b c ex ey = elim (cases_lt (a + c) b) [
-  | inl lt ↦ lt-ltb (a + c) b lt ∙ sym (above lt)
-  | inr le ↦ le-ltb (a + c) b le ∙ sym (below le)
-]
-  where
-    above : a + c < b → int_lt (x +ℤ pos c) y ≡ true
-    above lt = grind (arith, ints)
-
-    below : b ≤ a + c → int_lt (x +ℤ pos c) y ≡ false
-    below le = grind (arith, ints)
 
 -- what a table of entries is of
 pub record IsTableOf (ls : List Label) (limit : Limit) (entries : List ℕ) (others : ℕ) : Type 0 where

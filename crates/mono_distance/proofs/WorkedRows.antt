@@ -13,7 +13,7 @@ use Rattle.mono_dynamic.specs.declared.arrival.Arrival.{Arrival}
 use Rattle.mono_dynamic.specs.declared.walk_target.WalkTarget.{WalkTarget}
 use Rattle.mono_dynamic.specs.Arrivals.{arrival_at, IsLed, IsTree}
 use Rattle.mono_dynamic.specs.Costs.{label_of}
-use Rattle.mono_dynamic.specs.Targets.{Targets, is_settled, targets_at, AreTold}
+use Rattle.mono_dynamic.specs.Targets.{Targets, targets_at, AreTold}
 use Rattle.mono_dynamic.specs.Ways.{Ways, has_target, IsTarget, IsTargetOf}
 use Rattle.mono_dynamic.proofs.Lacking.{told_first}
 use Rattle.mono_dynamic.proofs.Rows.{tree_alone}
@@ -23,9 +23,6 @@ use Rattle.mono_problem.specs.declared.atom.Predicate.TheVariants as kind
 use Rattle.mono_theory.specs.Asked.{asks_walk, HasTarget}
 use Rattle.mono_theory.specs.PossibleRows.{possible_parts, target_at, AreTargetsOf, IsRowFor}
 use Rattle.mono_theory.specs.Supports.{atom_at}
-use Rattle.mono_theory.specs.declared.stage.Stage.{Stage}
-use Rattle.mono_theory.specs.declared.stage.Stage.TheVariants as stage
-use Rattle.mono_theory.specs.Stages.{NoneWaits}
 use Rattle.mono_distance.specs.Readings.{IsLeast, IsReached}
 use Rattle.mono_distance.specs.Worked.{along_the_edge, facts_with, to_node_1, tree_rows, tree_view, ways_from, within_7}
 
@@ -60,15 +57,6 @@ least_is_above = record { least = λ ks h. absurd (none_leads ks h); most = refl
 
 pub never_above : IsLeast edge_of_5 (true ∷ []) (kind.Distance 0 1 (pos 7)) 1 6 → ⊥
 never_above h = let most = h.least (0 ∷ []) refl in omega (arith, most)
-
-pub one_stage : (s : Stage) → (s ≡ stage.Waits → ⊥) → NoneWaits (s ∷ [])
-one_stage s other zero d lt = other
-one_stage s other (suc k) d lt = absurd (omega (arith, lt))
-
-pub two_rows : (r s : Targets) → is_settled r ≡ true → is_settled s ≡ true → (i : ℕ) → i < length (r ∷ s ∷ []) → is_settled (targets_at (r ∷ s ∷ []) i) ≡ true
-two_rows r s first second zero lt = first
-two_rows r s first second (suc zero) lt = second
-two_rows r s first second (suc (suc i)) lt = absurd (omega (arith, lt))
 
 -- ---- rows of the possibly present edges
 

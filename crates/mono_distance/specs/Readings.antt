@@ -3,7 +3,7 @@ use Rattle.std.specs.Prelude.{ℕ, suc, ◌≤◌, ◌==◌, ◌&&◌, Bool, tru
 use Rattle.mono_graph.specs.declared.label.Label.{Label}
 use Rattle.mono_graph.specs.declared.limit.Limit.{Limit}
 use Rattle.mono_graph.specs.Digraph.{Digraph}
-use Rattle.mono_graph.specs.Walks.{is_walk, bound_of, cost_along}
+use Rattle.mono_graph.specs.Walks.{admits, is_walk, bound_of, cost_along}
 use Rattle.mono_problem.specs.declared.atom.Predicate.{Predicate}
 use Rattle.mono_steps.specs.declared.lemma.Witness.{Witness}
 use Rattle.mono_steps.specs.declared.lemma.Witness.TheVariants as by
@@ -22,11 +22,12 @@ use Rattle.mono_theory.specs.EitherSides.{IsEitherDecided, IsEitherRight}
 use Rattle.mono_distance.specs.Distances.{is_distance}
 use Rattle.mono_distance.specs.declared.node_labels.Labels.{Labels}
 use Rattle.mono_distance.specs.Labels.{entry_in, value_by}
-use Rattle.mono_distance.specs.SureLabels.{SureLabels, AlwaysStand, AreSureLabels, shows_last, first_node, is_within, last_node, limit_of, under_label}
+use Rattle.mono_theory.specs.RowSides.{AlwaysStand}
+use Rattle.mono_distance.specs.SureLabels.{SureLabels, AreSureLabels, shows_last, first_node, last_node, limit_of, under_label}
 
 -- the label is within the predicate's bound, and a walk in the part from its first node to the node costs at most so much
 pub record IsReached (g : Digraph) (P : List Bool) (q : Predicate) (v d : ℕ) : Type 0 where
-  pub within : IsTrue (is_within d (limit_of q))
+  pub within : IsTrue (admits (limit_of q) d)
   pub walk : List ℕ
   pub leads : IsTrue (is_walk g P (first_node q) v walk)
   pub cost : cost_along (limit_of q) g walk ≤ d
@@ -51,7 +52,7 @@ IsDecidedSide f s = IsEitherDecided AlwaysStand f s
 
 -- the label with the surely present edges, where it is within the bound
 abbrev pub under_at : SureLabels → ℕ → Predicate → ℕ → Option ℕ
-under_at s a q v = if is_within (under_label s a v) (limit_of q) then Some (under_label s a v) else None
+under_at s a q v = if admits (limit_of q) (under_label s a v) then Some (under_label s a v) else None
 
 -- a bound as a number
 abbrev pub bound_number : ℤ → ℕ

@@ -27,7 +27,14 @@ use Rattle.mono_distance.specs.SureLabels.{SureLabels}
 -- the only atom is at this stage with the possibly present edges, and this was shown of it
 abbrev pub showing : Stage → Option Witness → SideView
 showing at None = record { possible = true; supports = None ∷ []; shown = None ∷ []; watchers = [] ∷ []; stages = at ∷ []; thorough = true }
-showing at (Some w) = record { possible = true; supports = None ∷ []; shown = Some (record { witness = w; edges = [] }) ∷ []; watchers = [] ∷ []; stages = at ∷ []; thorough = true }
+showing at (Some w) = record {
+  possible = true;
+  supports = None ∷ [];
+  shown = Some (record { witness = w; edges = [] }) ∷ [];
+  watchers = [] ∷ [];
+  stages = at ∷ [];
+  thorough = true;
+}
 
 -- what searches found of it with the possibly present edges
 abbrev pub possibly : Stage → Option Witness → EitherSide PossibleView
@@ -45,7 +52,10 @@ abbrev pub rows_with : ℕ → List ℕ → EitherSide SureLabels
 rows_with looked labels = side.Rows (record {
   bounds = record { vars = []; under = []; over = [] };
   looked = looked;
-  rows = record { rows = row_of_labels (3 ∷ 3 ∷ []) ∷ row_of_labels labels ∷ []; row_of = 1 ∷ []; lasts = 1 ∷ []; limits = limit.Weight (pos 7) ∷ [] };
+  rows = record {
+    rows = record { rows = row_of_labels (3 ∷ 3 ∷ []) ∷ row_of_labels labels ∷ []; row_of = 1 ∷ []; lasts = 1 ∷ [] };
+    limits = limit.Weight (pos 7) ∷ [];
+  };
   due = [];
 })
 
@@ -60,7 +70,12 @@ to_node_1 = record { node = 1; limit = limit.Weight (pos 7) }
 
 -- behind node 0 these arrivals are in the tree, and its nodes have these labels
 abbrev pub ways_from : ℕ → List Arrival → List ℕ → Ways
-ways_from u arrivals labels = record { limit = limit.Weight (pos 7); cap = 8; tree = record (alone 2 u) { arrivals = (alone 2 u).arrivals ++ arrivals }; labels = labels }
+ways_from u arrivals labels = record {
+  limit = limit.Weight (pos 7);
+  cap = 8;
+  tree = record (alone 2 u) { arrivals = (alone 2 u).arrivals ++ arrivals };
+  labels = labels;
+}
 
 -- node 1 was reached from node 0 along the edge
 abbrev pub along_the_edge : List Arrival
@@ -70,7 +85,8 @@ along_the_edge = record { node = 1; place = 0; before = 0; stamp = 0 } ∷ []
 -- of the tree went with one, if it did.
 abbrev pub tree_rows : List WalkTarget → Option ℕ → Option ℕ → Ways → List Targets
 tree_rows targets since lost ways =
-    record { ways = ways_from 1 [] (8 ∷ 0 ∷ []); targets = []; since = Some 0; lost = None } ∷ record { ways = ways; targets = targets; since = since; lost = lost } ∷ []
+    record { ways = ways_from 1 [] (8 ∷ 0 ∷ []); targets = []; since = Some 0; lost = None }
+    ∷ record { ways = ways; targets = targets; since = since; lost = lost } ∷ []
 
 -- the atom's row is the one at this place
 abbrev pub tree_view : ℕ → List Targets → PossibleView

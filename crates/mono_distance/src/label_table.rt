@@ -122,26 +122,13 @@ fn clear(entries: &mut Vec<u64>, labels: &[Label])
     }
 }
 
-/// One more than the bound, for a bound of at least -1.
-fn above(most: i64) -> u64
-    requires { HasBound (Limit.Steps most) }
-    ensures value { pos result ≡ most +ℤ pos 1 }
-    ensures small { result ≤ MAX_BOUND + 1 }
-{
-    (most + 1) as u64
-}
-
 /// The label of the nodes that aren't listed: one more than the bound.
 pub(crate) fn others_of(limit: Limit) -> u64
     requires { HasBound limit }
     ensures value { pos result ≡ bound_of limit +ℤ pos 1 }
     ensures small { result ≤ MAX_BOUND + 1 }
 {
-    match limit {
-        Limit::Free => unreachable!(),
-        Limit::Steps(most) => above(most),
-        Limit::Weight(most) => above(most),
-    }
+    limit.cap()
 }
 
 /// An entry for each node of graphs with one number of nodes, which is what contracts see of it. No node is listed

@@ -3,6 +3,7 @@
 ghost use Rattle.std.specs.Prelude.{◌≡◌, ℕ, ℤ, Some, IfOk};
 ghost use Rattle.std.specs.Option.{is_some};
 ghost use Rattle.mono_graph.specs.Digraph.{IsGraph};
+ghost use Rattle.mono_graph.specs.Walks.{admits};
 ghost use Rattle.mono_problem.specs.Quiet.{under, over};
 ghost use Rattle.mono_problem.specs.declared.atom.Atom.{Atom};
 ghost use Rattle.mono_theory.specs.Evidences.{Decides};
@@ -12,7 +13,7 @@ ghost use Rattle.mono_theory.specs.Theories.{atom_of};
 ghost use Rattle.mono_theory.specs.EitherSides.{IsEitherKept};
 ghost use Rattle.mono_distance.specs.Distances.{is_distance};
 ghost use Rattle.mono_distance.specs.Readings.{AreBothDecided, DistanceView, labels_in, IsPossiblyRight, IsRightSide};
-ghost use Rattle.mono_distance.specs.SureLabels.{is_within, last_node, limit_of};
+ghost use Rattle.mono_distance.specs.SureLabels.{last_node, limit_of};
 
 use crate::DistanceTheory;
 use mono_theory::{Force, Theory};
@@ -25,7 +26,7 @@ pub fn labels_of_last_nodes_decide()
     ensures { (s : DistanceView) (n : ℕ) (x : Atom) → IsGraph s.graph → AreAtomsOf s.graph s.atoms → AreCovered is_distance s.atoms
         → IsRightSide (facts_in s) s.surely → IsPossiblyRight (facts_in s) s.possibly → AreBothDecided s → atom_of s.atoms n ≡ Some x
         → Decides s.graph (under s.graph s.seen) x.predicate (is_some (labels_in s n (last_node x.predicate)).under)
-        × Decides s.graph (over s.graph s.seen) x.predicate (is_within (labels_in s n (last_node x.predicate)).over (limit_of x.predicate)) }
+        × Decides s.graph (over s.graph s.seen) x.predicate (admits (limit_of x.predicate) (labels_in s n (last_node x.predicate)).over) }
 {}
 
 /// Labels stay while literals come: rows stay, and of what searches found an atom that stands may wait again.

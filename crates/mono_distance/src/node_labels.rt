@@ -1,7 +1,7 @@
 //! What a theory of distances knows of a node.
 
 ghost use Rattle.std.specs.Prelude.{◌≡◌, ◌<◌, ◌≤◌, ◌==◌, ◌&&◌, None, Some, false, true, length, IfSome, IsTrue, MatchOption, if◌then◌else◌};
-ghost use Rattle.mono_graph.specs.Walks.{bound_of};
+ghost use Rattle.mono_graph.specs.Walks.{admits, bound_of};
 ghost use Rattle.mono_paths.specs.Found.{HasBound};
 ghost use Rattle.mono_problem.specs.Quiet.{over, under};
 ghost use Rattle.mono_theory.specs.Evidences.{Decides};
@@ -13,11 +13,11 @@ ghost use Rattle.mono_theory.specs.Supports.{atom_at, IsSideFor};
 ghost use Rattle.mono_distance.specs.Distances.{is_distance, predicate_of};
 ghost use Rattle.mono_distance.specs.Labels.{entry_in, value_by};
 ghost use Rattle.mono_distance.specs.Readings.{above, bound_number, over_at, over_by as over_by_of, over_known as over_known_of, over_of, under_at, under_in, IsLeast, IsPossiblyDecided, IsPossiblyRight, IsReached, IsRightSide};
-ghost use Rattle.mono_distance.specs.SureLabels.{is_within as is_within_of, last_node, limit_of, AreLabelsAfter};
+ghost use Rattle.mono_distance.specs.SureLabels.{last_node, limit_of, AreLabelsAfter};
 
 use crate::distance::{Distance, what_is_asked};
 use crate::label_table::others_of;
-use crate::least_rows::{LeastRows, is_within};
+use crate::least_rows::LeastRows;
 use mono_graph::{Label, Limit};
 use mono_steps::Witness;
 use mono_theory::{Asked, EitherSide, Frame, GraphTheory, KeptSide, PossibleRows, Rows, RowsSide};
@@ -47,7 +47,8 @@ pub trait HasLabels {
     ghost use Rattle.mono_theory.specs.Evidences.{Decides};
     ghost use Rattle.mono_theory.specs.Theories.{Facts, atom_of};
     ghost use Rattle.mono_distance.specs.Readings.{IsReached, IsLeast};
-    ghost use Rattle.mono_distance.specs.SureLabels.{is_within, last_node, limit_of};
+    ghost use Rattle.mono_graph.specs.Walks.{admits};
+    ghost use Rattle.mono_distance.specs.SureLabels.{last_node, limit_of};
     ghost use Rattle.mono_distance.specs.declared.node_labels.Labels.{Labels};
 
     /// The graph, the atoms and the literals seen.
@@ -72,7 +73,7 @@ pub trait HasLabels {
         ensures decided_over { is_decided self.now
             → MatchOption (atom_of (facts self.now).atoms atom) ⊥ (λ x. node ≡ last_node x.predicate
             → Decides (facts self.now).graph (over (facts self.now).graph (facts self.now).seen) x.predicate
-            (is_within result.over (limit_of x.predicate))) };
+            (admits (limit_of x.predicate) result.over)) };
 }
 
 /// The label of a node in a list, and this one where it isn't listed.
@@ -115,9 +116,9 @@ fn number_of(limit: Limit) -> u64
 
 /// A label, where it is within the bound of the limit.
 fn where_within(label: u64, limit: Limit) -> Option<u64>
-    ensures { result ≡ (if is_within_of label limit then Some label else None) }
+    ensures { result ≡ (if admits limit label then Some label else None) }
 {
-    if is_within(label, limit) {
+    if limit.admits(label as u128) {
         Some(label)
     } else {
         None
@@ -221,7 +222,7 @@ fn over_by_rows(
     ensures least { IsLeast frame.now.graph (over frame.now.graph frame.now.seen) (atom_at frame.now.atoms place).predicate node result }
     ensures decides { AreUpToDate RowsStand frame.now side.now → node ≡ last_node (atom_at frame.now.atoms place).predicate
         → Decides frame.now.graph (over frame.now.graph frame.now.seen) (atom_at frame.now.atoms place).predicate
-        (is_within_of result (limit_of (atom_at frame.now.atoms place).predicate)) }
+        (admits (limit_of (atom_at frame.now.atoms place).predicate) result) }
 {
     let _ = frame.seen();
     if node != asked.to {
@@ -245,7 +246,7 @@ fn over_by_searches(kept: &KeptSide, frame: &Frame, place: u32, asked: Asked, no
     ensures least { IsLeast frame.now.graph (over frame.now.graph frame.now.seen) (atom_at frame.now.atoms place).predicate node result }
     ensures decides { NoneWaits kept.now.stages → node ≡ last_node (atom_at frame.now.atoms place).predicate
         → Decides frame.now.graph (over frame.now.graph frame.now.seen) (atom_at frame.now.atoms place).predicate
-        (is_within_of result (limit_of (atom_at frame.now.atoms place).predicate)) }
+        (admits (limit_of (atom_at frame.now.atoms place).predicate) result) }
 {
     let _ = frame.graph();
     let witness = kept.shown_witness(place);
@@ -269,7 +270,7 @@ fn over_known(
     ensures least { IsLeast frame.now.graph (over frame.now.graph frame.now.seen) (atom_at frame.now.atoms place).predicate node result }
     ensures decides { IsPossiblyDecided frame.now side.now → node ≡ last_node (atom_at frame.now.atoms place).predicate
         → Decides frame.now.graph (over frame.now.graph frame.now.seen) (atom_at frame.now.atoms place).predicate
-        (is_within_of result (limit_of (atom_at frame.now.atoms place).predicate)) }
+        (admits (limit_of (atom_at frame.now.atoms place).predicate) result) }
 {
     match side {
         EitherSide::Rows(rows) => over_by_rows(rows, frame, place, asked, node),

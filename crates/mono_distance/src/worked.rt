@@ -68,24 +68,31 @@ pub fn labels_with_possibly_present_edges()
 pub fn labels_of_last_nodes_in_rows()
     ensures not_found { (labels_in (keeping within_7 (searched stage.Waits) (trees_with 1 (Some 1) None (ways_from 0 [] (0 ∷ 8 ∷ [])))) 4 1).over ≡ 8 }
     ensures found { (labels_in (keeping within_7 (searched stage.Waits) (trees_with 1 (Some 1) None (ways_from 0 along_the_edge (0 ∷ 5 ∷ [])))) 4 1).over ≡ 0 }
-    ensures at_the_bound { (labels_in (keeping within_7 (searched stage.Waits) (trees_with 1 (Some 1) None (ways_from 0 along_the_edge (0 ∷ 7 ∷ [])))) 4 1).over ≡ 0 }
+    ensures at_the_bound { (labels_in (keeping within_7 (searched stage.Waits)
+        (trees_with 1 (Some 1) None (ways_from 0 along_the_edge (0 ∷ 7 ∷ [])))) 4 1).over ≡ 0 }
     ensures beyond { (labels_in (keeping within_7 (searched stage.Waits) (trees_with 1 (Some 1) None (ways_from 0 along_the_edge (0 ∷ 8 ∷ [])))) 4 1).over ≡ 8 }
     ensures an_edge_went { (labels_in (keeping within_7 (searched stage.Waits) (trees_with 1 (Some 0) (Some 1) (ways_from 0 [] (0 ∷ 8 ∷ [])))) 4 1).over ≡ 8 }
     ensures not_searched { (labels_in (keeping within_7 (searched stage.Waits) (trees_with 1 None None (ways_from 0 [] (0 ∷ 8 ∷ [])))) 4 1).over ≡ 0 }
     ensures elsewhere { (labels_in (keeping within_7 (searched stage.Waits) (trees_with 1 (Some 1) None (ways_from 0 [] (0 ∷ 8 ∷ [])))) 4 0).over ≡ 0 }
-    ensures never_met { (labels_in (keeping (kind.Distance 0 1 (negsuc 0)) (searched stage.Waits) (trees_with 1 (Some 1) None (ways_from 0 [] (0 ∷ 8 ∷ [])))) 4 1).over ≡ 0 }
+    ensures never_met { (labels_in (keeping (kind.Distance 0 1 (negsuc 0)) (searched stage.Waits)
+        (trees_with 1 (Some 1) None (ways_from 0 [] (0 ∷ 8 ∷ [])))) 4 1).over ≡ 0 }
 {}
 
 /// Rows are right before any search, and after one that found the walk. They aren't where the atom's row isn't asked for its walk,
 /// is from another node, or measures something else; nor where the walk that was found has an edge that isn't there.
 pub fn rows_of_the_possibly_present_edges()
     ensures unsearched { AreTargetsOf (tree_view 1 (tree_rows (to_node_1 ∷ []) None None (ways_from 0 [] (0 ∷ 8 ∷ [])))) (facts_with within_7 (pos 1)) }
-    ensures found { AreTargetsOf (tree_view 1 (tree_rows (to_node_1 ∷ []) (Some 0) None (ways_from 0 along_the_edge (0 ∷ 5 ∷ [])))) (facts_with within_7 (pos 1)) }
+    ensures found { AreTargetsOf (tree_view 1 (tree_rows (to_node_1 ∷ []) (Some 0) None (ways_from 0 along_the_edge (0 ∷ 5 ∷ []))))
+        (facts_with within_7 (pos 1)) }
     ensures not_asked { AreTargetsOf (tree_view 1 (tree_rows [] None None (ways_from 0 [] (0 ∷ 8 ∷ [])))) (facts_with within_7 (pos 1)) → ⊥ }
-    ensures from_another_node { AreTargetsOf (tree_view 0 (tree_rows (to_node_1 ∷ []) None None (ways_from 0 [] (0 ∷ 8 ∷ [])))) (facts_with within_7 (pos 1)) → ⊥ }
-    ensures of_steps { AreTargetsOf (tree_view 1 (tree_rows (to_node_1 ∷ []) None None (ways_from 0 [] (0 ∷ 8 ∷ [])))) (facts_with (kind.Steps 0 1 (pos 7)) (pos 1)) → ⊥ }
-    ensures edge_absent { AreTargetsOf (tree_view 1 (tree_rows (to_node_1 ∷ []) (Some 0) None (ways_from 0 along_the_edge (0 ∷ 5 ∷ [])))) (facts_with within_7 (negsuc 0)) → ⊥ }
-    ensures out_of_reach { AreTargetsOf (tree_view 1 (tree_rows (to_node_1 ∷ []) (Some 1) None (ways_from 0 [] (0 ∷ 8 ∷ [])))) (facts_with within_7 (pos 1)) → ⊥ }
+    ensures from_another_node { AreTargetsOf (tree_view 0 (tree_rows (to_node_1 ∷ []) None None (ways_from 0 [] (0 ∷ 8 ∷ []))))
+        (facts_with within_7 (pos 1)) → ⊥ }
+    ensures of_steps { AreTargetsOf (tree_view 1 (tree_rows (to_node_1 ∷ []) None None (ways_from 0 [] (0 ∷ 8 ∷ []))))
+        (facts_with (kind.Steps 0 1 (pos 7)) (pos 1)) → ⊥ }
+    ensures edge_absent { AreTargetsOf (tree_view 1 (tree_rows (to_node_1 ∷ []) (Some 0) None (ways_from 0 along_the_edge (0 ∷ 5 ∷ []))))
+        (facts_with within_7 (negsuc 0)) → ⊥ }
+    ensures out_of_reach { AreTargetsOf (tree_view 1 (tree_rows (to_node_1 ∷ []) (Some 1) None (ways_from 0 [] (0 ∷ 8 ∷ []))))
+        (facts_with within_7 (pos 1)) → ⊥ }
 {}
 
 /// What is kept decides where rows are up to date for all literals seen, or searches leave no atom waiting, on each of the two
@@ -93,7 +100,8 @@ pub fn rows_of_the_possibly_present_edges()
 pub fn theories_that_decide()
     ensures rows { AreBothDecided (keeping within_7 (rows_with 1 (0 ∷ 5 ∷ [])) (possibly stage.Supported None)) }
     ensures searches { AreBothDecided (keeping within_7 (searched stage.Supported) (possibly (stage.Forcing 1) None)) }
-    ensures possibly_rows { AreBothDecided (keeping within_7 (searched stage.Supported) (trees_with 1 (Some 0) None (ways_from 0 along_the_edge (0 ∷ 5 ∷ [])))) }
+    ensures possibly_rows { AreBothDecided (keeping within_7 (searched stage.Supported)
+        (trees_with 1 (Some 0) None (ways_from 0 along_the_edge (0 ∷ 5 ∷ [])))) }
     ensures rows_behind { AreBothDecided (keeping within_7 (rows_with 0 (0 ∷ 5 ∷ [])) (possibly stage.Supported None)) → ⊥ }
     ensures surely_waits { AreBothDecided (keeping within_7 (searched stage.Waits) (possibly stage.Supported None)) → ⊥ }
     ensures possibly_behind { AreBothDecided (keeping within_7 (rows_with 1 (0 ∷ 5 ∷ [])) (trees_with 0 (Some 0) None (ways_from 0 [] (0 ∷ 8 ∷ [])))) → ⊥ }

@@ -10,6 +10,7 @@ use Rattle.mono_graph.proofs.Membership.{has_here, has_there}
 use Rattle.mono_graph.specs.declared.limit.Limit.{Limit}
 use Rattle.mono_dynamic.specs.declared.change.Change.{Change}
 use Rattle.mono_dynamic.specs.Costs.{Costs, no_change, change_at, label_of, unwound, made_by, made_after, labels_after, IsLater, AreKept, AreLinked}
+use Rattle.mono_dynamic.specs.LeastRows.{IsCostRow}
 
 pub unwound-append : (labels : List ℕ) (cs ds : List Change) → unwound labels (cs ++ ds) ≡ unwound (unwound labels ds) cs
 unwound-append labels [] ds = refl
@@ -143,6 +144,10 @@ later_trans stamp a b c x y = record {
 pub later_stamps : (stamp : ℕ) (a b : Costs) → IsLater stamp a b → All (λ (c : Change). c.stamp ≤ stamp) a.changes → All (λ (c : Change). c.stamp ≤ stamp) b.changes
 later_stamps stamp a b x h = subst (λ (ds : List Change). All (λ (c : Change). c.stamp ≤ stamp) ds) (sym x.changes)
     (All-append (λ (c : Change). c.stamp ≤ stamp) a.changes x.added h (λ i d lt. (let e = x.stamps i d lt in omega arith)))
+
+-- a row stays one
+pub later_row : (n stamp : ℕ) (a b : Costs) → IsLater stamp a b → IsCostRow n stamp a → IsCostRow n stamp b
+later_row n stamp a b x row = record { sized = x.len ∙ row.sized; stamps = later_stamps stamp a b x row.stamps }
 
 -- what the labels were after fewer steps stays
 pub later_earlier : (stamp m : ℕ) (a b : Costs) → IsLater stamp a b → m < stamp → labels_after m b ≡ labels_after m a

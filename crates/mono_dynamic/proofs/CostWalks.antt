@@ -13,7 +13,7 @@ use Rattle.mono_dynamic.specs.Arrivals.{IsGrown}
 use Rattle.mono_dynamic.specs.Costs.{Costs, no_change, change_at, label_of, unwound, made_after, node_by, label_by, labels_after, IsLast, IsLed, HasSource, AreLed, IsGiven, AreLeastAlong}
 use Rattle.mono_dynamic.proofs.CostLists.{unwound-append, unwound_one, length-unwound}
 use Rattle.mono_dynamic.proofs.CostLinks.{unwound_untouched}
-use Rattle.mono_dynamic.proofs.Exact.{walk_front, walk_none}
+use Rattle.mono_graph.proofs.GrownWalks.{walk_front, walk_none}
 
 -- ---- edges that lead to changes
 

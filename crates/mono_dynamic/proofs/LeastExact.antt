@@ -14,7 +14,7 @@ use Rattle.mono_dynamic.specs.declared.change.Change.{Change}
 use Rattle.mono_dynamic.specs.Arrivals.{IsGrown, GrowsAfter}
 use Rattle.mono_dynamic.specs.Costs.{Costs, label_of, AreAttained, AreLeast, AreLeastAlong, IsTight, AreTight, AreRelaxed, IsLater, unwound, made_by, made_after, labels_after, no_change, change_at, IsLed, AreLed}
 use Rattle.mono_dynamic.specs.Ways.{AreCostsFrom}
-use Rattle.mono_dynamic.proofs.Exact.{walks, is_walk_of, walk_push, walk_none}
+use Rattle.mono_graph.proofs.GrownWalks.{walks, is_walk_of, walk_push, walk_none}
 use Rattle.mono_dynamic.proofs.CostWalks.{led_same, led_grown}
 use Rattle.mono_dynamic.proofs.CostLists.{after_none, after_parts, by_latest, unwound-append, later_earlier}
 

@@ -1,8 +1,7 @@
 -- Walks that cost the least, and what a tree of them tells of targets.
-use Rattle.std.proofs.Common.{◌≡◌, ℕ, zero, suc, ◌+◌, ◌-◌, ◌<◌, ◌≤◌, cond, Bool, true, false, List, [], ◌∷◌, length, map, get_or, sum_by, refl, sym, ap, subst, ◌∙◌, inl, inr, arith, ℤ, pos, int_le, int_lt, Option, None, Some}
+use Rattle.std.proofs.Common.{◌≡◌, ℕ, zero, suc, ◌+◌, ◌-◌, ◌<◌, ◌≤◌, cond, Bool, true, false, List, [], ◌∷◌, length, map, get_or, refl, sym, ap, subst, ◌∙◌, inl, inr, arith, pos, int_lt, Option, None, Some}
 use Rattle.std.specs.Prelude.{IsTrue, All, ◌==◌}
 use Rattle.std.specs.List.{list_all}
-use Rattle.std.proofs.lemmas.Int.{ints}
 use Rattle.std.proofs.lemmas.Bool.{cases_eq, false_from_ne_true, and_from, and_parts, eq-eqb, eqb-true, ltb-true}
 use Rattle.std.proofs.lemmas.List.{get_or-map, length-map}
 use Rattle.std.proofs.lemmas.List.Sums.{sum_by-cons}
@@ -11,7 +10,7 @@ use Rattle.mono_graph.specs.declared.limit.Limit.TheVariants as limit
 use Rattle.mono_graph.specs.Digraph.{Digraph, edge_at, present, has, is_place, IsSubpart}
 use Rattle.mono_graph.proofs.Subparts.{is_path-larger}
 use Rattle.mono_graph.proofs.Membership.{has_get_or}
-use Rattle.mono_graph.specs.Walks.{is_walk, is_light, is_path, leads, bound_of, cost_of, cost_along}
+use Rattle.mono_graph.specs.Walks.{admits, is_walk, is_light, is_path, leads, bound_of, cost_of, cost_along}
 use Rattle.mono_dynamic.specs.declared.arrival.Arrival.{Arrival}
 use Rattle.mono_dynamic.specs.declared.cost_source.CostSource.{CostSource}
 use Rattle.mono_dynamic.specs.declared.walk_target.WalkTarget.{WalkTarget}
@@ -22,8 +21,9 @@ use Rattle.mono_dynamic.specs.LeastRows.{costs_from, measure_of}
 use Rattle.mono_dynamic.specs.Reached.{Reached}
 use Rattle.mono_dynamic.specs.Rows.{alone}
 use Rattle.mono_dynamic.specs.SearchTrees.{RestsOn, IsSearchTree}
-use Rattle.mono_dynamic.specs.Ways.{Ways, first_ways, no_target, ways_of, limit_in, labels_in, cap_in, has_target, is_within, gives_label, is_lightest, AreCostsFrom, IsTargetOf, IsPriced, AreWaysTo, AreLightest, IsLight, AreAsked}
-use Rattle.mono_dynamic.proofs.Exact.{walks, is_walk_of, walk_front, walk_none}
+use Rattle.mono_dynamic.specs.Ways.{Ways, first_ways, no_target, ways_of, limit_in, labels_in, cap_in, has_target, gives_label, is_lightest, AreCostsFrom, IsTargetOf, IsPriced, AreWaysTo, AreLightest, IsLight, AreAsked}
+use Rattle.mono_graph.proofs.Limits.{light_of, low_enough, of_light, under_cap}
+use Rattle.mono_graph.proofs.GrownWalks.{walks, is_walk_of, walk_front, walk_none}
 use Rattle.mono_dynamic.proofs.Listed.{reached_index, reached_here}
 use Rattle.mono_dynamic.proofs.LeastExact.{HasNodes, EachTight, bounded, each_tight, first_other}
 use Rattle.mono_dynamic.proofs.CostLists.{unwound_other}
@@ -32,7 +32,7 @@ use Rattle.mono_dynamic.proofs.SearchTrees.{tree_stays}
 
 -- ---- limits and bounds
 
-same_cost : (k l : Limit) (g : Digraph) (ks : List ℕ) → measure_of k ≡ measure_of l → cost_along k g ks ≡ cost_along l g ks
+pub same_cost : (k l : Limit) (g : Digraph) (ks : List ℕ) → measure_of k ≡ measure_of l → cost_along k g ks ≡ cost_along l g ks
 same_cost limit.Free limit.Free g ks same = refl
 same_cost (limit.Steps a) (limit.Steps b) g ks same = refl
 same_cost (limit.Weight a) (limit.Weight b) g ks same = refl
@@ -42,30 +42,6 @@ same_cost (limit.Steps a) limit.Free g ks same = absurd (omega (arith, same))
 same_cost (limit.Steps a) (limit.Weight b) g ks same = absurd (omega (arith, same))
 same_cost (limit.Weight a) limit.Free g ks same = absurd (omega (arith, same))
 same_cost (limit.Weight a) (limit.Steps b) g ks same = absurd (omega (arith, same))
-
-zeros : (ks : List ℕ) → sum_by (λ (k : ℕ). 0) ks ≡ 0
-zeros [] = refl
-zeros (k ∷ ks) = rw (sum_by-cons (λ (k : ℕ). 0) k ks) (omega (arith, zeros ks))
-
-ones : (ks : List ℕ) → sum_by (λ (k : ℕ). 1) ks ≡ length ks
-ones [] = refl
-ones (k ∷ ks) = rw (sum_by-cons (λ (k : ℕ). 1) k ks) (omega (arith, ones ks))
-
-light_of : (l : Limit) (g : Digraph) (ks : List ℕ) → IsTrue (is_within (cost_along l g ks) l) → IsTrue (is_light l g ks)
-light_of limit.Free g ks low = refl
-light_of (limit.Steps most) g ks low = subst (λ (n : ℕ). IsTrue (int_le (pos n) most)) (ones ks) low
-light_of (limit.Weight most) g ks low = low
-
-of_light : (l : Limit) (g : Digraph) (ks : List ℕ) → IsTrue (is_light l g ks) → IsTrue (is_within (cost_along l g ks) l)
-of_light limit.Free g ks low = subst (λ (n : ℕ). IsTrue (int_le (pos n) (pos 0))) (sym (zeros ks)) refl
-of_light (limit.Steps most) g ks low = subst (λ (n : ℕ). IsTrue (int_le (pos n) most)) (sym (ones ks)) low
-of_light (limit.Weight most) g ks low = low
-
-low_enough : (n m : ℕ) (b : ℤ) → n ≤ m → IsTrue (int_le (pos m) b) → IsTrue (int_le (pos n) b)
-low_enough n m b le h = grind (arith, ints)
-
-under_cap : (n c : ℕ) (b : ℤ) → IsTrue (int_le (pos n) b) → int_lt b (pos c) ≡ true → n < c
-under_cap n c b h beyond = grind (arith, ints)
 
 -- ---- what walks of a tree cost
 
@@ -101,7 +77,7 @@ priced_walk g P v w t priced h =
 pub has_leads : (g : Digraph) (P : List Bool) (t : WalkTarget) (w : Ways) → IsTree g P w.tree.source w.tree.arrivals → IsPriced g w → measure_of t.limit ≡ measure_of w.limit → IsTrue (has_target w t)
     → (ks : List ℕ) × IsTrue (is_path g P w.tree.source t.node t.limit ks)
 has_leads g P t w tree priced alike h =
-    let parts = and_parts (is_reached w.tree.arrivals t.node) (is_within (label_of w.labels t.node) t.limit) h in
+    let parts = and_parts (is_reached w.tree.arrivals t.node) (admits t.limit (label_of w.labels t.node)) h in
     let r = priced_walk g P t.node w tree priced parts.0 in
     let same = same_cost t.limit w.limit g r.0 alike in
     let le : cost_along t.limit g r.0 ≤ label_of w.labels t.node = (let low = r.2 in omega (arith, low, same)) in
@@ -198,6 +174,16 @@ asked_inside w targets labels nodes n fit asked size = λ k d lt.
     let known : o.0.node < w.tree.nodes = subst (λ (t : WalkTarget). t.node < w.tree.nodes) o.1.2 (fit o.1.0 no_target o.1.1).known in
     omega (arith, known, size, o.3)
 
+-- a target is one whatever labels are found
+pub targets_stay : (kept : Reached) (old new : Option Costs) (targets : List WalkTarget) → limit_in new ≡ limit_in old → cap_in new ≡ cap_in old → All (IsTargetOf (ways_of kept old)) targets → All (IsTargetOf (ways_of kept new)) targets
+targets_stay kept old new targets limit cap fit = λ i d lt.
+    let t = fit i d lt in
+    record {
+      known = t.known;
+      alike = t.alike ∙ ap measure_of (sym limit);
+      below = subst (λ (n : ℕ). int_lt (bound_of (get_or targets i d).limit) (pos n) ≡ true) (sym cap) t.below;
+    }
+
 pub ways_found : (g : Digraph) (P T : List Bool) (targets : List WalkTarget) (nodes : List ℕ) (kept new : Reached) (costs : Option Costs) → IsLight g P T kept.source costs → AreAsked (labels_in costs) targets nodes
     → All (IsTargetOf (ways_of kept costs)) targets → kept.nodes ≡ g.nodes → new.source ≡ kept.source → IsSearchTree g T kept.source nodes new.arrivals → AreWaysTo g P targets (ways_of new costs)
 ways_found g P T targets nodes kept new costs light asked fit size source s = record {
@@ -210,7 +196,7 @@ ways_found g P T targets nodes kept new costs light asked fit size source s = re
   needed = λ i some lt. elim (s.needed.each i some lt) [
     | inl there ↦
         let o = asked.only (arrival_at new.arrivals i).node there in
-        inl (o.0, o.1, and_from (is_reached new.arrivals o.0.node) (is_within (label_of (labels_in costs) o.0.node) o.0.limit) (subst (λ (v : ℕ). IsTrue (is_reached new.arrivals v)) (sym o.3) (reached_here new.arrivals i lt)) o.2, o.3)
+        inl (o.0, o.1, and_from (is_reached new.arrivals o.0.node) (admits o.0.limit (label_of (labels_in costs) o.0.node)) (subst (λ (v : ℕ). IsTrue (is_reached new.arrivals v)) (sym o.3) (reached_here new.arrivals i lt)) o.2, o.3)
     | inr leads ↦ inr leads
   ];
 }
@@ -239,12 +225,12 @@ ways_found g P T targets nodes kept new costs light asked fit size source s = re
         let a = and_parts (is_walk g P kept.source t.node path.0) (is_light t.limit g path.0) path.1 in
         let same = same_cost t.limit (limit_in costs) g path.0 fits.alike in
         let least = light.least t.node path.0 a.0 in
-        let within : IsTrue (is_within (label_of (labels_in costs) t.node) t.limit) =
+        let within : IsTrue (admits t.limit (label_of (labels_in costs) t.node)) =
         low_enough (label_of (labels_in costs) t.node) (cost_along t.limit g path.0) (bound_of t.limit) (omega (arith, same, least)) (of_light t.limit g path.0 a.1) in
         let below = under_cap (label_of (labels_in costs) t.node) (cap_in costs) (bound_of t.limit) within fits.below in
         let inside : t.node < g.nodes = (let known = fits.known in omega (arith, known, size)) in
         let way = light.lead t.node path.0 inside a.0 below in
-        and_from (is_reached new.arrivals t.node) (is_within (label_of (labels_in costs) t.node) t.limit) ((s.exact t.node (asked.each i d lt within)).1 way) within
+        and_from (is_reached new.arrivals t.node) (admits t.limit (label_of (labels_in costs) t.node)) ((s.exact t.node (asked.each i d lt within)).1 way) within
 
 -- ---- while edges go and come
 

@@ -40,11 +40,11 @@ all_zip_by Is [] (y ∷ ys) len h = absurd (omega (arith, len))
 all_zip_by Is (x ∷ xs) [] len h = absurd (omega (arith, len))
 all_zip_by Is (x ∷ xs) (y ∷ ys) len h = (h 0 x (omega arith), all_zip_by Is xs ys (omega (arith, len)) (λ j d lt. h (suc j) d (omega (arith, lt))))
 
--- all have
+-- rows that have all changed
 pub all_changed : {X : Type 0} {Is : X → X → Type 0} {olds nows : List X} {i : ℕ} → length nows ≤ i → AreChanged Is olds nows i → AllZip Is olds nows
 all_changed {Is = Is} {olds = olds} {nows = nows} {i = i} le c = all_zip_by Is olds nows c.len (λ j d lt. c.done j d (let len = c.len in omega (arith, le, len, lt)) lt)
 
--- some have
+-- rows of which some have
 pub some_changed : {X : Type 0} {Is : X → X → Type 0} {olds nows : List X} {i : ℕ} → AreChanged Is olds nows i → AllZip (OrSame Is) olds nows
 some_changed {Is = Is} {olds = olds} {nows = nows} {i = i} c =
     all_zip_by (OrSame Is) olds nows c.len (λ j d lt. elim (cases_lt j i) [ inl before ↦ inr (c.done j d before lt) | inr past ↦ inl (c.rest j d past) ])
@@ -54,7 +54,7 @@ pub some_changed_set : {X : Type 0} {Is : X → X → Type 0} {olds nows : List 
 some_changed_set {X = X} {Is = Is} {olds = olds} {nows = nows} {i = i} r new c is same =
     subst (λ (xs : List X). AllZip (OrSame Is) olds xs) (sym (ap (set nows i) (same ∙ is) ∙ set-get_or nows i r)) (some_changed c)
 
--- all went back
+-- rows that all went back
 pub all_undone : {X : Type 0} (Fits : ℕ → ℕ → X → Type 0) (Grown : Digraph → List Bool → List ℕ → ℕ → X → X → Type 0) (Undone : ℕ → X → X → Type 0) (kept : ℕ) (olds news : List X) → AllZip (IsBack Fits Grown Undone kept) olds news → AllZip (Undone kept) olds news
 all_undone Fits Grown Undone kept olds news back =
     all_zip_by (Undone kept) olds news (sym (length_all_zip (IsBack Fits Grown Undone kept) olds news back)) (λ j d lt. (AllZip-get_or (IsBack Fits Grown Undone kept) olds news j d d back lt).is)

@@ -16,7 +16,7 @@ use Rattle.mono_dynamic.specs.declared.change.Change.{Change}
 use Rattle.mono_dynamic.specs.declared.waiting.Waiting.{Waiting}
 use Rattle.mono_dynamic.specs.Costs.{Costs, label_of, AreAttained, is_waiting, IsTight, AreTight, AreRelaxed, IsLast, AreLed}
 use Rattle.mono_dynamic.proofs.CostWalks.{led_lowered}
-use Rattle.mono_dynamic.proofs.Exact.{walk_push}
+use Rattle.mono_graph.proofs.GrownWalks.{walk_push}
 
 set_same : (labels : List ℕ) (v l : ℕ) → v < length labels → label_of (set labels v l) v ≡ l
 set_same labels v l lt = get_or-set_same labels v l 0 lt

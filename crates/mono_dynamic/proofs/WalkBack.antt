@@ -8,7 +8,7 @@ use Rattle.mono_dynamic.specs.declared.arrival.Arrival.{Arrival}
 use Rattle.mono_dynamic.specs.Arrivals.{arrival_at, within, IsTree}
 use Rattle.mono_dynamic.specs.Reached.{AreOrdered}
 use Rattle.mono_dynamic.proofs.Listed.{within_at}
-use Rattle.mono_dynamic.proofs.Exact.{walk_front, walk_none}
+use Rattle.mono_graph.proofs.GrownWalks.{walk_front, walk_none}
 
 -- the places lead back from the last arrival to one
 pub record IsWayBack (u : ℕ) (xs : List Arrival) (last here : ℕ) (ks : List ℕ) : Type 0 where

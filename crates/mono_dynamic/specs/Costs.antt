@@ -96,6 +96,11 @@ pub record AreLinked (labels : List ℕ) (cs : List Change) (latest : List ℕ) 
   pub previous : (i : ℕ) → i < length cs → IsLast cs i (change_at cs i).node (change_at cs i).old (change_at cs i).previous
   pub before : (i : ℕ) → i < length cs → (change_at cs i).before ≤ i
 
+-- each change comes by an earlier one, and their stamps never fall
+pub record AreInOrder (cs : List Change) : Type 0 where
+  pub before : (i : ℕ) → i < length cs → (change_at cs i).before ≤ i
+  pub rising : (i j : ℕ) → i ≤ j → j < length cs → (change_at cs i).stamp ≤ (change_at cs j).stamp
+
 -- no label is above the cap, the changes are of nodes, and their stamps never fall
 pub record AreKept (cap : ℕ) (labels : List ℕ) (cs : List Change) (latest : List ℕ) : Type 0 where
   pub bounded : cap ≤ MAX_BOUND + 1
@@ -109,7 +114,8 @@ pub record IsGiven (t : Costs) (n v l last : ℕ) : Type 0 where
   pub is : l ≡ label_of (labels_after n t) v
   pub held : last ≤ length t.changes
   pub none : last ≡ 0 → l ≡ label_of (unwound t.labels t.changes) v
-  pub some : 0 < last → ((change_at t.changes (last - 1)).node ≡ v) × ((change_at t.changes (last - 1)).label ≡ l) × ((change_at t.changes (last - 1)).stamp ≤ n)
+  pub some : 0 < last
+      → ((change_at t.changes (last - 1)).node ≡ v) × ((change_at t.changes (last - 1)).label ≡ l) × ((change_at t.changes (last - 1)).stamp ≤ n)
 
 -- some changes with the stamp were added; without them the labels are those of before
 pub record IsLater (stamp : ℕ) (old new : Costs) : Type 0 where

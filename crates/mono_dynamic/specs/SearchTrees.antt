@@ -41,12 +41,17 @@ pub record IsWay (xs : List Arrival) (last : ℕ) (way : List ℕ) : Type 0 wher
   pub some : 0 < length way
   pub first : slice_index_or way 0 0 ≡ last
   pub known : (i : ℕ) → i < length way → slice_index_or way i 0 < length xs
-  pub led : (i : ℕ) → suc i < length way → (slice_index_or way (suc i) 0 < slice_index_or way i 0) × ((arrival_at xs (slice_index_or way i 0)).before ≡ slice_index_or way (suc i) 0)
+  pub led : (i : ℕ) → suc i < length way
+      → (slice_index_or way (suc i) 0 < slice_index_or way i 0) × ((arrival_at xs (slice_index_or way i 0)).before ≡ slice_index_or way (suc i) 0)
 
 -- the tree has the node at which the way begins, and no other of its nodes
 pub record IsJoined (xs tree : List Arrival) (way : List ℕ) : Type 0 where
   pub here : IsTrue (is_reached tree (arrival_at xs (slice_index_or way (length way - 1) 0)).node)
   pub new : (i : ℕ) → suc i < length way → is_reached tree (arrival_at xs (slice_index_or way i 0)).node ≡ false
+
+-- the node and the edge of an arrival, reached by way of the arrival `before` of a tree
+abbrev pub reached_by : Arrival → ℕ → Arrival
+reached_by a before = record { node = a.node; place = a.place; before = before; stamp = 0 }
 
 -- the node of the arrival at p was added to the tree, by way of the arrival before
 pub record IsAttached (xs : List Arrival) (p : ℕ) (old new : Reached) : Type 0 where
@@ -55,7 +60,7 @@ pub record IsAttached (xs : List Arrival) (p : ℕ) (old new : Reached) : Type 0
   pub from : (arrival_at old.arrivals at).node ≡ (arrival_at xs (arrival_at xs p).before).node
   pub alone : (j : ℕ) → j < length old.arrivals → (arrival_at old.arrivals j).node ≡ (arrival_at xs (arrival_at xs p).before).node → at ≡ j
   pub only : (j : ℕ) → j < length xs → (arrival_at xs j).node ≡ (arrival_at xs p).node → p ≡ j
-  pub is : new ≡ record old { arrivals = old.arrivals ++ record { node = (arrival_at xs p).node; place = (arrival_at xs p).place; before = at; stamp = 0 } ∷ [] }
+  pub is : new ≡ record old { arrivals = old.arrivals ++ reached_by (arrival_at xs p) at ∷ [] }
 
 -- The tree has the way to v if v is among the arrivals, and with it what it had. It rests on their edges.
 pub record HasWay (xs : List Arrival) (v : ℕ) (old new : Reached) : Type 0 where

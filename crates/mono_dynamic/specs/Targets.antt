@@ -41,7 +41,8 @@ pub record AreTold (g : Digraph) (parts : ℕ → List Bool) (n : ℕ) (r : Targ
   pub priced : IsPriced g r.ways
   pub past : IfSome r.lost (λ k. k ≤ n)
   pub early : IfSome r.since (λ s. s ≤ n)
-  pub lacking : IfSome r.since (λ s. All (λ t. has_target r.ways t ≡ false → (ks : List ℕ) → IsTrue (is_path g (parts s) r.ways.tree.source t.node t.limit ks) → ⊥) r.targets)
+  pub lacking : IfSome r.since (λ s. All (λ t. has_target r.ways t ≡ false
+      → (ks : List ℕ) → IsTrue (is_path g (parts s) r.ways.tree.source t.node t.limit ks) → ⊥) r.targets)
 
 -- up to n steps, edges only go
 pub record OnlyShrink (parts : ℕ → List Bool) (n : ℕ) : Type 0 where

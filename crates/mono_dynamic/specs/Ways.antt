@@ -1,10 +1,10 @@
 -- Walks from a source to targets that are kept of a search, as a tree.
-use Rattle.std.specs.Prelude.{◌≡◌, ℕ, ◌+◌, ◌<◌, ◌≤◌, ◌==◌, ◌&&◌, ◌⊎◌, ◌↔◌, Bool, true, pos, int_le, int_lt, List, [], length, replicate, slice_index_or, slice_set, Option, None, Some, IsTrue, All, if◌then◌else◌}
+use Rattle.std.specs.Prelude.{◌≡◌, ℕ, ◌+◌, ◌<◌, ◌≤◌, ◌==◌, ◌&&◌, ◌⊎◌, ◌↔◌, Bool, true, pos, int_lt, List, [], length, replicate, slice_index_or, slice_set, Option, None, Some, IsTrue, All, if◌then◌else◌}
 use Rattle.mono_graph.specs.declared.edge.Edge.{Edge}
 use Rattle.mono_graph.specs.declared.limit.Limit.{Limit}
 use Rattle.mono_graph.specs.declared.limit.Limit.TheVariants as limit
 use Rattle.mono_graph.specs.Digraph.{Digraph, edge_at, present, has}
-use Rattle.mono_graph.specs.Walks.{bound_of, cost_along, cost_of, is_path, is_walk}
+use Rattle.mono_graph.specs.Walks.{admits, bound_of, cost_along, cost_of, is_path, is_walk}
 use Rattle.mono_dynamic.specs.declared.cost_source.CostSource.{CostSource}
 use Rattle.mono_dynamic.specs.declared.walk_target.WalkTarget.{WalkTarget}
 use Rattle.mono_dynamic.specs.Arrivals.{arrival_at, is_reached, IsTree}
@@ -31,13 +31,9 @@ no_target = record { node = 0; limit = limit.Free }
 abbrev pub IsTarget : List WalkTarget → WalkTarget → Type 0
 IsTarget ts t = (i : ℕ) × (i < length ts) × (slice_index_or ts i no_target ≡ t)
 
--- the cost is within the bound
-abbrev pub is_within : ℕ → Limit → Bool
-is_within cost l = int_le (pos cost) (bound_of l)
-
 -- a walk to the target within its bound is kept
 abbrev pub has_target : Ways → WalkTarget → Bool
-has_target w t = is_reached w.tree.arrivals t.node && is_within (label_of w.labels t.node) t.limit
+has_target w t = is_reached w.tree.arrivals t.node && admits t.limit (label_of w.labels t.node)
 
 -- walks to the target can be asked for here: it is a node, what it measures is what is measured, and its bound matters
 pub record IsTargetOf (w : Ways) (t : WalkTarget) : Type 0 where
@@ -120,7 +116,8 @@ pub record AreLightest (g : Digraph) (P : List Bool) (limit : Limit) (cap : ℕ)
 pub record IsLight (g : Digraph) (P T : List Bool) (u : ℕ) (costs : Option Costs) : Type 0 where
   pub gives : (k : ℕ) → k < length g.edges → IsTrue (present T k) → IsTrue (is_lightest g P (limit_in costs) (labels_in costs) k)
   pub least : (v : ℕ) (ks : List ℕ) → IsTrue (is_walk g P u v ks) → label_of (labels_in costs) v ≤ cost_along (limit_in costs) g ks
-  pub lead : (v : ℕ) (ks : List ℕ) → v < g.nodes → IsTrue (is_walk g P u v ks) → label_of (labels_in costs) v < cap_in costs → (js : List ℕ) × IsTrue (is_walk g T u v js)
+  pub lead : (v : ℕ) (ks : List ℕ) → v < g.nodes → IsTrue (is_walk g P u v ks) → label_of (labels_in costs) v < cap_in costs
+      → (js : List ℕ) × IsTrue (is_walk g T u v js)
 
 -- the part that is searched: the lightest edges, where walks cost something, else all
 abbrev pub searched_part : List Bool → Option (List Bool) → List Bool
@@ -129,5 +126,5 @@ searched_part P (Some T) = T
 
 -- the nodes of those targets whose labels are within their bounds
 pub record AreAsked (labels : List ℕ) (targets : List WalkTarget) (nodes : List ℕ) : Type 0 where
-  pub each : All (λ t. IsTrue (is_within (label_of labels t.node) t.limit) → IsTrue (has nodes t.node)) targets
-  pub only : (v : ℕ) → IsTrue (has nodes v) → (t : WalkTarget) × IsTarget targets t × IsTrue (is_within (label_of labels t.node) t.limit) × (t.node ≡ v)
+  pub each : All (λ t. IsTrue (admits t.limit (label_of labels t.node)) → IsTrue (has nodes t.node)) targets
+  pub only : (v : ℕ) → IsTrue (has nodes v) → (t : WalkTarget) × IsTarget targets t × IsTrue (admits t.limit (label_of labels t.node)) × (t.node ≡ v)

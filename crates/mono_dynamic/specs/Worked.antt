@@ -6,6 +6,7 @@ use Rattle.mono_dynamic.specs.declared.arrival.Arrival.{Arrival}
 use Rattle.mono_dynamic.specs.declared.change.Change.{Change}
 use Rattle.mono_dynamic.specs.declared.walk_target.WalkTarget.{WalkTarget}
 use Rattle.mono_dynamic.specs.Arrivals.{at_source}
+use Rattle.mono_dynamic.specs.Costs.{Costs}
 use Rattle.mono_dynamic.specs.Targets.{Targets}
 use Rattle.mono_dynamic.specs.Ways.{Ways}
 
@@ -32,6 +33,14 @@ last_first (suc (suc n)) = both
 abbrev pub change : ℕ → ℕ → ℕ → ℕ → ℕ → ℕ → Change
 change v k previous old l stamp = record { node = v; place = k; before = 0; previous = previous; old = old; label = l; stamp = stamp }
 
+-- what walks over two parallel edges cost, the cheaper of which weighs 1, by these changes
+abbrev pub lowered_by : List Change → Costs
+lowered_by cs = record { limit = limit.Weight (pos 9); cap = 10; labels = 0 ∷ 1 ∷ []; changes = cs }
+
+-- by the dearer edge in the first step, and by the cheaper one in the second
+abbrev pub lowered_twice : Costs
+lowered_twice = lowered_by (change 1 1 0 10 4 1 ∷ change 1 0 1 4 1 2 ∷ [])
+
 -- both of two edges, until the first of them goes with the first step
 abbrev pub first_goes : ℕ → List Bool
 first_goes zero = both
@@ -41,12 +50,17 @@ first_goes (suc n) = last_alone
 abbrev pub within_weight : ℕ → WalkTarget
 within_weight most = record { node = 1; limit = limit.Weight (pos most) }
 
--- of a graph with two nodes the first alone, or the second by the edge at place k. The second one's label is given
-abbrev pub without_way : ℕ → Ways
-without_way label = record { limit = limit.Weight (pos 9); cap = 10; tree = record { nodes = 2; source = 0; arrivals = at_source 0 ∷ [] }; labels = 0 ∷ label ∷ [] }
+-- of a graph with two nodes these arrivals, from the first node. The second one's label is given
+abbrev pub ways_by : List Arrival → ℕ → Ways
+ways_by xs label = record { limit = limit.Weight (pos 9); cap = 10; tree = record { nodes = 2; source = 0; arrivals = xs }; labels = 0 ∷ label ∷ [] }
 
+-- the first node alone
+abbrev pub without_way : ℕ → Ways
+without_way label = ways_by (at_source 0 ∷ []) label
+
+-- and the second by the edge at place k
 abbrev pub with_way : ℕ → ℕ → Ways
-with_way k label = record { limit = limit.Weight (pos 9); cap = 10; tree = record { nodes = 2; source = 0; arrivals = at_source 0 ∷ arrival 1 k 0 0 ∷ [] }; labels = 0 ∷ label ∷ [] }
+with_way k label = ways_by (at_source 0 ∷ arrival 1 k 0 0 ∷ []) label
 
 -- what is known of one target, within a weight of 3
 abbrev pub known_by : Ways → Option ℕ → Option ℕ → Targets

@@ -1,12 +1,14 @@
 //! Labels by node that are lowered, and raised again to what they were.
 
-ghost use Rattle.std.specs.Prelude.{◌≡◌, ◌+◌, ◌-◌, ◌<◌, ◌≤◌, ◌++◌, ◌∷◌, [], ℕ, Bool, List, All, IfOk, IsTrue, OnOk, OnErr, length, take, drop, replicate, slice_set, vec_len};
+ghost use Rattle.std.specs.Prelude.{◌≡◌, ◌+◌, ◌-◌, ◌<◌, ◌≤◌, ◌++◌, ◌∷◌, [], ℕ, Bool, List, All, IfOk, IsTrue, OnOk, OnErr, length, take, drop, slice_set, vec_len};
 ghost use Rattle.mono_graph.specs.Digraph.{Digraph};
 ghost use Rattle.mono_graph.specs.Walks.{cost_of as cost_by, is_walk, cost_along};
 ghost use Rattle.mono_graph.specs.declared.limit.Limit.{Limit};
-ghost use Rattle.mono_dynamic.specs.Costs.{change_at, label_by, label_of, labels_after, node_by, unwound, made_by, made_after, AreLeastAlong, AreLinked, IsGiven, IsLast, IsLed};
+ghost use Rattle.mono_dynamic.specs.Costs.{label_by, label_of, node_by, unwound, made_by, made_after, AreInOrder, AreLinked, IsGiven, IsLast, IsLed};
+ghost use Rattle.mono_dynamic.specs.LeastRows.{costs_from, IsCostSource};
 
 use crate::change::Change;
+use crate::cost_source::CostSource;
 use mono_base::limits::MAX_BOUND;
 use mono_graph::{Edge, Limit};
 use std::alloc::{AllocError, Global};
@@ -25,9 +27,9 @@ pub struct CostTable {
 
 /// The label of a node after some steps, and which change gave it, counted from 1.
 #[derive(Clone, Copy)]
-struct Given {
-    label: u64,
-    last: usize,
+pub struct Given {
+    pub label: u64,
+    pub last: usize,
 }
 
 impl Model for CostTable {
@@ -63,8 +65,8 @@ fn undo_changes_to(
 }
 
 /// The walk that led to a change, by going back from change to change.
-fn walk_back(alloc: Global, changes: &[Change], last: usize) -> Result<Vec<u32>, AllocError>
-    requires before { (i : ℕ) → i < length changes.now → (change_at changes.now i).before ≤ i }
+pub fn walk_back(alloc: Global, changes: &[Change], last: usize) -> Result<Vec<u32>, AllocError>
+    requires ordered { AreInOrder changes.now }
     requires last { last ≤ length changes.now }
     ensures { IfOk result (λ walk. (g : Digraph) (P : List Bool) (limit : Limit) (u : ℕ) → ((i : ℕ) → i < last → IsLed g P limit u changes.now i)
         → IsTrue (is_walk g P u (node_by u changes.now last) walk.items) × (cost_along limit g walk.items ≡ label_by changes.now last)) }
@@ -82,23 +84,16 @@ fn walk_back(alloc: Global, changes: &[Change], last: usize) -> Result<Vec<u32>,
 
 impl CostTable {
     /// Label 0 at the source, and the cap at each other node.
-    pub fn new(
-        alloc: Global,
-        nodes: u32,
-        source: u32,
-        limit: Limit,
-        cap: u64,
-    ) -> Result<Self, AllocError>
-        requires source { source < nodes }
-        requires cap { cap ≤ MAX_BOUND + 1 }
-        ensures { IfOk result (λ t. t ≡ record { limit = limit; cap = cap; labels = slice_set (replicate nodes cap) source 0; changes = [] }) }
+    pub fn new(alloc: Global, nodes: u32, source: CostSource) -> Result<Self, AllocError>
+        requires { IsCostSource nodes source }
+        ensures { IfOk result (λ t. t ≡ costs_from nodes source) }
     {
-        let mut labels = vec![in alloc; cap; nodes as usize]?;
-        labels[source as usize] = 0;
+        let mut labels = vec![in alloc; source.cap; nodes as usize]?;
+        labels[source.node as usize] = 0;
         let latest = vec![in alloc; 0; nodes as usize]?;
         Ok(CostTable {
-            limit,
-            cap,
+            limit: source.limit,
+            cap: source.cap,
             labels,
             latest,
             changes: Vec::new(alloc),
@@ -162,6 +157,7 @@ impl CostTable {
         ensures known { All (λ c. c.node < length self.now.labels) result.now }
         ensures last { (v : ℕ) → v < length self.now.labels
             → (last : ℕ) × IsLast self.now.changes (length self.now.changes) v (label_of self.now.labels v) last }
+        ensures ordered { AreInOrder self.now.changes }
     {
         &self.changes
     }
@@ -195,7 +191,7 @@ impl CostTable {
     }
 
     /// What a node's label was after so many steps, by going back over its own changes.
-    fn given_after(&self, node: u32, kept: u32) -> Given
+    pub fn given_after(&self, node: u32, kept: u32) -> Given
         requires { node < length self.now.labels }
         ensures { IsGiven self.now kept node result.label result.last }
     {
@@ -207,26 +203,5 @@ impl CostTable {
             last = change.previous;
         }
         Given { label, last }
-    }
-
-    /// The label of a node after so many steps. It costs the later changes of this node.
-    pub fn label_after(&self, node: u32, kept: u32) -> u64
-        requires { node < length self.now.labels }
-        ensures { result ≡ label_of (labels_after kept self.now) node }
-    {
-        self.given_after(node, kept).label
-    }
-
-    /// A walk that costs what the label of a node was after so many steps.
-    pub fn walk_to(&self, alloc: Global, node: u32, kept: u32) -> Result<Vec<u32>, AllocError>
-        requires node { node < length self.now.labels }
-        requires below { label_of (labels_after kept self.now) node < self.now.cap }
-        ensures { IfOk result (λ walk. (g : Digraph) (parts : ℕ → List Bool) (n u : ℕ) → kept ≤ n → AreLeastAlong g parts n u self.now
-            → IsTrue (is_walk g (parts kept) u node walk.items)
-            × (cost_along self.now.limit g walk.items ≡ label_of (labels_after kept self.now) node)) }
-    {
-        let given = self.given_after(node, kept);
-        let walk = walk_back(alloc, &self.changes, given.last)?;
-        Ok(walk)
     }
 }

@@ -9,15 +9,15 @@ ghost use Rattle.std.specs.Prelude.{◌≡◌, ◌+◌, ◌<◌, ◌≤◌, ◌=
 ghost use Rattle.mono_graph.specs.Digraph.{Digraph, edge_at, present, IsPartOf};
 ghost use Rattle.mono_graph.specs.Walks.{is_walk, cost_along};
 ghost use Rattle.mono_dynamic.specs.Arrivals.{IsGrown, GrowsAfter};
-ghost use Rattle.mono_dynamic.specs.Costs.{label_of, labels_after, made_after, made_by, AreLeast, AreLeastAlong, IsLater};
+ghost use Rattle.mono_dynamic.specs.Costs.{label_of, labels_after, made_by, AreLeast, AreLeastAlong, IsLater};
 ghost use Rattle.mono_dynamic.specs.Ways.{gives_label as gives_label_by, is_lightest as is_lightest_by, AreCostsFrom, AreLightest};
 
 use crate::change::Change;
 use crate::cost_source::CostSource;
-use crate::cost_table::CostTable;
-use crate::relax::relax_from;
+use crate::cost_table::{CostTable, walk_back};
+use crate::part_after::PartAfter;
+use crate::relaxation::Relaxation;
 use crate::row::Row;
-use crate::waiting::Waiting;
 use mono_base::limits::MAX_BOUND;
 use mono_graph::{Edge, Graph, Limit, Part};
 use std::alloc::{AllocError, Global};
@@ -30,8 +30,7 @@ use std::marker::Model;
 /// and `walk_to` take memory.
 #[derive(Drop)]
 pub struct LeastCosts {
-    table: CostTable,
-    queue: BinaryHeap<Waiting>,
+    relaxation: Relaxation,
 }
 
 impl Model for LeastCosts {
@@ -39,7 +38,7 @@ impl Model for LeastCosts {
 
     ghost Value = { Costs };
 
-    ghost view = { λ s. s.table };
+    ghost view = { λ s. s.relaxation.table };
 }
 
 impl LeastCosts {
@@ -57,10 +56,15 @@ impl LeastCosts {
         requires cap { cap ≤ MAX_BOUND + 1 }
         ensures { IfOk result (λ s. s ≡ record { limit = limit; cap = cap; labels = slice_set (replicate nodes cap) source 0; changes = [] }) }
     {
-        let table = CostTable::new(alloc, nodes, source, limit, cap)?;
+        let source = CostSource {
+            node: source,
+            limit,
+            cap,
+        };
+        let table = CostTable::new(alloc, nodes, source)?;
+        let queue = BinaryHeap::new(alloc);
         Ok(LeastCosts {
-            table,
-            queue: BinaryHeap::new(alloc),
+            relaxation: Relaxation { table, queue },
         })
     }
 
@@ -70,7 +74,7 @@ impl LeastCosts {
         ensures label { result ≡ label_of self.now.labels node }
         ensures most { result ≤ self.now.cap }
     {
-        self.table.label(node)
+        self.relaxation.table.label(node)
     }
 
     /// The label that a node had after so many steps. It costs the later changes of this node.
@@ -78,7 +82,7 @@ impl LeastCosts {
         requires { node < length self.now.labels }
         ensures { result ≡ label_of (labels_after kept self.now) node }
     {
-        self.table.label_after(node, kept)
+        self.relaxation.table.given_after(node, kept).label
     }
 
     /// A walk to a node that costs what its label was after so many steps, where that is below the cap. It is a walk in
@@ -90,7 +94,9 @@ impl LeastCosts {
             → IsTrue (is_walk g (parts kept) u node walk.items)
             × (cost_along self.now.limit g walk.items ≡ label_of (labels_after kept self.now) node)) }
     {
-        self.table.walk_to(alloc, node, kept)
+        let given = self.relaxation.table.given_after(node, kept);
+        let walk = walk_back(alloc, self.relaxation.table.changes(), given.last)?;
+        Ok(walk)
     }
 
     /// The changes of labels, in order: what a step lowered stands at the end.
@@ -98,15 +104,7 @@ impl LeastCosts {
         ensures changes { result.now ≡ self.now.changes }
         ensures known { All (λ c. c.node < length self.now.labels) result.now }
     {
-        self.table.changes()
-    }
-
-    /// The changes of the steps after the first `kept`. It costs their number.
-    pub fn changes_after(&self, kept: u32) -> &[Change]
-        ensures { result.now ≡ made_after kept self.now.changes }
-    {
-        let count = self.table.count_by(kept);
-        &self.table.changes()[count..]
+        self.relaxation.table.changes()
     }
 
     /// Edges have come into the part, with the step of this number. Labels that they lower are lowered. Where memory is
@@ -135,12 +133,12 @@ impl LeastCosts {
     {
         // The edges of a graph lead between its nodes.
         let _ = graph.nodes();
-        let count = self.table.change_count();
-        let table = &mut self.table;
-        match relax_from(graph, part, places, stamp, table, &mut self.queue) {
+        let count = self.relaxation.table.change_count();
+        let step = PartAfter { graph, part, stamp };
+        match self.relaxation.relax_from(&step, places) {
             Ok(()) => Ok(()),
             Err(error) => {
-                self.table.undo_to(count);
+                self.relaxation.table.undo_to(count);
                 Err(error)
             }
         }
@@ -152,8 +150,8 @@ impl LeastCosts {
         ensures along { (g : Digraph) (parts : ℕ → List Bool) (n u : ℕ) → kept ≤ n → AreLeastAlong g parts n u self.old
             → AreLeastAlong g parts kept u self.new }
     {
-        let count = self.table.count_by(kept);
-        self.table.undo_to(count);
+        let count = self.relaxation.table.count_by(kept);
+        self.relaxation.table.undo_to(count);
     }
 }
 
@@ -176,16 +174,13 @@ impl LeastCosts {
     {
         // The edges of a graph lead between its nodes.
         let _ = graph.nodes();
-        self.table.undo_to(0);
-        let table = &mut self.table;
-        relax_from(
+        self.relaxation.table.undo_to(0);
+        let step = PartAfter {
             graph,
             part,
-            graph.leaving(source),
-            0,
-            table,
-            &mut self.queue,
-        )?;
+            stamp: 0,
+        };
+        self.relaxation.relax_from(&step, graph.leaving(source))?;
         Ok(())
     }
 
@@ -195,9 +190,9 @@ impl LeastCosts {
         requires to { edge.to < length self.now.labels }
         ensures { result ≡ gives_label_by self.now.limit self.now.labels edge }
     {
-        let start = self.table.label(edge.from);
-        let end = self.table.label(edge.to);
-        end >= start && end - start == self.table.cost_of(edge)
+        let start = self.relaxation.table.label(edge.from);
+        let end = self.relaxation.table.label(edge.to);
+        end >= start && end - start == self.relaxation.table.cost_of(edge)
     }
 
     /// Whether the edge at a place is present, and gives the node to which it leads its label.
@@ -246,7 +241,7 @@ impl LeastCosts {
         let _ = graph.nodes();
         let mut light = Part::none(alloc, graph.edge_count())?;
         self.put_leaving(graph, part, source, &mut light);
-        for change in self.table.changes() {
+        for change in self.relaxation.table.changes() {
             if change.label != self.label(change.node) {
                 // The label fell once more.
                 continue;
@@ -269,9 +264,12 @@ fn put_if(part: &mut Part, place: u32, asked: bool)
 }
 
 impl Row for LeastCosts {
+    ghost use Rattle.mono_dynamic.specs.Costs.{made_after};
     ghost use Rattle.mono_dynamic.specs.LeastRows.{costs_from, IsBackCosts, IsCostRow, IsCostSource, IsGrownCosts};
 
     type Source = CostSource;
+
+    type Change = Change;
 
     ghost can_begin = { IsCostSource };
 
@@ -282,6 +280,8 @@ impl Row for LeastCosts {
     ghost grown = { λ g Q ks looked. IsGrownCosts g Q ks (looked + 1) };
 
     ghost undone = { IsBackCosts };
+
+    ghost changed_after = { λ kept t. made_after kept t.changes };
 
     fn new(alloc: Global, nodes: u32, source: CostSource) -> Result<Self, AllocError> {
         LeastCosts::new(alloc, nodes, source.node, source.limit, source.cap)
@@ -299,5 +299,10 @@ impl Row for LeastCosts {
 
     fn undo_to(&mut self, kept: u32) {
         LeastCosts::undo_to(self, kept);
+    }
+
+    fn changes_after(&self, kept: u32) -> &[Change] {
+        let count = self.relaxation.table.count_by(kept);
+        &self.relaxation.table.changes()[count..]
     }
 }

@@ -4,6 +4,8 @@
 
 /// How nodes were reached.
 mod arrival;
+/// What is at a node.
+mod at_node;
 /// Rows from several sources.
 mod by_source;
 /// How labels were lowered.
@@ -16,12 +18,14 @@ mod cost_table;
 pub mod laws;
 /// What walks from one source cost at least.
 mod least_costs;
+/// Parts of a graph after a step.
+mod part_after;
 /// Nodes that are reached from one source.
 mod reached_nodes;
 /// Which of some nodes are reached while edges go.
 mod reached_targets;
 /// Labels that are lowered along edges.
-mod relax;
+mod relaxation;
 /// What is kept for one source.
 mod row;
 /// From where rows are asked for.
@@ -42,6 +46,7 @@ mod walk_target;
 pub mod worked;
 
 pub use arrival::Arrival;
+pub use at_node::AtNode;
 pub use by_source::BySource;
 pub use change::Change;
 pub use cost_source::CostSource;

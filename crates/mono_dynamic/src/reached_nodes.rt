@@ -271,14 +271,6 @@ impl ReachedNodes {
         &self.arrivals
     }
 
-    /// The arrivals of the steps after the first `kept`. It costs their number.
-    pub fn arrivals_after(&self, kept: u32) -> &[Arrival]
-        ensures { result.now ≡ after kept self.now.arrivals }
-    {
-        let count = count_within(self.arrivals.as_slice(), kept);
-        &self.arrivals[count..]
-    }
-
     /// The least number of steps after which the node is reached, if it is.
     pub fn reached_after(&self, node: u32) -> Option<u32>
         requires { node < self.now.nodes }
@@ -309,9 +301,12 @@ impl ReachedNodes {
 }
 
 impl Row for ReachedNodes {
+    ghost use Rattle.mono_dynamic.specs.Arrivals.{after};
     ghost use Rattle.mono_dynamic.specs.Rows.{alone, back_to, IsGrownRow, IsRow, IsSource};
 
     type Source = u32;
+
+    type Change = Arrival;
 
     ghost can_begin = { IsSource };
 
@@ -322,6 +317,8 @@ impl Row for ReachedNodes {
     ghost grown = { λ g Q ks looked. IsGrownRow g Q ks (looked + 1) };
 
     ghost undone = { λ kept old new. new ≡ back_to kept old };
+
+    ghost changed_after = { λ kept r. after kept r.arrivals };
 
     fn new(alloc: Global, nodes: u32, source: u32) -> Result<Self, AllocError> {
         ReachedNodes::new(alloc, nodes, source)
@@ -340,6 +337,11 @@ impl Row for ReachedNodes {
 
     fn undo_to(&mut self, kept: u32) {
         ReachedNodes::undo_to(self, kept);
+    }
+
+    fn changes_after(&self, kept: u32) -> &[Arrival] {
+        let count = count_within(self.arrivals.as_slice(), kept);
+        &self.arrivals[count..]
     }
 }
 

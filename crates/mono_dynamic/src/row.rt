@@ -2,6 +2,7 @@
 
 ghost use Rattle.std.specs.Prelude.{◌≡◌, ◌+◌, ◌<◌, ◌^◌, All, IfOk, OnErr, OnOk, length};
 
+use crate::at_node::AtNode;
 use mono_graph::{Graph, Part};
 use std::alloc::{AllocError, Global};
 
@@ -13,6 +14,9 @@ pub trait Row: Drop {
 
     /// From where a row is, and what it measures.
     type Source: Copy;
+
+    /// What a step changes in a row, each time at a node.
+    type Change: AtNode;
 
     /// A row of a graph with so many nodes can be from this source.
     ghost can_begin: { ℕ → Self.Source → Type 0 };
@@ -28,6 +32,9 @@ pub trait Row: Drop {
 
     /// How a row has gone back to so many steps.
     ghost undone: { ℕ → Self → Self → Type 0 };
+
+    /// What has changed in a row in the steps after so many, in order.
+    ghost changed_after: { ℕ → Self → List Self.Change };
 
     /// The row from a source, in a part with no edge.
     fn new(alloc: Global, nodes: u32, source: Self::Source) -> Result<Self, AllocError>
@@ -54,4 +61,8 @@ pub trait Row: Drop {
     /// memory.
     fn undo_to(&mut self, kept: u32)
         ensures { IsBack fits grown undone kept self.old self.new };
+
+    /// What has changed in the steps after the first `kept`, in order. It costs their number.
+    fn changes_after(&self, kept: u32) -> &[Self::Change]
+        ensures { result.now ≡ changed_after kept self.now };
 }

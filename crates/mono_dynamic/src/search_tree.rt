@@ -22,7 +22,7 @@ use crate::cost_source::{CostSource, measure_of};
 use crate::least_costs::LeastCosts;
 use crate::reached_nodes::ReachedNodes;
 use crate::tree_search::TreeSearch;
-use crate::walk_target::{WalkTarget, is_within};
+use crate::walk_target::WalkTarget;
 use mono_base::limits::MAX_NODES;
 use mono_graph::{Graph, Part};
 use std::alloc::{AllocError, Global};
@@ -87,7 +87,8 @@ fn asked_nodes(
 {
     let mut nodes = Vec::new(alloc);
     for target in targets {
-        if !is_within(label_in(costs, target.node), target.limit) {
+        let label = label_in(costs, target.node);
+        if !target.limit.admits(u128::from(label)) {
             continue;
         }
         nodes.push(target.node)?;
@@ -133,35 +134,8 @@ fn searched<'a>(light: &'a Option<Part>, part: &'a Part) -> &'a Part
     }
 }
 
-/// Adds to a tree, which is the source alone, the ways to the targets within their bounds, along edges of a part that was
-/// found to be light.
-fn add_ways(
-    alloc: Global,
-    kept: &mut ReachedNodes,
-    costs: &Option<LeastCosts>,
-    room: &mut TreeSearch,
-    graph: &Graph,
-    light: &Part,
-    targets: &[WalkTarget],
-) -> Result<(), AllocError>
-    requires room { room.old ≡ graph.now.nodes }
-    requires part { IsPartOf light.now graph.now }
-    requires kept { kept.old ≡ alone graph.now.nodes kept.old.source }
-    requires from { AreFrom graph.now.nodes kept.old.source costs.now }
-    requires targets { All (IsTargetOf (ways_of kept.old costs.now)) targets.now }
-    ensures room { room.new ≡ room.old }
-    ensures nodes { kept.new.nodes ≡ kept.old.nodes }
-    ensures source { kept.new.source ≡ kept.old.source }
-    ensures ways { OnOk result ((P : List Bool) → IsLight graph.now P light.now kept.old.source costs.now
-        → AreWaysTo graph.now P targets.now (ways_of kept.new costs.now)) }
-    ensures alone { OnErr result (kept.new ≡ kept.old) }
-{
-    let nodes = asked_nodes(alloc, costs, targets)?;
-    room.search(kept, graph, light, nodes.as_slice());
-    Ok(())
-}
-
-/// Adds to a tree, which is the source alone, the ways to the targets.
+/// Adds to a tree, which is the source alone, the ways to the targets within their bounds. Where walks cost something, they
+/// are ways along the lightest edges.
 fn search_ways(
     alloc: Global,
     kept: &mut ReachedNodes,
@@ -187,8 +161,8 @@ fn search_ways(
 {
     let source = kept.source();
     let light = lightest_part(alloc, costs, graph, part, source)?;
-    let searched = searched(&light, part);
-    add_ways(alloc, kept, costs, room, graph, searched, targets)?;
+    let nodes = asked_nodes(alloc, costs, targets)?;
+    room.search(kept, graph, searched(&light, part), nodes.as_slice());
     Ok(())
 }
 
@@ -238,7 +212,8 @@ impl SearchTree {
         requires { target.node < self.now.tree.nodes }
         ensures { result ≡ has_target self.now target }
     {
-        self.kept.has(target.node) && is_within(label_in(&self.costs, target.node), target.limit)
+        let label = label_in(&self.costs, target.node);
+        self.kept.has(target.node) && target.limit.admits(u128::from(label))
     }
 
     /// Whether a walk of the tree has the edge at a place. The tree is one of the graph, in whatever part of it.

@@ -7,7 +7,7 @@ ghost use Rattle.mono_dynamic.specs.Costs.{AreLeast, AreLeastAlong, labels_after
 ghost use Rattle.mono_dynamic.specs.SearchTrees.{IsSearchTree, RestsOn};
 ghost use Rattle.mono_dynamic.specs.Targets.{is_lacking, is_settled, AreTold};
 ghost use Rattle.mono_dynamic.specs.Ways.{AreWaysTo, IsTargetOf};
-ghost use Rattle.mono_dynamic.specs.Worked.{arrival, one_by_one, at_once, change, first_goes, known_by, last_first, with_way, within_weight, without_way};
+ghost use Rattle.mono_dynamic.specs.Worked.{arrival, one_by_one, at_once, change, first_goes, known_by, last_first, lowered_by, lowered_twice, with_way, within_weight, without_way};
 
 use mono_graph::Limit;
 
@@ -131,43 +131,10 @@ pub fn least_costs_over_parallel_edges()
 
 /// Where the dearer of two parallel edges comes first, the label falls twice, and going back raises it twice.
 pub fn least_costs_step_by_step()
-    ensures falls { AreLeastAlong (parallel 1 4) last_first 2 0 (record {
-      limit = Limit.Weight (pos 9);
-      cap = 10;
-      labels = 0 ∷ 1 ∷ [];
-      changes = change 1 1 0 10 4 1 ∷ change 1 0 1 4 1 2 ∷ [];
-    }) }
-    ensures too_late { AreLeastAlong (parallel 1 4) last_first 2 0 (record {
-      limit = Limit.Weight (pos 9);
-      cap = 10;
-      labels = 0 ∷ 1 ∷ [];
-      changes = change 1 1 0 10 4 2 ∷ change 1 0 1 4 1 2 ∷ [];
-    }) → ⊥ }
-    ensures by_another_edge { AreLeastAlong (parallel 1 4) last_first 2 0 (record {
-      limit = Limit.Weight (pos 9);
-      cap = 10;
-      labels = 0 ∷ 1 ∷ [];
-      changes = change 1 0 0 10 4 1 ∷ change 1 0 1 4 1 2 ∷ [];
-    }) → ⊥ }
-    ensures after_none { labels_after 0 (record {
-      limit = Limit.Weight (pos 9);
-      cap = 10;
-      labels = 0 ∷ 1 ∷ [];
-      changes = change 1 1 0 10 4 1
-          ∷ change 1 0 1 4 1 2 ∷ [];
-    }) ≡ 0 ∷ 10 ∷ [] }
-    ensures after_one { labels_after 1 (record {
-      limit = Limit.Weight (pos 9);
-      cap = 10;
-      labels = 0 ∷ 1 ∷ [];
-      changes = change 1 1 0 10 4 1
-          ∷ change 1 0 1 4 1 2 ∷ [];
-    }) ≡ 0 ∷ 4 ∷ [] }
-    ensures after_both { labels_after 2 (record {
-      limit = Limit.Weight (pos 9);
-      cap = 10;
-      labels = 0 ∷ 1 ∷ [];
-      changes = change 1 1 0 10 4 1
-          ∷ change 1 0 1 4 1 2 ∷ [];
-    }) ≡ 0 ∷ 1 ∷ [] }
+    ensures falls { AreLeastAlong (parallel 1 4) last_first 2 0 lowered_twice }
+    ensures too_late { AreLeastAlong (parallel 1 4) last_first 2 0 (lowered_by (change 1 1 0 10 4 2 ∷ change 1 0 1 4 1 2 ∷ [])) → ⊥ }
+    ensures by_another_edge { AreLeastAlong (parallel 1 4) last_first 2 0 (lowered_by (change 1 0 0 10 4 1 ∷ change 1 0 1 4 1 2 ∷ [])) → ⊥ }
+    ensures after_none { labels_after 0 lowered_twice ≡ 0 ∷ 10 ∷ [] }
+    ensures after_one { labels_after 1 lowered_twice ≡ 0 ∷ 4 ∷ [] }
+    ensures after_both { labels_after 2 lowered_twice ≡ 0 ∷ 1 ∷ [] }
 {}

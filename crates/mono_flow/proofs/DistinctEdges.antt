@@ -2,7 +2,7 @@
 use Rattle.std.proofs.Common.{◌≡◌, ℕ, Bool, true, false, cond, not, ◌&&◌, ◌==◌, List, [], ◌∷◌, ◌++◌, length, filter, refl, sym, subst, inl, inr}
 use Rattle.std.specs.Prelude.{IsTrue, flat_map}
 use Rattle.std.proofs.lemmas.Bool.{and_parts, and_from, both_ways, not-true, not_from_false, false_from_ne_true}
-use Rattle.mono_graph.specs.Digraph.{Digraph, edge_at, has, is_distinct, leaving, present}
+use Rattle.mono_graph.specs.Digraph.{Digraph, crosses, edge_at, has, is_distinct, leaving, present}
 use Rattle.mono_graph.proofs.Membership.{filter_has, has_append_cases, has_here, has_there, places_at}
 use Rattle.mono_flows.proofs.Results.{range_distinct}
 use Rattle.mono_theory.specs.Resting.{absent_from, absent_out}
@@ -29,7 +29,7 @@ distinct_append (x ∷ xs) ys dx dy apart =
 
 -- the edges at a node begin there
 begins_at : (g : Digraph) (P : List Bool) (s : List ℕ) (u k : ℕ) → IsTrue (has (absent_from g P s u) k) → (edge_at g k).from ≡ u
-begins_at g P s u k h = (places_at (λ e. e.from) g u k (filter_has (λ j. not (present P j) && not (has s (edge_at g j).to)) (leaving g u) k h).0).1
+begins_at g P s u k h = (places_at (λ e. e.from) g u k (filter_has (λ j. not (present P j) && crosses s (edge_at g j)) (leaving g u) k h).0).1
 
 begins_in : (g : Digraph) (P : List Bool) (s us : List ℕ) (k : ℕ) → IsTrue (has (flat_map (absent_from g P s) us) k) → IsTrue (has us (edge_at g k).from)
 begins_in g P s [] k h = absurd cc
@@ -43,7 +43,7 @@ distinct_from g P s [] d = refl
 distinct_from g P s (u ∷ us) d =
     let parts = and_parts (not (has us u)) (is_distinct us) d in
     distinct_append (absent_from g P s u) (flat_map (absent_from g P s) us)
-    (distinct_filter (λ j. not (present P j) && not (has s (edge_at g j).to)) (leaving g u) (range_distinct (λ k. (edge_at g k).from == u) 0 (length g.edges)))
+    (distinct_filter (λ j. not (present P j) && crosses s (edge_at g j)) (leaving g u) (range_distinct (λ k. (edge_at g k).from == u) 0 (length g.edges)))
     (distinct_from g P s us parts.1)
     (λ k here later. both_ways (has us u) (not-true (has us u) parts.0) (subst (λ (v : ℕ). IsTrue (has us v)) (begins_at g P s u k here) (begins_in g P s us k later)))
 

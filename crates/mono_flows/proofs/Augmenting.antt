@@ -77,6 +77,34 @@ plus_flag : (b : Bool) (x e : ℕ) → (if b then (x + e) else 0) ≡ (if b then
 plus_flag true x e = refl
 plus_flag false x e = refl
 
+-- the amount at the edge of a visit changes, and no other
+stepped : (g : Digraph) (P : List Bool) (s t most extra : ℕ) (vs : List Visit) (f0 f f' : ℕ → ℕ) (at : ℕ) → IsAugmentingPath g P f0 s t most vs → 0 < at → Moving g P t extra vs f0 f at
+    → ((j : ℕ) → (j ≢ (visit_at vs at).edge.place) → f' j ≡ f j)
+    → f' (visit_at vs at).edge.place ≤ capacity g P (visit_at vs at).edge.place → f' (visit_at vs at).edge.place ≤ f0 (visit_at vs at).edge.place + extra
+    → ((u : ℕ) → outflow g f' u + inflow g f0 u + (if t == u then extra else 0) ≡ inflow g f' u + outflow g f0 u + (if (visit_at vs (visit_at vs at).before).node == u then extra else 0))
+    → Moving g P t extra vs f0 f' (visit_at vs at).before
+stepped g P s t most extra vs f0 f f' at path pos m there within-here small-here balance =
+    let step = path.tree.steps at pos m.inside in
+    let k : ℕ = (visit_at vs at).edge.place in
+    let earlier : (visit_at vs at).before < at = step.before in
+    let left' = m.residual in
+    let less' = step.less in
+    let inside' = m.inside in
+    record {
+      inside = omega arith;
+      residual = omega arith;
+      within = λ j lt. elim (cases_eq j k) [
+        | inl e ↦ subst (λ (i : ℕ). f' i ≤ capacity g P i) (sym e) within-here
+        | inr ne ↦ subst (λ (x : ℕ). x ≤ capacity g P j) (sym (there j ne)) (m.within j lt)
+      ];
+      fresh = λ j posj le. there (visit_at vs j).edge.place (λ e. places_apart g P f0 s t most vs path at j pos m.inside posj (omega arith) e) ∙ m.fresh j posj (omega arith);
+      small = λ j. elim (cases_eq j k) [
+        | inl e ↦ subst (λ (i : ℕ). f' i ≤ f0 i + extra) (sym e) small-here
+        | inr ne ↦ subst (λ (x : ℕ). x ≤ f0 j + extra) (sym (there j ne)) (m.small j)
+      ];
+      balance = balance;
+    }
+
 pub forth : (g : Digraph) (P : List Bool) (s t most extra : ℕ) (vs : List Visit) (f0 : ℕ → ℕ) (fs : List ℕ) (at : ℕ) → IsAugmentingPath g P f0 s t most vs → length fs ≡ length g.edges → 0 < at
     → Moving g P t extra vs f0 (amount_of fs) at → (visit_at vs at).edge.back ≡ false
     → Moving g P t extra vs f0 (amount_of (set fs (visit_at vs at).edge.place (amount_of fs (visit_at vs at).edge.place + extra))) (visit_at vs at).before
@@ -92,35 +120,21 @@ forth g P s t most extra vs f0 fs at path len pos m ahead =
     let from-is : (edge_at g k).from ≡ (visit_at vs (visit_at vs at).before).node = subst (λ (b : Bool). start_of (edge_at g k) b ≡ (visit_at vs (visit_at vs at).before).node) ahead step.start in
     let to-is : (edge_at g k).to ≡ (visit_at vs at).node = subst (λ (b : Bool). end_of (edge_at g k) b ≡ (visit_at vs at).node) ahead step.end in
     let fits : (visit_at vs at).residual ≤ capacity g P k - f0 k = subst (λ (b : Bool). (visit_at vs at).residual ≤ residual_at g P f0 k b) ahead step.residual in
-    let earlier : (visit_at vs at).before < at = step.before in
     let some : 0 < (visit_at vs at).residual = path.tree.residuals at m.inside in
     let left' = m.residual in
-    let less' = step.less in
-    let inside' = m.inside in
-    record {
-      inside = omega arith;
-      residual = omega arith;
-      within = λ j lt. elim (cases_eq j k) [
-        | inl e ↦ subst (λ (i : ℕ). f' i ≤ capacity g P i) (sym e) (let w = m.within k step.known in omega (arith, here, was, fits, some, left', w))
-        | inr ne ↦ subst (λ (x : ℕ). x ≤ capacity g P j) (sym (there j ne)) (m.within j lt)
-      ];
-      fresh = λ j posj le. there (visit_at vs j).edge.place (λ e. places_apart g P f0 s t most vs path at j pos m.inside posj (omega arith) e) ∙ m.fresh j posj (omega arith);
-      small = λ j. elim (cases_eq j k) [
-        | inl e ↦ subst (λ (i : ℕ). f' i ≤ f0 i + extra) (sym e) (omega (arith, here, was))
-        | inr ne ↦ subst (λ (x : ℕ). x ≤ f0 j + extra) (sym (there j ne)) (m.small j)
-      ];
-      balance = λ u.
-          let out-moved = moved_outflow g f f' k u step.known there in
-          let in-moved = moved_inflow g f f' k u step.known there in
-          let old = m.balance u in
-          let out-flag : (if (edge_at g k).from == u then f' k else 0) ≡ (if (edge_at g k).from == u then f k else 0) + (if (edge_at g k).from == u then extra else 0) =
-          ap (λ (x : ℕ). if (edge_at g k).from == u then x else 0) here ∙ plus_flag ((edge_at g k).from == u) (f k) extra in
-          let in-flag : (if (edge_at g k).to == u then f' k else 0) ≡ (if (edge_at g k).to == u then f k else 0) + (if (edge_at g k).to == u then extra else 0) =
-          ap (λ (x : ℕ). if (edge_at g k).to == u then x else 0) here ∙ plus_flag ((edge_at g k).to == u) (f k) extra in
-          let at-to : (if (edge_at g k).to == u then extra else 0) ≡ (if (visit_at vs at).node == u then extra else 0) = ap (λ (w : ℕ). if w == u then extra else 0) to-is in
-          let at-from : (if (edge_at g k).from == u then extra else 0) ≡ (if (visit_at vs (visit_at vs at).before).node == u then extra else 0) = ap (λ (w : ℕ). if w == u then extra else 0) from-is in
-          omega (arith, out-moved, in-moved, old, out-flag, in-flag, at-to, at-from);
-    }
+    let kept = m.within k step.known in
+    stepped g P s t most extra vs f0 f f' at path pos m there (omega (arith, here, was, fits, some, left', kept)) (omega (arith, here, was))
+    (λ u.
+    let out-moved = moved_outflow g f f' k u step.known there in
+    let in-moved = moved_inflow g f f' k u step.known there in
+    let old = m.balance u in
+    let out-flag : (if (edge_at g k).from == u then f' k else 0) ≡ (if (edge_at g k).from == u then f k else 0) + (if (edge_at g k).from == u then extra else 0) =
+    ap (λ (x : ℕ). if (edge_at g k).from == u then x else 0) here ∙ plus_flag ((edge_at g k).from == u) (f k) extra in
+    let in-flag : (if (edge_at g k).to == u then f' k else 0) ≡ (if (edge_at g k).to == u then f k else 0) + (if (edge_at g k).to == u then extra else 0) =
+    ap (λ (x : ℕ). if (edge_at g k).to == u then x else 0) here ∙ plus_flag ((edge_at g k).to == u) (f k) extra in
+    let at-to : (if (edge_at g k).to == u then extra else 0) ≡ (if (visit_at vs at).node == u then extra else 0) = ap (λ (w : ℕ). if w == u then extra else 0) to-is in
+    let at-from : (if (edge_at g k).from == u then extra else 0) ≡ (if (visit_at vs (visit_at vs at).before).node == u then extra else 0) = ap (λ (w : ℕ). if w == u then extra else 0) from-is in
+    omega (arith, out-moved, in-moved, old, out-flag, in-flag, at-to, at-from))
 
 pub back : (g : Digraph) (P : List Bool) (s t most extra : ℕ) (vs : List Visit) (f0 : ℕ → ℕ) (fs : List ℕ) (at : ℕ) → IsAugmentingPath g P f0 s t most vs → length fs ≡ length g.edges → 0 < at
     → Moving g P t extra vs f0 (amount_of fs) at → (visit_at vs at).edge.back ≡ true
@@ -138,34 +152,20 @@ back g P s t most extra vs f0 fs at path len pos m against =
     let to-is : (edge_at g k).to ≡ (visit_at vs (visit_at vs at).before).node = subst (λ (b : Bool). start_of (edge_at g k) b ≡ (visit_at vs (visit_at vs at).before).node) against step.start in
     let fits : (visit_at vs at).residual ≤ f0 k = subst (λ (b : Bool). (visit_at vs at).residual ≤ residual_at g P f0 k b) against step.residual in
     let left' = m.residual in
-    let less' = step.less in
-    let inside' = m.inside in
-    let earlier : (visit_at vs at).before < at = step.before in
+    let kept = m.within k step.known in
     let here : f k ≡ f' k + extra = omega (arith, here', was, fits, left') in
-    record {
-      inside = omega arith;
-      residual = omega arith;
-      within = λ j lt. elim (cases_eq j k) [
-        | inl e ↦ subst (λ (i : ℕ). f' i ≤ capacity g P i) (sym e) (let w = m.within k step.known in omega (arith, here, w))
-        | inr ne ↦ subst (λ (x : ℕ). x ≤ capacity g P j) (sym (there j ne)) (m.within j lt)
-      ];
-      fresh = λ j posj le. there (visit_at vs j).edge.place (λ e. places_apart g P f0 s t most vs path at j pos m.inside posj (omega arith) e) ∙ m.fresh j posj (omega arith);
-      small = λ j. elim (cases_eq j k) [
-        | inl e ↦ subst (λ (i : ℕ). f' i ≤ f0 i + extra) (sym e) (omega (arith, here, was))
-        | inr ne ↦ subst (λ (x : ℕ). x ≤ f0 j + extra) (sym (there j ne)) (m.small j)
-      ];
-      balance = λ u.
-          let out-moved = moved_outflow g f f' k u step.known there in
-          let in-moved = moved_inflow g f f' k u step.known there in
-          let old = m.balance u in
-          let out-flag : (if (edge_at g k).from == u then f k else 0) ≡ (if (edge_at g k).from == u then f' k else 0) + (if (edge_at g k).from == u then extra else 0) =
-          ap (λ (x : ℕ). if (edge_at g k).from == u then x else 0) here ∙ plus_flag ((edge_at g k).from == u) (f' k) extra in
-          let in-flag : (if (edge_at g k).to == u then f k else 0) ≡ (if (edge_at g k).to == u then f' k else 0) + (if (edge_at g k).to == u then extra else 0) =
-          ap (λ (x : ℕ). if (edge_at g k).to == u then x else 0) here ∙ plus_flag ((edge_at g k).to == u) (f' k) extra in
-          let at-from : (if (edge_at g k).from == u then extra else 0) ≡ (if (visit_at vs at).node == u then extra else 0) = ap (λ (w : ℕ). if w == u then extra else 0) from-is in
-          let at-to : (if (edge_at g k).to == u then extra else 0) ≡ (if (visit_at vs (visit_at vs at).before).node == u then extra else 0) = ap (λ (w : ℕ). if w == u then extra else 0) to-is in
-          omega (arith, out-moved, in-moved, old, out-flag, in-flag, at-to, at-from);
-    }
+    stepped g P s t most extra vs f0 f f' at path pos m there (omega (arith, here, kept)) (omega (arith, here, was))
+    (λ u.
+    let out-moved = moved_outflow g f f' k u step.known there in
+    let in-moved = moved_inflow g f f' k u step.known there in
+    let old = m.balance u in
+    let out-flag : (if (edge_at g k).from == u then f k else 0) ≡ (if (edge_at g k).from == u then f' k else 0) + (if (edge_at g k).from == u then extra else 0) =
+    ap (λ (x : ℕ). if (edge_at g k).from == u then x else 0) here ∙ plus_flag ((edge_at g k).from == u) (f' k) extra in
+    let in-flag : (if (edge_at g k).to == u then f k else 0) ≡ (if (edge_at g k).to == u then f' k else 0) + (if (edge_at g k).to == u then extra else 0) =
+    ap (λ (x : ℕ). if (edge_at g k).to == u then x else 0) here ∙ plus_flag ((edge_at g k).to == u) (f' k) extra in
+    let at-from : (if (edge_at g k).from == u then extra else 0) ≡ (if (visit_at vs at).node == u then extra else 0) = ap (λ (w : ℕ). if w == u then extra else 0) from-is in
+    let at-to : (if (edge_at g k).to == u then extra else 0) ≡ (if (visit_at vs (visit_at vs at).before).node == u then extra else 0) = ap (λ (w : ℕ). if w == u then extra else 0) to-is in
+    omega (arith, out-moved, in-moved, old, out-flag, in-flag, at-to, at-from))
 
 flag_off : (u w e : ℕ) → (u ≢ w) → (if u == w then e else 0) ≡ 0
 flag_off u w e ne = ap (λ (b : Bool). if b then e else 0) (ne_eqb u w ne)

@@ -93,25 +93,21 @@ pub record Tallied (g : Digraph) (xs : List Amount) (out into : List ℕ) : Type
   pub leaving : (u : ℕ) → get_or out u 0 ≡ listed_out g xs u
   pub entering : (u : ℕ) → get_or into u 0 ≡ listed_in g xs u
 
-balanced_from : (g : Digraph) (out into : List ℕ) (s t u : ℕ) (xs : List Amount) → IsTrue (list_all (has_balanced_ends g out into s t) xs) → IsTrue (has (map (λ a. (edge_at g a.edge).from) xs) u) → IsTrue (is_balanced_at out into s t u)
-balanced_from g out into s t u [] h there = absurd cc
-balanced_from g out into s t u (a ∷ xs) h there =
+-- at one end of the listed edges
+balanced_end : (end : Edge → ℕ) (g : Digraph) (out into : List ℕ) (s t u : ℕ) (xs : List Amount)
+    → ((a : Amount) → IsTrue (has_balanced_ends g out into s t a) → IsTrue (is_balanced_at out into s t (end (edge_at g a.edge))))
+    → IsTrue (list_all (has_balanced_ends g out into s t) xs) → IsTrue (has (map (λ a. end (edge_at g a.edge)) xs) u) → IsTrue (is_balanced_at out into s t u)
+balanced_end end g out into s t u [] here h there = absurd cc
+balanced_end end g out into s t u (a ∷ xs) here h there =
     let parts = and_parts (has_balanced_ends g out into s t a) (list_all (has_balanced_ends g out into s t) xs) h in
-    let ends = and_parts (is_balanced_at out into s t (edge_at g a.edge).from) (is_balanced_at out into s t (edge_at g a.edge).to) parts.0 in
-    elim (has_cons (edge_at g a.edge).from u (map (λ b. (edge_at g b.edge).from) xs) there) [
-      | inl e ↦ subst (λ (v : ℕ). IsTrue (is_balanced_at out into s t v)) e ends.0
-      | inr later ↦ balanced_from g out into s t u xs parts.1 later
+    elim (has_cons (end (edge_at g a.edge)) u (map (λ b. end (edge_at g b.edge)) xs) there) [
+      | inl e ↦ subst (λ (v : ℕ). IsTrue (is_balanced_at out into s t v)) e (here a parts.0)
+      | inr later ↦ balanced_end end g out into s t u xs here parts.1 later
     ]
 
-balanced_to : (g : Digraph) (out into : List ℕ) (s t u : ℕ) (xs : List Amount) → IsTrue (list_all (has_balanced_ends g out into s t) xs) → IsTrue (has (map (λ a. (edge_at g a.edge).to) xs) u) → IsTrue (is_balanced_at out into s t u)
-balanced_to g out into s t u [] h there = absurd cc
-balanced_to g out into s t u (a ∷ xs) h there =
-    let parts = and_parts (has_balanced_ends g out into s t a) (list_all (has_balanced_ends g out into s t) xs) h in
-    let ends = and_parts (is_balanced_at out into s t (edge_at g a.edge).from) (is_balanced_at out into s t (edge_at g a.edge).to) parts.0 in
-    elim (has_cons (edge_at g a.edge).to u (map (λ b. (edge_at g b.edge).to) xs) there) [
-      | inl e ↦ subst (λ (v : ℕ). IsTrue (is_balanced_at out into s t v)) e ends.1
-      | inr later ↦ balanced_to g out into s t u xs parts.1 later
-    ]
+both_ends : (g : Digraph) (out into : List ℕ) (s t : ℕ) (a : Amount) → IsTrue (has_balanced_ends g out into s t a)
+    → IsTrue (is_balanced_at out into s t (edge_at g a.edge).from) × IsTrue (is_balanced_at out into s t (edge_at g a.edge).to)
+both_ends g out into s t a h = and_parts (is_balanced_at out into s t (edge_at g a.edge).from) (is_balanced_at out into s t (edge_at g a.edge).to) h
 
 -- a node that the list doesn't name is balanced
 unnamed : (g : Digraph) (out into : List ℕ) (s t u : ℕ) (xs : List Amount) → Tallied g xs out into → has (map (λ a. (edge_at g a.edge).from) xs) u ≡ false → has (map (λ a. (edge_at g a.edge).to) xs) u ≡ false → IsTrue (is_balanced_at out into s t u)
@@ -122,9 +118,9 @@ unnamed g out into s t u xs w no-from no-to =
 pub balanced_all : (g : Digraph) (out into : List ℕ) (s t : ℕ) (xs : List Amount) → Tallied g xs out into → IsTrue (list_all (has_balanced_ends g out into s t) xs) → (u : ℕ) → IsTrue (is_balanced_at out into s t u)
 balanced_all g out into s t xs w h u =
     elim (cases_Bool (has (map (λ a. (edge_at g a.edge).from) xs) u)) [
-      | inl there ↦ balanced_from g out into s t u xs h there
+      | inl there ↦ balanced_end (λ e. e.from) g out into s t u xs (λ a b. (both_ends g out into s t a b).0) h there
       | inr no-from ↦ elim (cases_Bool (has (map (λ a. (edge_at g a.edge).to) xs) u)) [
-        | inl there ↦ balanced_to g out into s t u xs h there
+        | inl there ↦ balanced_end (λ e. e.to) g out into s t u xs (λ a b. (both_ends g out into s t a b).1) h there
         | inr no-to ↦ unnamed g out into s t u xs w no-from no-to
       ]
     ]

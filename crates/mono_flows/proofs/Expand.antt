@@ -1,33 +1,27 @@
 -- One more node is visited, or the edge leads to none.
-use Rattle.std.proofs.Common.{◌≡◌, ◌≢◌, ℕ, ◌+◌, ◌<◌, ◌≤◌, Bool, true, false, not, ◌⊎◌, cond, List, [], ◌∷◌, ◌++◌, length, get_or, set, take, min, refl, sym, ap, subst, ◌∙◌, inl, inr, arith, length-append}
-use Rattle.std.specs.Prelude.{IsTrue, ◌==◌, count_by}
+use Rattle.std.proofs.Common.{◌≡◌, ◌≢◌, ℕ, ◌+◌, ◌<◌, ◌≤◌, Bool, true, false, ◌⊎◌, List, [], ◌∷◌, ◌++◌, length, get_or, set, take, min, refl, sym, ap, subst, ◌∙◌, inl, inr, arith, length-append}
+use Rattle.std.specs.Prelude.{IsTrue, ◌==◌}
 use Rattle.std.proofs.lemmas.Bool.{or_cases, eqb-true, cases_eq, cases_lt, both_ways}
 use Rattle.std.proofs.lemmas.List.{length-set, get_or-set_same, get_or-set_other, get_or_append_left, get_or_push}
-use Rattle.std.proofs.lemmas.List.Sums.{sum_by-set}
 use Rattle.std.proofs.lemmas.List.Folds.{list_any_more}
 use Rattle.mono_graph.specs.Digraph.{Digraph, edge_at, has}
+use Rattle.mono_flows.proofs.ListedSums.{fewer}
 use Rattle.mono_flows.specs.declared.visit.Visit.{Visit}
 use Rattle.mono_flows.specs.Residual.{residual_at, start_of, end_of}
-use Rattle.mono_flows.specs.Visits.{visit_at, first_visit, is_marked, IsStep, IsSearchTree, AreMarks, Extends}
-
-pub record Visiting (g : Digraph) (P : List Bool) (f : ℕ → ℕ) (marks0 marks : List Bool) (vs0 vs : List Visit) : Type 0 where
-  pub tree : IsSearchTree g P f vs
-  pub ok : AreMarks g marks vs
-  pub extends : Extends marks0 marks vs0 vs
-  pub work : count_by (λ b. not b) marks + length vs ≤ count_by (λ b. not b) marks0 + length vs0
+use Rattle.mono_flows.specs.Visits.{visit_at, first_visit, is_marked, IsStep, IsSearchTree, AreMarks, Continues}
 
 abbrev pub Covers : Digraph → List Bool → (ℕ → ℕ) → Bool → List Bool → List ℕ → Type 0
 Covers g P f back marks ks = (k : ℕ) → IsTrue (has ks k) → 0 < residual_at g P f k back → IsTrue (is_marked marks (end_of (edge_at g k) back))
 
 pub record Expanding (g : Digraph) (P : List Bool) (f : ℕ → ℕ) (sink : ℕ) (marks0 marks : List Bool) (vs0 vs : List Visit) (back : Bool) (ks : List ℕ) : Type 0 where
-  pub visiting : Visiting g P f marks0 marks vs0 vs
+  pub visiting : Continues g P f marks0 marks vs0 vs
   pub covers : Covers g P f back marks ks
   pub away : is_marked marks0 sink ≡ false → is_marked marks sink ≡ false
 
-pub begun : (g : Digraph) (P : List Bool) (f : ℕ → ℕ) (marks : List Bool) (vs : List Visit) → IsSearchTree g P f vs → AreMarks g marks vs → Visiting g P f marks marks vs vs
+pub begun : (g : Digraph) (P : List Bool) (f : ℕ → ℕ) (marks : List Bool) (vs : List Visit) → IsSearchTree g P f vs → AreMarks g marks vs → Continues g P f marks marks vs vs
 begun g P f marks vs tree ok = record {
   tree = tree;
-  ok = ok;
+  marks = ok;
   extends = record { grows = omega arith; same = λ i lt. refl; kept = λ u h. h };
   work = omega arith;
 }
@@ -41,17 +35,19 @@ new_at vs v i e = get_or_push vs v (first_visit 0 0) i e
 pub old_or_new : (vs : List Visit) (v : Visit) (i : ℕ) → i < length (vs ++ v ∷ []) → (i < length vs) ⊎ (length vs ≡ i)
 old_or_new vs v i lt = elim (cases_lt i (length vs)) [ inl old ↦ inl old | inr new ↦ inr (omega (arith, length-append vs (v ∷ []))) ]
 
+-- a visit is a step where the visit before it stays
+pub step_like : (g : Digraph) (P : List Bool) (f : ℕ → ℕ) (vs ws : List Visit) (w : Visit) (i : ℕ) → visit_at ws w.before ≡ visit_at vs w.before → IsStep g P f vs w i → IsStep g P f ws w i
+step_like g P f vs ws w i old s = record {
+  before = s.before;
+  known = s.known;
+  start = s.start ∙ ap (λ (x : Visit). x.node) (sym old);
+  end = s.end;
+  residual = s.residual;
+  less = subst (λ (x : Visit). w.residual ≤ x.residual) (sym old) s.less;
+}
+
 step_kept : (g : Digraph) (P : List Bool) (f : ℕ → ℕ) (vs : List Visit) (v w : Visit) (i : ℕ) → i ≤ length vs → IsStep g P f vs w i → IsStep g P f (vs ++ v ∷ []) w i
-step_kept g P f vs v w i le s =
-    let old : visit_at (vs ++ v ∷ []) w.before ≡ visit_at vs w.before = let b = s.before in kept_at vs v w.before (omega arith) in
-    record {
-      before = s.before;
-      known = s.known;
-      start = s.start ∙ ap (λ (x : Visit). x.node) (sym old);
-      end = s.end;
-      residual = s.residual;
-      less = subst (λ (x : Visit). w.residual ≤ x.residual) (sym old) s.less;
-    }
+step_kept g P f vs v w i le s = step_like g P f vs (vs ++ v ∷ []) w i (let b = s.before in kept_at vs v w.before (omega arith)) s
 
 pub tree_push : (g : Digraph) (P : List Bool) (f : ℕ → ℕ) (vs : List Visit) (v : Visit) → IsSearchTree g P f vs → IsStep g P f vs v (length vs) → v.node < g.nodes → 0 < v.residual → IsSearchTree g P f (vs ++ v ∷ [])
 tree_push g P f vs v t s inside some = record {
@@ -118,20 +114,13 @@ marks_push g marks vs v ok inside new = record {
     clash : (i : ℕ) → i < length vs → (visit_at vs i).node ≡ v.node → ⊥
     clash i lt e = both_ways (is_marked marks v.node) new (subst (λ (u : ℕ). IsTrue (is_marked marks u)) e (ok.marked i lt))
 
-fewer : (marks : List Bool) (u : ℕ) → u < length marks → is_marked marks u ≡ false → count_by (λ b. not b) (set marks u true) + 1 ≡ count_by (λ b. not b) marks
-fewer marks u lt off =
-    let moved = sum_by-set (λ (b : Bool). cond (not b) 1 0) marks u true false lt in
-    let one : ℕ = 1 in
-    let was : cond (not (get_or marks u false)) one 0 ≡ one = ap (λ (b : Bool). cond (not b) one 0) off in
-    omega (arith, moved, was)
-
-pub visited : (g : Digraph) (P : List Bool) (f : ℕ → ℕ) (marks0 marks : List Bool) (vs0 vs : List Visit) (v : Visit) → Visiting g P f marks0 marks vs0 vs
-    → IsStep g P f vs v (length vs) → v.node < g.nodes → 0 < v.residual → is_marked marks v.node ≡ false → Visiting g P f marks0 (set marks v.node true) vs0 (vs ++ v ∷ [])
+pub visited : (g : Digraph) (P : List Bool) (f : ℕ → ℕ) (marks0 marks : List Bool) (vs0 vs : List Visit) (v : Visit) → Continues g P f marks0 marks vs0 vs
+    → IsStep g P f vs v (length vs) → v.node < g.nodes → 0 < v.residual → is_marked marks v.node ≡ false → Continues g P f marks0 (set marks v.node true) vs0 (vs ++ v ∷ [])
 visited g P f marks0 marks vs0 vs v x s inside some new =
-    let room : v.node < length marks = let len = x.ok.len in omega arith in
+    let room : v.node < length marks = let len = x.marks.len in omega arith in
     record {
       tree = tree_push g P f vs v x.tree s inside some;
-      ok = marks_push g marks vs v x.ok inside new;
+      marks = marks_push g marks vs v x.marks inside new;
       extends = record {
         grows = let grows = x.extends.grows in omega (arith, length-append vs (v ∷ []));
         same = λ i lt. kept_at vs v i (let grows = x.extends.grows in omega arith) ∙ x.extends.same i lt;
@@ -144,9 +133,9 @@ abbrev pub visit_along : Digraph → List Bool → (ℕ → ℕ) → List Visit 
 visit_along g P f vs at k back = record { node = end_of (edge_at g k) back; edge = record { place = k; back = back }; before = at; residual = min (residual_at g P f k back) (visit_at vs at).residual }
 
 -- the visit that the code makes
-pub step_along : (g : Digraph) (P : List Bool) (f : ℕ → ℕ) (marks0 marks : List Bool) (vs0 vs : List Visit) (at k : ℕ) (back : Bool) → Visiting g P f marks0 marks vs0 vs → at < length vs0
+pub step_along : (g : Digraph) (P : List Bool) (f : ℕ → ℕ) (marks0 marks : List Bool) (vs0 vs : List Visit) (at k : ℕ) (back : Bool) → Continues g P f marks0 marks vs0 vs → at < length vs0
     → k < length g.edges → start_of (edge_at g k) back ≡ (visit_at vs0 at).node → 0 < residual_at g P f k back → end_of (edge_at g k) back < g.nodes → is_marked marks (end_of (edge_at g k) back) ≡ false
-    → Visiting g P f marks0 (set marks (end_of (edge_at g k) back) true) vs0 (vs ++ visit_along g P f vs at k back ∷ [])
+    → Continues g P f marks0 (set marks (end_of (edge_at g k) back) true) vs0 (vs ++ visit_along g P f vs at k back ∷ [])
 step_along g P f marks0 marks vs0 vs at k back x inside known start some low new =
     let inside' : at < length vs = let grows = x.extends.grows in omega arith in
     let had : 0 < (visit_at vs at).residual = x.tree.residuals at inside' in
@@ -172,20 +161,20 @@ covers_more g P f back marks ks i k lt is old here j h some =
 pub arrived : (g : Digraph) (P : List Bool) (f : ℕ → ℕ) (marks0 marks ms : List Bool) (vs0 vs us : List Visit) (at k : ℕ) (back : Bool) (v : Visit) → ms ≡ marks → us ≡ vs
     → v ≡ visit_along g P f us at k back → at < length vs0 → k < length g.edges → start_of (edge_at g k) back ≡ (visit_at vs0 at).node
     → 0 < residual_at g P f k back → end_of (edge_at g k) back < g.nodes → is_marked ms (end_of (edge_at g k) back) ≡ false
-    → Visiting g P f marks0 marks vs0 vs → Visiting g P f marks0 (set marks v.node true) vs0 (vs ++ v ∷ [])
+    → Continues g P f marks0 marks vs0 vs → Continues g P f marks0 (set marks v.node true) vs0 (vs ++ v ∷ [])
 arrived g P f marks0 marks ms vs0 vs us at k back v marks-is visits-is is inside known start some low new x =
     let is' : v ≡ visit_along g P f vs at k back = is ∙ ap (λ (ws : List Visit). visit_along g P f ws at k back) visits-is in
-    subst (λ (w : Visit). Visiting g P f marks0 (set marks w.node true) vs0 (vs ++ w ∷ [])) (sym is')
+    subst (λ (w : Visit). Continues g P f marks0 (set marks w.node true) vs0 (vs ++ w ∷ [])) (sym is')
     (step_along g P f marks0 marks vs0 vs at k back x inside known start some low (subst (λ (bs : List Bool). is_marked bs (end_of (edge_at g k) back) ≡ false) marks-is new))
 
 pub next_visited : (g : Digraph) (P : List Bool) (f : ℕ → ℕ) (sink : ℕ) (marks0 marks new : List Bool) (vs0 vs ws : List Visit) (back : Bool) (ks : List ℕ) (i k : ℕ) (v : Visit)
     → i < length ks → k ≡ get_or ks i 0 → Expanding g P f sink marks0 marks vs0 vs back (take i ks)
     → v.node ≡ end_of (edge_at g k) back → v.node < g.nodes → (v.node ≢ sink)
-    → Visiting g P f marks0 (set marks v.node true) vs0 (vs ++ v ∷ [])
+    → Continues g P f marks0 (set marks v.node true) vs0 (vs ++ v ∷ [])
     → new ≡ set marks v.node true → ws ≡ vs ++ v ∷ []
     → Expanding g P f sink marks0 new vs0 ws back (take (i + 1) ks)
 next_visited g P f sink marks0 marks new vs0 vs ws back ks i k v lt is x node-is low apart more marks-is visits-is =
-    let room : v.node < length marks = let len = x.visiting.ok.len in omega arith in
+    let room : v.node < length marks = let len = x.visiting.marks.len in omega arith in
     subst (λ (ms : List Bool). Expanding g P f sink marks0 ms vs0 ws back (take (i + 1) ks)) (sym marks-is)
     (subst (λ (us : List Visit). Expanding g P f sink marks0 (set marks v.node true) vs0 us back (take (i + 1) ks)) (sym visits-is)
     (record {

@@ -3,7 +3,7 @@ use Rattle.std.proofs.Common.{◌≡◌, ◌≢◌, ℕ, ◌+◌, ◌<◌, ◌�
 use Rattle.std.specs.Prelude.{IsTrue, All, if◌then◌else◌}
 use Rattle.std.specs.List.{list_all}
 use Rattle.std.proofs.lemmas.Bool.{cases_eq, eq-eqb, eqb-true, false_from_ne_true, ne_eqb, or_cases}
-use Rattle.std.proofs.lemmas.List.{take_more, take_all, get_or-set_same, get_or-set_other}
+use Rattle.std.proofs.lemmas.List.{take_more, take_all, take-map, get_or-set_same, get_or-set_other}
 use Rattle.std.proofs.lemmas.List.Elements.{All-head, All-tail}
 use Rattle.std.proofs.Math.Path.{fun_ext}
 use Rattle.mono_graph.specs.declared.amount.Amount.{Amount}
@@ -14,7 +14,7 @@ use Rattle.mono_flows.specs.Flowing.{IsFlowing}
 use Rattle.mono_flows.specs.Listed.{edges_of, can_carry, has_balanced_ends}
 use Rattle.mono_flows.specs.Residual.{amount_of}
 use Rattle.mono_flows.proofs.Balances.{Tallied, balanced_all, carried_at, in_is, out_is}
-use Rattle.mono_flows.proofs.ListedSums.{no_amount, ends_more, map_take}
+use Rattle.mono_flows.proofs.ListedSums.{no_amount, ends_more}
 
 -- ---- the tests
 
@@ -68,7 +68,7 @@ pub carried_more : {carried : List ℕ} {xs : List Amount} {i : ℕ} (a : Amount
 carried_more {carried = carried} {xs = xs} {i = i} a lt is low distinct h =
     let next : take (i + 1) xs ≡ take i xs ++ a ∷ [] = take_more xs i no_amount lt ∙ ap (λ (b : Amount). take i xs ++ b ∷ []) (sym is) in
     let first : IsTrue (is_distinct (edges_of (take i xs) ++ a.edge ∷ [])) =
-    subst (λ (ks : List ℕ). IsTrue (is_distinct ks)) (sym (map_take (λ (b : Amount). b.edge) xs (i + 1)) ∙ ends_more (λ (b : Amount). b.edge) xs i a lt is) (distinct_take (edges_of xs) (i + 1) distinct) in
+    subst (λ (ks : List ℕ). IsTrue (is_distinct ks)) (take-map (λ (b : Amount). b.edge) (i + 1) xs ∙ ends_more (λ (b : Amount). b.edge) xs i a lt is) (distinct_take (edges_of xs) (i + 1) distinct) in
     let new : has (edges_of (take i xs)) a.edge ≡ false = false_from_ne_true (has (edges_of (take i xs)) a.edge) (λ old. not_distinct (edges_of (take i xs)) a.edge old first) in
     record {
       each = λ k. elim (cases_eq a.edge k) [

@@ -7,7 +7,7 @@ use Rattle.mono_flows.specs.declared.visit.Visit.{Visit}
 use Rattle.mono_flows.specs.Levels.{IsRising}
 use Rattle.mono_flows.specs.Residual.{residual_at, start_of, end_of}
 use Rattle.mono_flows.specs.Visits.{visit_at, first_visit, IsStep, IsAugmentingPath}
-use Rattle.mono_flows.proofs.Expand.{kept_at, new_at, old_or_new, tree_push}
+use Rattle.mono_flows.proofs.Expand.{kept_at, new_at, old_or_new, step_like, tree_push}
 use Rattle.mono_flows.proofs.Searches.{first_tree}
 
 pub not-not : (b : Bool) → not b ≡ false → IsTrue b
@@ -78,16 +78,7 @@ rising_pop g P f levels s most n vs x some le = record {
     same i lt = get_or-take n vs i (first_visit 0 0) lt
 
     shorter : (i : ℕ) → i < n → (w : Visit) → IsStep g P f vs w i → IsStep g P f (take n vs) w i
-    shorter i lt w s =
-        let old : visit_at (take n vs) w.before ≡ visit_at vs w.before = let b = s.before in same w.before (omega arith) in
-        record {
-          before = s.before;
-          known = s.known;
-          start = s.start ∙ ap (λ (y : Visit). y.node) (sym old);
-          end = s.end;
-          residual = s.residual;
-          less = subst (λ (y : Visit). w.residual ≤ y.residual) (sym old) s.less;
-        }
+    shorter i lt w s = step_like g P f vs (take n vs) w i (let b = s.before in same w.before (omega arith)) s
 
 pub rising_way : (g : Digraph) (P : List Bool) (f : ℕ → ℕ) (levels : List ℕ) (s t most : ℕ) (vs : List Visit) → IsRising g P f levels s most vs → (visit_at vs (length vs - 1)).node ≡ t → IsAugmentingPath g P f s t most vs
 rising_way g P f levels s t most vs x there = record {

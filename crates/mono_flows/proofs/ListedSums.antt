@@ -1,9 +1,9 @@
 -- Amounts that are looked at one by one: their edges are marked, and they are added up at the ends of their edges.
-use Rattle.std.proofs.Common.{◌≡◌, ◌≢◌, ℕ, zero, suc, ◌+◌, ◌*◌, ◌<◌, ◌≤◌, Bool, true, false, not, ◌&&◌, ◌||◌, List, [], ◌∷◌, ◌++◌, cond, length, get_or, set, take, map, sum_by, refl, sym, ap, subst, ◌∙◌, inl, inr, arith}
-use Rattle.std.specs.Prelude.{IsTrue, All, ◌==◌, count_by, if◌then◌else◌}
+use Rattle.std.proofs.Common.{◌≡◌, ◌≢◌, ℕ, ◌+◌, ◌*◌, ◌<◌, ◌≤◌, Bool, true, false, not, ◌&&◌, List, [], ◌∷◌, ◌++◌, cond, length, get_or, set, take, map, sum_by, refl, sym, ap, subst, ◌∙◌, inl, inr, arith}
+use Rattle.std.specs.Prelude.{IsTrue, All, count_by, if◌then◌else◌}
 use Rattle.std.specs.List.{list_all}
 use Rattle.std.proofs.lemmas.Bool.{and_from, cases_eq, both_ways, eq-eqb, ne_eqb, false_from_ne_true}
-use Rattle.std.proofs.lemmas.List.{get_or-set_same, get_or-set_other, length-set, take_more, map-append}
+use Rattle.std.proofs.lemmas.List.{get_or-set_same, get_or-set_other, length-set, take_more, take-map, map-append}
 use Rattle.std.proofs.lemmas.List.Elements.{All-more}
 use Rattle.std.proofs.lemmas.List.Folds.{list_all_more}
 use Rattle.std.proofs.lemmas.List.Sums.{sum_by-set, sum_by_more, sum_by-cons, count_by-le-length}
@@ -13,7 +13,7 @@ use Rattle.mono_graph.specs.Digraph.{Digraph, edge_at, has, is_distinct}
 use Rattle.mono_graph.proofs.Membership.{has_here, has_there}
 use Rattle.mono_graph.specs.declared.amount.Amount.{Amount}
 use Rattle.mono_flows.specs.Listed.{edges_of, can_carry, at_end}
-use Rattle.mono_graph.proofs.Prefixes.{distinct_new, not_distinct, distinct_take, marked_more}
+use Rattle.mono_graph.proofs.Prefixes.{distinct_new, not_distinct, distinct_take, marked_more, take_has}
 
 abbrev pub no_amount : Amount
 no_amount = record { edge = 0; amount = 0 }
@@ -24,11 +24,6 @@ ends_more f xs i a lt is =
     ap (λ (ys : List Amount). map f ys) (take_more xs i no_amount lt)
     ∙ (map-append f (take i xs) (get_or xs i no_amount ∷ [])
     ∙ ap (λ (b : Amount). map f (take i xs) ++ f b ∷ []) (sym is))
-
-pub map_take : (f : Amount → ℕ) (xs : List Amount) (n : ℕ) → map f (take n xs) ≡ take n (map f xs)
-map_take f xs zero = refl
-map_take f [] (suc n) = refl
-map_take f (x ∷ xs) (suc n) = ap (λ (ks : List ℕ). f x ∷ ks) (map_take f xs n)
 
 pub fewer : (marks : List Bool) (u : ℕ) → u < length marks → get_or marks u false ≡ false → count_by (λ b. not b) (set marks u true) + 1 ≡ count_by (λ b. not b) marks
 fewer marks u lt off =
@@ -76,7 +71,7 @@ pub edge_again : (g : Digraph) (P : List Bool) (listed : List Bool) (amounts : L
 edge_again g P listed amounts i a lt is x again = false_from_ne_true (is_distinct (edges_of amounts)) (λ d.
     let more : edges_of (take (i + 1) amounts) ≡ edges_of (take i amounts) ++ a.edge ∷ [] = ends_more (λ b. b.edge) amounts i a lt is in
     not_distinct (edges_of (take i amounts)) a.edge (sym (x.marked a.edge) ∙ again)
-    (subst (λ (ks : List ℕ). IsTrue (is_distinct ks)) (sym (map_take (λ (b : Amount). b.edge) amounts (i + 1)) ∙ more) (distinct_take (edges_of amounts) (i + 1) d)))
+    (subst (λ (ks : List ℕ). IsTrue (is_distinct ks)) (take-map (λ (b : Amount). b.edge) (i + 1) amounts ∙ more) (distinct_take (edges_of amounts) (i + 1) d)))
 
 pub fails_first : (p q : Bool) → p ≡ false → false ≡ (p && q)
 fails_first p q e = rw e refl
@@ -87,13 +82,7 @@ fails_then false q e = refl
 
 -- the marked places are listed, however far the list was gone through
 pub marked_listed : (amounts : List Amount) (i k : ℕ) → IsTrue (has (edges_of (take i amounts)) k) → IsTrue (has (edges_of amounts) k)
-marked_listed amounts zero k h = absurd cc
-marked_listed [] (suc i) k h = absurd cc
-marked_listed (a ∷ amounts) (suc i) k h = by_test (a.edge == k) refl (λ t. marked_listed amounts i k t) h
-  where
-    by_test : (b : Bool) → (a.edge == k) ≡ b → (IsTrue (has (edges_of (take i amounts)) k) → IsTrue (has (edges_of amounts) k)) → IsTrue ((a.edge == k) || has (edges_of (take i amounts)) k) → IsTrue ((a.edge == k) || has (edges_of amounts) k)
-    by_test true e rest t = rw e refl
-    by_test false e rest t = let t' = rw e at t in rw e (rest t')
+marked_listed amounts i k h = take_has (edges_of amounts) i k (subst (λ (ks : List ℕ). IsTrue (has ks k)) (sym (take-map (λ (a : Amount). a.edge) i amounts)) h)
 
 -- ---- sums
 

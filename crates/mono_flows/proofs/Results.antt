@@ -21,7 +21,7 @@ use Rattle.mono_flows.specs.Visits.{is_marked, IsBlocked}
 
 -- ---- the flow that carries nothing
 
-zero_at : (n k : ℕ) → amount_of (replicate n 0) k ≡ 0
+pub zero_at : (n k : ℕ) → amount_of (replicate n 0) k ≡ 0
 zero_at n k = elim (cases_lt k n) [
   | inl lt ↦ get_or-replicate n k 0 0 lt
   | inr past ↦ get_or_past (replicate n 0) k 0 (let long : length (replicate {A = ℕ} n 0) ≡ n = length-replicate n 0 in omega (arith, long))

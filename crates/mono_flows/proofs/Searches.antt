@@ -9,7 +9,7 @@ use Rattle.mono_graph.proofs.Membership.{places_at, at_places, has_get_or}
 use Rattle.mono_flows.specs.declared.search.Search.{Search}
 use Rattle.mono_flows.specs.declared.visit.Visit.{Visit}
 use Rattle.mono_flows.specs.Residual.{residual_at, start_of, end_of}
-use Rattle.mono_flows.specs.Visits.{visit_at, first_visit, is_marked, IsSearchTree, AreMarks, IsSearch, Extends, IsExpanded}
+use Rattle.mono_flows.specs.Visits.{visit_at, first_visit, is_marked, IsSearchTree, AreMarks, IsSearch, Extends, Continues, CameTo, IsExpanded}
 use Rattle.mono_flows.proofs.Expand.{Covers}
 
 -- each edge with capacity left out of a marked node leads to a marked node, or its node waits from some place on
@@ -114,6 +114,18 @@ extends_twice marks new last vs ws us a b = record {
   same = λ i lt. b.same i (let p = a.grows in omega arith) ∙ a.same i lt;
   kept = λ u h. b.kept u (a.kept u h);
 }
+
+pub continues_twice : {g : Digraph} {P : List Bool} {f : ℕ → ℕ} {marks new last : List Bool} {vs ws us : List Visit} → Continues g P f marks new vs ws → Continues g P f new last ws us
+    → Continues g P f marks last vs us
+continues_twice {marks = marks} {new = new} {last = last} {vs = vs} {ws = ws} {us = us} a b = record {
+  tree = b.tree;
+  marks = b.marks;
+  extends = extends_twice marks new last vs ws us a.extends b.extends;
+  work = let first = a.work in let then = b.work in omega (arith, first, then);
+}
+
+pub came_later : (sink : ℕ) (old new last : Search) (found came : Bool) → CameTo sink old new found → found ≡ false → CameTo sink new last came → CameTo sink old last came
+came_later sink old new last found came a not-yet b = record { there = b.there; away = λ e off. b.away e (a.away not-yet off) }
 
 -- ---- the edges at a node
 

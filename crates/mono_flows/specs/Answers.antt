@@ -4,6 +4,7 @@ use Rattle.mono_base.specs.declared.limits.TheConstants.{MAX_WITNESS_VALUE}
 use Rattle.mono_graph.specs.Digraph.{Digraph, is_distinct, leads_out, present_by, weight_of}
 use Rattle.mono_graph.specs.declared.amount.Amount.{Amount}
 use Rattle.mono_graph.specs.Flows.{amount_at, is_flow_of, is_flow_cut, value_of}
+use Rattle.mono_flows.specs.declared.network.Network.{Network}
 use Rattle.mono_flows.specs.declared.found.FlowOrCut.{FlowOrCut}
 use Rattle.mono_flows.specs.declared.found.FlowOrCut.TheVariants as found
 
@@ -46,3 +47,12 @@ HasValue g P s value (found.Cut set) = value ≡ weight_of g (present_by (leads_
 pub record IsFlowOfValue (g : Digraph) (P : List Bool) (s t v : ℕ) (amounts : List Amount) : Type 0 where
   pub passes : IsTrue (is_flow_of g P s t (pos v) amounts)
   pub value : value_of g s (amount_at amounts) ≡ pos v
+
+-- the answer to the question for a flow of this goal, where the search came to the value v
+pub record IsAnswer (n : Network) (goal v : ℕ) (answer : FlowOrCut) : Type 0 where
+  pub passes : Passes n.graph.now n.part.now n.source n.sink (pos goal) answer
+  pub known : IsKnown n.graph.now answer
+  pub small : IsSmall answer
+  pub distinct : IsDistinct answer
+  pub exact : IsExact n.graph.now n.source (pos goal) answer
+  pub value : HasValue n.graph.now n.part.now n.source v answer

@@ -2,7 +2,7 @@
 use Rattle.std.specs.Prelude.{◌≡◌, ℕ, false, List, Bool, length, slice_index_or}
 use Rattle.mono_graph.specs.Digraph.{Digraph}
 use Rattle.mono_flows.specs.declared.checker.FlowChecker.TheInside.{Inside}
-use Rattle.mono_flows.specs.Sums.{AreSums, AreZero}
+use Rattle.mono_flows.specs.Sums.{AreZero}
 
 pub record Sizes : Type 0 where
   pub nodes : ℕ
@@ -19,8 +19,7 @@ AreUnmarked marks = (k : ℕ) → slice_index_or marks k false ≡ false
 
 pub record IsClear (c : Inside) : Type 0 where
   pub listed : AreUnmarked c.listed.items
-  pub sums_len : AreSums (length c.inside.items) c.sums
-  pub sums : AreZero c.sums
+  pub sums : AreZero (length c.inside.items) c.sums
   pub inside : AreUnmarked c.inside.items
   pub counted_len : length c.counted.items ≡ length c.inside.items
   pub counted : AreUnmarked c.counted.items

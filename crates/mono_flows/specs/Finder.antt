@@ -3,7 +3,7 @@ use Rattle.std.specs.Prelude.{ℕ, length}
 use Rattle.mono_flows.specs.declared.finder.FlowFinder.TheInside.{Inside}
 use Rattle.mono_flows.specs.Visits.{IsSearch}
 use Rattle.mono_flows.specs.Levels.{AreLevels}
-use Rattle.mono_flows.specs.Sums.{AreSums, AreZero}
+use Rattle.mono_flows.specs.Sums.{AreZero}
 
 abbrev pub node_count : Inside → ℕ
 node_count f = length f.search.marks.items
@@ -11,5 +11,4 @@ node_count f = length f.search.marks.items
 pub record IsReady (f : Inside) : Type 0 where
   pub search : IsSearch (node_count f) f.search
   pub levels : AreLevels (node_count f) f.levels
-  pub sums : AreSums (node_count f) f.sums
-  pub clear : AreZero f.sums
+  pub sums : AreZero (node_count f) f.sums

@@ -1,10 +1,12 @@
 -- Flows in the making.
 use Rattle.std.specs.Prelude.{◌≡◌, ◌≢◌, ℕ, ◌+◌, ◌<◌, ◌≤◌, Bool, List, length}
 use Rattle.mono_graph.specs.Digraph.{Digraph}
+use Rattle.mono_base.specs.declared.limits.TheConstants.{MAX_BOUND}
 use Rattle.mono_graph.specs.Flows.{inflow, outflow}
 use Rattle.mono_flows.specs.declared.network.Network.{Network}
 use Rattle.mono_flows.specs.declared.flow.Flow.{Flow}
 use Rattle.mono_flows.specs.Residual.{amount_of, capacity}
+use Rattle.mono_flows.specs.Visits.{IsBlocked}
 
 -- a flow from s to t of this value, which no amount exceeds
 pub record IsFlowing (g : Digraph) (P : List Bool) (s t : ℕ) (f : ℕ → ℕ) (value : ℕ) : Type 0 where
@@ -17,3 +19,16 @@ pub record IsFlowing (g : Digraph) (P : List Bool) (s t : ℕ) (f : ℕ → ℕ)
 pub record IsFlow (n : Network) (flow : Flow) : Type 0 where
   pub len : length flow.amounts.items ≡ length n.graph.now.edges
   pub flowing : IsFlowing n.graph.now n.part.now n.source n.sink (amount_of flow.amounts.items) flow.value
+
+-- a flow between two nodes, of at most the goal, which is so small that no sum overflows
+pub record IsFlowTowards (n : Network) (goal : ℕ) (f : Flow) : Type 0 where
+  pub apart : n.source ≢ n.sink
+  pub small : goal ≤ MAX_BOUND + 1
+  pub flow : IsFlow n f
+  pub most : f.value ≤ goal
+
+-- the search has ended: as much is carried as is asked for, or no edge with capacity left leads out of the marked nodes
+pub record HasEnded (n : Network) (goal : ℕ) (f : Flow) (marked : List Bool) : Type 0 where
+  pub flow : IsFlowTowards n goal f
+  pub marks : length marked ≡ n.graph.now.nodes
+  pub blocked : f.value < goal → IsBlocked n.graph.now n.part.now (amount_of f.amounts.items) n.source n.sink marked

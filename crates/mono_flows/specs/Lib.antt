@@ -2,6 +2,7 @@ pub mod Residual
 pub mod Visits
 pub mod Flowing
 pub mod Levels
+pub mod Mending
 pub mod Listed
 pub mod Sums
 pub mod Cuts

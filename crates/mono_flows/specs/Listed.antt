@@ -27,6 +27,6 @@ listed_in g amounts u = sum_by (at_end (λ e. e.to) g u) amounts
 abbrev pub is_balanced_at : List ℕ → List ℕ → ℕ → ℕ → ℕ → Bool
 is_balanced_at out into s t u = u == s || u == t || slice_index_or into u 0 == slice_index_or out u 0
 
--- so are both ends of the edge
+-- each end of the edge is one of the two, or as much enters it as leaves it
 abbrev pub has_balanced_ends : Digraph → List ℕ → List ℕ → ℕ → ℕ → Amount → Bool
 has_balanced_ends g out into s t a = is_balanced_at out into s t (edge_at g a.edge).from && is_balanced_at out into s t (edge_at g a.edge).to

@@ -10,7 +10,9 @@ pub record AreSums (nodes : ℕ) (x : NodeSums) : Type 0 where
   pub leaving : length x.leaving.items ≡ nodes
   pub entering : length x.entering.items ≡ nodes
 
-pub record AreZero (x : NodeSums) : Type 0 where
+-- there are two for each node, all of them 0
+pub record AreZero (nodes : ℕ) (x : NodeSums) : Type 0 where
+  pub len : AreSums nodes x
   pub leaving : (u : ℕ) → slice_index_or x.leaving.items u 0 ≡ 0
   pub entering : (u : ℕ) → slice_index_or x.entering.items u 0 ≡ 0
 

@@ -1,9 +1,10 @@
 -- The visits of a search, and what they show when it ends.
-use Rattle.std.specs.Prelude.{◌≡◌, ℕ, ◌-◌, ◌<◌, ◌≤◌, Bool, false, List, All, length, map, slice_index_or, IsTrue}
+use Rattle.std.specs.Prelude.{◌≡◌, ℕ, ◌+◌, ◌-◌, ◌<◌, ◌≤◌, Bool, false, not, List, All, count_by, length, map, slice_index_or, IsTrue}
 use Rattle.mono_graph.specs.Digraph.{Digraph, edge_at, has}
 use Rattle.mono_flows.specs.declared.visit.Visit.{Visit}
+use Rattle.mono_flows.specs.declared.network.Network.{Network}
 use Rattle.mono_flows.specs.declared.search.Search.{Search}
-use Rattle.mono_flows.specs.Residual.{residual_at, start_of, end_of}
+use Rattle.mono_flows.specs.Residual.{amount_of, residual_at, start_of, end_of}
 
 -- a search starts at a node, where this much can be carried
 abbrev pub first_visit : ℕ → ℕ → Visit
@@ -51,11 +52,30 @@ pub record Extends (old new : List Bool) (vs ws : List Visit) : Type 0 where
   pub same : (i : ℕ) → i < length vs → visit_at ws i ≡ visit_at vs i
   pub kept : (u : ℕ) → IsTrue (is_marked old u) → IsTrue (is_marked new u)
 
+-- the search went on: its visits are a search tree still, and each new one is at a node that wasn't marked
+pub record Continues (g : Digraph) (P : List Bool) (f : ℕ → ℕ) (old new : List Bool) (vs ws : List Visit) : Type 0 where
+  pub tree : IsSearchTree g P f ws
+  pub marks : AreMarks g new ws
+  pub extends : Extends old new vs ws
+  pub work : count_by (λ b. not b) new + length ws ≤ count_by (λ b. not b) old + length vs
+
+abbrev pub GoesOn : Network → List ℕ → Search → Search → Type 0
+GoesOn n amounts old new =
+    Continues n.graph.now n.part.now (amount_of amounts) old.marks.items new.marks.items old.visits.items new.visits.items
+
+-- whether it came to the sink, which then is visited last
+pub record CameTo (sink : ℕ) (old new : Search) (came : Bool) : Type 0 where
+  pub there : IsTrue came → (visit_at new.visits.items (length new.visits.items - 1)).node ≡ sink
+  pub away : came ≡ false → is_marked old.marks.items sink ≡ false → is_marked new.marks.items sink ≡ false
+
 -- the edges at a node that have capacity left lead to marked nodes
 abbrev pub IsExpanded : Digraph → List Bool → (ℕ → ℕ) → ℕ → List Bool → Type 0
-IsExpanded g P f u marks = (k : ℕ) (back : Bool) → k < length g.edges → start_of (edge_at g k) back ≡ u → 0 < residual_at g P f k back → IsTrue (is_marked marks (end_of (edge_at g k) back))
+IsExpanded g P f u marks =
+    (k : ℕ) (back : Bool) → k < length g.edges → start_of (edge_at g k) back ≡ u → 0 < residual_at g P f k back
+    → IsTrue (is_marked marks (end_of (edge_at g k) back))
 
--- the steps back from the last visit lead from the one node to the other, by different nodes, and up to this much more can be carried along them
+-- The steps back from the last visit lead from the one node to the other, by different nodes, and up to this much more can
+-- be carried along them.
 pub record IsAugmentingPath (g : Digraph) (P : List Bool) (f : ℕ → ℕ) (s t most : ℕ) (vs : List Visit) : Type 0 where
   pub tree : IsSearchTree g P f vs
   pub first : (visit_at vs 0).node ≡ s
@@ -68,4 +88,5 @@ pub record IsBlocked (g : Digraph) (P : List Bool) (f : ℕ → ℕ) (s t : ℕ)
   pub len : length marks ≡ g.nodes
   pub from : IsTrue (is_marked marks s)
   pub to : is_marked marks t ≡ false
-  pub closed : (k : ℕ) (back : Bool) → k < length g.edges → 0 < residual_at g P f k back → IsTrue (is_marked marks (start_of (edge_at g k) back)) → IsTrue (is_marked marks (end_of (edge_at g k) back))
+  pub closed : (k : ℕ) (back : Bool) → k < length g.edges → 0 < residual_at g P f k back
+      → IsTrue (is_marked marks (start_of (edge_at g k) back)) → IsTrue (is_marked marks (end_of (edge_at g k) back))

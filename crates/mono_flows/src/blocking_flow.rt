@@ -3,9 +3,8 @@
 //! A path of visits starts at the source. Where it comes to the sink, more is carried along it, and it starts anew.
 //! Where no edge leads on, its last visit is taken back, and the edge to it is passed for good.
 
-ghost use Rattle.std.specs.Prelude.{◌≡◌, ◌≢◌, ◌<◌, ◌≤◌, ◌+◌, ◌-◌, false, All, IfOk, IsTrue, length, slice_index_or, take};
-ghost use Rattle.mono_flows.specs.Residual.{amount_of};
-ghost use Rattle.mono_flows.specs.Flowing.{IsFlow};
+ghost use Rattle.std.specs.Prelude.{◌≡◌, ◌<◌, ◌≤◌, ◌-◌, false, All, IfOk, IsTrue, length, slice_index_or, take};
+ghost use Rattle.mono_flows.specs.Flowing.{IsFlowTowards};
 ghost use Rattle.mono_flows.specs.Visits.{visit_at};
 ghost use Rattle.mono_flows.specs.Levels.{AreLevels, IsLevelPath};
 
@@ -13,7 +12,6 @@ use crate::flow::Flow;
 use crate::level_graph::LevelGraph;
 use crate::network::Network;
 use crate::visit::Visit;
-use mono_base::limits::MAX_BOUND;
 use std::alloc::AllocError;
 
 /// Carries more along the path, which came to the sink, and starts anew. Whether as much is carried as is asked for.
@@ -24,15 +22,12 @@ fn arrive(
     path: &mut Vec<Visit>,
     goal: u64,
 ) -> Result<bool, AllocError>
-    requires apart { network.now.source ≢ network.now.sink }
-    requires flow { IsFlow network.now flow.old }
+    requires flow { IsFlowTowards network.now goal flow.old }
     requires level { slice_index_or levels.now.levels.items network.now.source 0 ≡ 0 }
     requires path { IsLevelPath network.now flow.old levels.now.levels.items goal path.old.items }
     requires there { (visit_at path.old.items (length path.old.items - 1)).node ≡ network.now.sink }
-    requires small { goal ≤ MAX_BOUND + 1 }
-    ensures flow { IfOk result (λ _. IsFlow network.now flow.new) }
+    ensures flow { IfOk result (λ _. IsFlowTowards network.now goal flow.new) }
     ensures more { IfOk result (λ _. flow.old.value ≤ flow.new.value) }
-    ensures most { IfOk result (λ _. flow.new.value ≤ goal) }
     ensures path { IfOk result (λ done. done ≡ false → IsLevelPath network.now flow.new levels.now.levels.items goal path.new.items) }
 {
     let _ = levels;
@@ -72,15 +67,12 @@ fn advance(
     path: &mut Vec<Visit>,
     goal: u64,
 ) -> Result<bool, AllocError>
-    requires apart { network.now.source ≢ network.now.sink }
-    requires flow { IsFlow network.now flow.old }
+    requires flow { IsFlowTowards network.now goal flow.old }
     requires levels { AreLevels network.now.graph.now.nodes levels.old }
     requires level { slice_index_or levels.old.levels.items network.now.source 0 ≡ 0 }
     requires path { IsLevelPath network.now flow.old levels.old.levels.items goal path.old.items }
-    requires small { goal ≤ MAX_BOUND + 1 }
-    ensures flow { IfOk result (λ _. IsFlow network.now flow.new) }
+    ensures flow { IfOk result (λ _. IsFlowTowards network.now goal flow.new) }
     ensures more { IfOk result (λ _. flow.old.value ≤ flow.new.value) }
-    ensures most { IfOk result (λ _. flow.new.value ≤ goal) }
     ensures levels { AreLevels network.now.graph.now.nodes levels.new }
     ensures same { IfOk result (λ _. levels.new.levels.items ≡ levels.old.levels.items) }
     ensures path { IfOk result (λ done. done ≡ false → IsLevelPath network.now flow.new levels.new.levels.items goal path.new.items) }
@@ -108,15 +100,11 @@ pub(crate) fn add_blocking_flow(
     path: &mut Vec<Visit>,
     goal: u64,
 ) -> Result<(), AllocError>
-    requires apart { network.now.source ≢ network.now.sink }
-    requires flow { IsFlow network.now flow.old }
-    requires most { flow.old.value ≤ goal }
+    requires flow { IsFlowTowards network.now goal flow.old }
     requires levels { AreLevels network.now.graph.now.nodes levels.old }
     requires level { slice_index_or levels.old.levels.items network.now.source 0 ≡ 0 }
-    requires small { goal ≤ MAX_BOUND + 1 }
-    ensures flow { IfOk result (λ _. IsFlow network.now flow.new) }
+    ensures flow { IfOk result (λ _. IsFlowTowards network.now goal flow.new) }
     ensures more { IfOk result (λ _. flow.old.value ≤ flow.new.value) }
-    ensures most { IfOk result (λ _. flow.new.value ≤ goal) }
     ensures levels { AreLevels network.now.graph.now.nodes levels.new }
 {
     if flow.value == goal {

@@ -129,8 +129,7 @@ fn is_flow_in(
     requires known { All (λ a. a.edge < length network.now.graph.now.edges) amounts.now }
     requires listed_len { length listed.old.items ≡ length network.now.graph.now.edges }
     requires listed_clear { (k : ℕ) → slice_index_or listed.old.items k false ≡ false }
-    requires sums_len { AreSums network.now.graph.now.nodes sums.old }
-    requires sums_clear { AreZero sums.old }
+    requires sums { AreZero network.now.graph.now.nodes sums.old }
     ensures passes { result ≡ is_flow_of network.now.graph.now network.now.part.now network.now.source network.now.sink least amounts.now }
     ensures listed_len { length listed.new.items ≡ length network.now.graph.now.edges }
     ensures listed { (k : ℕ) → IsTrue (slice_index_or listed.new.items k false) → IsTrue (has (edges_of amounts.now) k) }

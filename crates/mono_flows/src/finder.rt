@@ -10,11 +10,11 @@ ghost use Rattle.std.specs.Prelude.{◌≡◌, ◌≢◌, ◌<◌, ◌≤◌, �
 ghost use Rattle.std.specs.List.{range_with_len};
 ghost use Rattle.mono_graph.specs.Digraph.{IsPartOf};
 ghost use Rattle.mono_flows.specs.Residual.{amount_of};
-ghost use Rattle.mono_flows.specs.Visits.{IsSearch, IsBlocked};
-ghost use Rattle.mono_flows.specs.Flowing.{IsFlow};
+ghost use Rattle.mono_flows.specs.Visits.{IsSearch};
+ghost use Rattle.mono_flows.specs.Flowing.{IsFlow, IsFlowTowards, HasEnded};
 ghost use Rattle.mono_flows.specs.Levels.{AreLevels};
-ghost use Rattle.mono_flows.specs.Sums.{AreSums, AreZero};
-ghost use Rattle.mono_flows.specs.Answers.{Passes, IsKnown, IsSmall, IsDistinct, IsExact, HasValue, IsFlowOfValue};
+ghost use Rattle.mono_flows.specs.Sums.{AreZero};
+ghost use Rattle.mono_flows.specs.Answers.{Passes, IsAnswer, IsKnown, IsSmall, IsDistinct, IsExact, HasValue, IsFlowOfValue};
 
 use crate::blocking_flow::add_blocking_flow;
 use crate::flow::Flow;
@@ -150,7 +150,8 @@ impl FlowFinder {
             goal,
         )?;
         let marks = self.search.marks.as_slice();
-        outcome(alloc, &network, &flow, marks, goal, kept)
+        let found = outcome(alloc, &network, &flow, marks, goal, kept)?;
+        Ok(found)
     }
 }
 
@@ -163,12 +164,10 @@ fn begin(
     goal: u64,
 ) -> Result<Flow, AllocError>
     requires kept { All (λ a. a.edge < length network.now.graph.now.edges) kept.now }
-    requires sums { AreSums network.now.graph.now.nodes sums.old }
-    requires clear { AreZero sums.old }
+    requires sums { AreZero network.now.graph.now.nodes sums.old }
     ensures flow { IfOk result (IsFlow network.now) }
     ensures most { IfOk result (λ flow. flow.value ≤ goal) }
-    ensures sums { AreSums network.now.graph.now.nodes sums.new }
-    ensures clear { AreZero sums.new }
+    ensures sums { AreZero network.now.graph.now.nodes sums.new }
 {
     if kept.is_empty() {
         return Flow::none(alloc, network);
@@ -190,17 +189,10 @@ fn grow(
     path: &mut Vec<Visit>,
     goal: u64,
 ) -> Result<(), AllocError>
-    requires apart { network.now.source ≢ network.now.sink }
-    requires flow { IsFlow network.now flow.old }
-    requires most { flow.old.value ≤ goal }
+    requires flow { IsFlowTowards network.now goal flow.old }
     requires search { IsSearch network.now.graph.now.nodes search.old }
     requires levels { AreLevels network.now.graph.now.nodes levels.old }
-    requires small { goal ≤ MAX_BOUND + 1 }
-    ensures flow { OnOk result (IsFlow network.now flow.new) }
-    ensures most { OnOk result (flow.new.value ≤ goal) }
-    ensures blocked { OnOk result (flow.new.value < goal
-        → IsBlocked network.now.graph.now network.now.part.now
-        (amount_of flow.new.amounts.items) network.now.source network.now.sink search.new.marks.items) }
+    ensures ended { OnOk result (HasEnded network.now goal flow.new search.new.marks.items) }
     ensures search { IsSearch network.now.graph.now.nodes search.new }
     ensures levels { AreLevels network.now.graph.now.nodes levels.new }
 {
@@ -225,21 +217,11 @@ fn answer_of(
     goal: u64,
     amounts: &[Amount],
 ) -> Result<FlowOrCut, AllocError>
-    requires flow { IsFlow network.now flow.now }
-    requires most { flow.now.value ≤ goal }
-    requires small { goal ≤ MAX_BOUND + 1 }
-    requires marks { length marks.now ≡ network.now.graph.now.nodes }
-    requires blocked { flow.now.value < goal
-        → IsBlocked network.now.graph.now network.now.part.now (amount_of flow.now.amounts.items) network.now.source network.now.sink marks.now }
+    requires ended { HasEnded network.now goal flow.now marks.now }
     requires amounts { amounts.now ≡ map (λ k. record { edge = k; amount = amount_of flow.now.amounts.items k })
         (filter (λ k. nat_lt 0 (amount_of flow.now.amounts.items k)) (range_with_len 0 (length network.now.graph.now.edges))) }
     requires places { All (λ a. a.edge < length network.now.graph.now.edges) amounts.now }
-    ensures passes { IfOk result (Passes network.now.graph.now network.now.part.now network.now.source network.now.sink (pos goal)) }
-    ensures known { IfOk result (IsKnown network.now.graph.now) }
-    ensures small { IfOk result IsSmall }
-    ensures distinct { IfOk result IsDistinct }
-    ensures exact { IfOk result (IsExact network.now.graph.now network.now.source (pos goal)) }
-    ensures value { IfOk result (HasValue network.now.graph.now network.now.part.now network.now.source flow.now.value) }
+    ensures { IfOk result (IsAnswer network.now goal flow.now.value) }
 {
     if flow.value < goal {
         let nodes = marked_nodes(alloc, marks, network.graph.nodes())?;
@@ -257,19 +239,9 @@ fn outcome(
     goal: u64,
     kept: &mut Vec<Amount>,
 ) -> Result<Found, AllocError>
-    requires flow { IsFlow network.now flow.now }
-    requires most { flow.now.value ≤ goal }
-    requires small { goal ≤ MAX_BOUND + 1 }
-    requires marks { length marks.now ≡ network.now.graph.now.nodes }
-    requires blocked { flow.now.value < goal
-        → IsBlocked network.now.graph.now network.now.part.now (amount_of flow.now.amounts.items) network.now.source network.now.sink marks.now }
+    requires ended { HasEnded network.now goal flow.now marks.now }
     requires kept { All (λ a. a.edge < length network.now.graph.now.edges) kept.old.items }
-    ensures passes { IfOk result (λ found. Passes network.now.graph.now network.now.part.now network.now.source network.now.sink (pos goal) found.answer) }
-    ensures known { IfOk result (λ found. IsKnown network.now.graph.now found.answer) }
-    ensures small { IfOk result (λ found. IsSmall found.answer) }
-    ensures distinct { IfOk result (λ found. IsDistinct found.answer) }
-    ensures exact { IfOk result (λ found. IsExact network.now.graph.now network.now.source (pos goal) found.answer) }
-    ensures value { IfOk result (λ found. HasValue network.now.graph.now network.now.part.now network.now.source found.value found.answer) }
+    ensures answer { IfOk result (λ found. IsAnswer network.now goal found.value found.answer) }
     ensures flow { IfOk result (λ found.
         IsFlowOfValue network.now.graph.now network.now.part.now network.now.source network.now.sink found.value kept.new.items) }
     ensures kept { All (λ a. a.edge < length network.now.graph.now.edges) kept.new.items }

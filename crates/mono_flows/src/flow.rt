@@ -4,16 +4,15 @@
 //! source and the sink are balanced. No amount exceeds the value, and no value exceeds what is asked for, which is at
 //! most 2^53 + 1, so no sum overflows.
 
-ghost use Rattle.std.specs.Prelude.{◌≡◌, ◌≢◌, ◌<◌, ◌≤◌, ◌+◌, ◌-◌, All, IfOk, filter, length, map, nat_lt};
+ghost use Rattle.std.specs.Prelude.{◌≡◌, ◌<◌, ◌+◌, ◌-◌, All, IfOk, filter, length, map, nat_lt};
 ghost use Rattle.std.specs.List.{range_with_len};
-ghost use Rattle.mono_flows.specs.Flowing.{IsFlow};
+ghost use Rattle.mono_flows.specs.Flowing.{IsFlow, IsFlowTowards};
 ghost use Rattle.mono_flows.specs.Visits.{IsAugmentingPath};
 ghost use Rattle.mono_flows.specs.Residual.{amount_of};
 
 use crate::listing::positive_amounts;
 use crate::network::Network;
 use crate::visit::Visit;
-use mono_base::limits::MAX_BOUND;
 use mono_graph::Amount;
 use std::alloc::{AllocError, Global};
 
@@ -50,14 +49,11 @@ impl Flow {
 
     /// Carries more along an augmenting path: as much as its last visit says.
     pub fn augment(&mut self, network: &Network, path: &[Visit], goal: u64)
-        requires flow { IsFlow network.now self.old }
-        requires apart { network.now.source ≢ network.now.sink }
+        requires flow { IsFlowTowards network.now goal self.old }
         requires path { IsAugmentingPath network.now.graph.now network.now.part.now
             (amount_of self.old.amounts.items) network.now.source network.now.sink (goal - self.old.value) path.now }
-        requires small { goal ≤ MAX_BOUND + 1 }
-        ensures flow { IsFlow network.now self.new }
+        ensures flow { IsFlowTowards network.now goal self.new }
         ensures more { self.old.value < self.new.value }
-        ensures most { self.new.value ≤ goal }
     {
         let _ = network;
         let _ = goal;

@@ -40,8 +40,7 @@ fn value_in(
     requires known { All (λ a. a.edge < length network.now.graph.now.edges) amounts.now }
     requires listed_len { length listed.old.items ≡ length network.now.graph.now.edges }
     requires listed_clear { (k : ℕ) → slice_index_or listed.old.items k false ≡ false }
-    requires sums_len { AreSums network.now.graph.now.nodes sums.old }
-    requires sums_clear { AreZero sums.old }
+    requires sums { AreZero network.now.graph.now.nodes sums.old }
     ensures flow { IfSome result (IsFlowing network.now.graph.now network.now.part.now network.now.source network.now.sink (amount_at amounts.now)) }
     ensures distinct { IfSome result (λ _. IsTrue (is_distinct (edges_of amounts.now))) }
     ensures sums_len { AreSums network.now.graph.now.nodes sums.new }
@@ -63,13 +62,12 @@ fn value_in(
     Some(value)
 }
 
-/// Carries the amounts, where nothing is carried yet.
-fn put_amounts(carried: &mut Vec<u64>, amounts: &[Amount])
-    requires known { All (λ a. a.edge < length carried.old.items) amounts.now }
-    requires nothing { (k : ℕ) → amount_of carried.old.items k ≡ 0 }
-    requires distinct { IsTrue (is_distinct (edges_of amounts.now)) }
+/// Carries the amounts, where nothing is carried yet. Of an edge that is listed again the last amount counts.
+pub(crate) fn put_amounts(carried: &mut Vec<u64>, amounts: &[Amount])
+    requires { All (λ a. a.edge < length carried.old.items) amounts.now }
     ensures len { length carried.new.items ≡ length carried.old.items }
-    ensures amounts { (k : ℕ) → amount_of carried.new.items k ≡ amount_at amounts.now k }
+    ensures amounts { IsTrue (is_distinct (edges_of amounts.now)) → ((k : ℕ) → amount_of carried.old.items k ≡ 0)
+        → (k : ℕ) → amount_of carried.new.items k ≡ amount_at amounts.now k }
 {
     for amount in amounts {
         carried[amount.edge as usize] = amount.amount;
@@ -85,12 +83,10 @@ pub(crate) fn kept_flow(
     most: u64,
 ) -> Result<Option<Flow>, AllocError>
     requires known { All (λ a. a.edge < length network.now.graph.now.edges) amounts.now }
-    requires sums { AreSums network.now.graph.now.nodes sums.old }
-    requires clear { AreZero sums.old }
+    requires sums { AreZero network.now.graph.now.nodes sums.old }
     ensures flow { IfOk result (λ found. IfSome found (IsFlow network.now)) }
     ensures most { IfOk result (λ found. IfSome found (λ flow. flow.value ≤ most)) }
-    ensures sums { AreSums network.now.graph.now.nodes sums.new }
-    ensures clear { AreZero sums.new }
+    ensures sums { AreZero network.now.graph.now.nodes sums.new }
 {
     let edges = network.graph.edge_count() as usize;
     let mut listed = vec![in alloc; false; edges]?;

@@ -5,8 +5,10 @@
 //! less does, from those that leave it (the excess and the deficit of a preflow). This costs what the edges at the nodes
 //! on these ways do. That the rest is a flow is tested afterwards, and nothing that is claimed here rests on it.
 
-ghost use Rattle.std.specs.Prelude.{◌≡◌, ◌<◌, All, IfOk, length};
+ghost use Rattle.std.specs.Prelude.{◌<◌, All, IfOk, length};
+ghost use Rattle.mono_flows.specs.Mending.{IsPreflow};
 
+use crate::kept_flow::put_amounts;
 use crate::network::{Network, ResidualEdge};
 use mono_graph::Amount;
 use std::alloc::{AllocError, Global};
@@ -19,162 +21,143 @@ struct Imbalance {
     is_excess: bool,
 }
 
-/// Carries what the list says.
-fn load(amounts: &mut Vec<u64>, listed: &[Amount])
-    requires { All (λ a. a.edge < length amounts.old.items) listed.now }
-    ensures { length amounts.new.items ≡ length amounts.old.items }
-{
-    for amount in listed {
-        amounts[amount.edge as usize] = amount.amount;
+/// What each edge carries, by place, and what is to be taken back still.
+#[derive(Drop)]
+struct Preflow {
+    amounts: Vec<u64>,
+    pending: Vec<Imbalance>,
+}
+
+impl Preflow {
+    /// What the list carries; nothing is to be taken back yet.
+    fn of(alloc: Global, network: &Network, listed: &[Amount]) -> Result<Self, AllocError>
+        requires { All (λ a. a.edge < length network.now.graph.now.edges) listed.now }
+        ensures { IfOk result (IsPreflow network.now.graph.now) }
+    {
+        let edges = network.graph.edge_count() as usize;
+        let mut amounts = vec![in alloc; 0; edges]?;
+        put_amounts(&mut amounts, listed);
+        Ok(Preflow {
+            amounts,
+            pending: Vec::new(alloc),
+        })
     }
-}
 
-/// Lets an edge carry nothing. What it carried is missing at its ends from then on.
-fn cancel(
-    network: &Network,
-    amounts: &mut Vec<u64>,
-    pending: &mut Vec<Imbalance>,
-    lost: Amount,
-) -> Result<(), AllocError>
-    requires known { lost.edge < length network.now.graph.now.edges }
-    requires amounts { length amounts.old.items ≡ length network.now.graph.now.edges }
-    requires pending { All (λ i. i.node < network.now.graph.now.nodes) pending.old.items }
-    ensures amounts { length amounts.new.items ≡ length network.now.graph.now.edges }
-    ensures pending { All (λ i. i.node < network.now.graph.now.nodes) pending.new.items }
-{
-    let _ = network.graph.nodes();
-    let edge = network.graph.edge(lost.edge);
-    amounts[lost.edge as usize] = 0;
-    pending.push(Imbalance {
-        node: edge.from,
-        amount: lost.amount,
-        is_excess: true,
-    })?;
-    pending.push(Imbalance {
-        node: edge.to,
-        amount: lost.amount,
-        is_excess: false,
-    })?;
-    Ok(())
-}
+    /// Lets an edge carry nothing. What it carried is missing at its ends from then on.
+    fn cancel(&mut self, network: &Network, lost: Amount) -> Result<(), AllocError>
+        requires known { lost.edge < length network.now.graph.now.edges }
+        requires flow { IsPreflow network.now.graph.now self.old }
+        ensures { IsPreflow network.now.graph.now self.new }
+    {
+        let _ = network.graph.nodes();
+        let edge = network.graph.edge(lost.edge);
+        self.amounts[lost.edge as usize] = 0;
+        self.pending.push(Imbalance {
+            node: edge.from,
+            amount: lost.amount,
+            is_excess: true,
+        })?;
+        self.pending.push(Imbalance {
+            node: edge.to,
+            amount: lost.amount,
+            is_excess: false,
+        })?;
+        Ok(())
+    }
 
-/// Lets the listed edges that aren't present carry nothing.
-fn cancel_lost(
-    network: &Network,
-    amounts: &mut Vec<u64>,
-    pending: &mut Vec<Imbalance>,
-    listed: &[Amount],
-) -> Result<(), AllocError>
-    requires known { All (λ a. a.edge < length network.now.graph.now.edges) listed.now }
-    requires amounts { length amounts.old.items ≡ length network.now.graph.now.edges }
-    requires pending { All (λ i. i.node < network.now.graph.now.nodes) pending.old.items }
-    ensures amounts { length amounts.new.items ≡ length network.now.graph.now.edges }
-    ensures pending { All (λ i. i.node < network.now.graph.now.nodes) pending.new.items }
-{
-    for lost in listed {
-        if !network.part.has(lost.edge) {
-            cancel(network, amounts, pending, *lost)?;
+    /// Lets the listed edges that aren't present carry nothing.
+    fn cancel_lost(&mut self, network: &Network, listed: &[Amount]) -> Result<(), AllocError>
+        requires known { All (λ a. a.edge < length network.now.graph.now.edges) listed.now }
+        requires flow { IsPreflow network.now.graph.now self.old }
+        ensures { IsPreflow network.now.graph.now self.new }
+    {
+        for lost in listed {
+            if !network.part.has(lost.edge) {
+                self.cancel(network, *lost)?;
+            }
+        }
+        Ok(())
+    }
+
+    /// Takes what is left, or as much as there is, from what an edge carries. It is missing at the edge's other end from
+    /// then on. What is left after that.
+    fn take_at(
+        &mut self,
+        network: &Network,
+        edge: ResidualEdge,
+        left: u64,
+    ) -> Result<u64, AllocError>
+        requires place { edge.place < length network.now.graph.now.edges }
+        requires flow { IsPreflow network.now.graph.now self.old }
+        ensures { IsPreflow network.now.graph.now self.new }
+    {
+        let taken = left.min(self.amounts[edge.place as usize]);
+        if taken == 0 {
+            return Ok(left);
+        }
+        self.amounts[edge.place as usize] -= taken;
+        self.pending.push(Imbalance {
+            node: network.end(edge),
+            amount: taken,
+            is_excess: edge.back,
+        })?;
+        Ok(left - taken)
+    }
+
+    /// Takes what is too much at a node from what these edges carry. It is missing at their other ends from then on.
+    fn take_from(
+        &mut self,
+        network: &Network,
+        at: Imbalance,
+        places: &[u32],
+    ) -> Result<(), AllocError>
+        requires places { All (λ k. k < length network.now.graph.now.edges) places.now }
+        requires flow { IsPreflow network.now.graph.now self.old }
+        ensures { IsPreflow network.now.graph.now self.new }
+    {
+        let mut left = at.amount;
+        for place in places {
+            let edge = ResidualEdge {
+                place: *place,
+                back: at.is_excess,
+            };
+            left = self.take_at(network, edge, left)?;
+        }
+        Ok(())
+    }
+
+    /// Takes an excess back from the edges that enter its node, and a deficit from those that leave it. The source and
+    /// the sink need no balance.
+    fn balance(&mut self, network: &Network, at: Imbalance) -> Result<(), AllocError>
+        requires node { at.node < network.now.graph.now.nodes }
+        requires flow { IsPreflow network.now.graph.now self.old }
+        ensures { IsPreflow network.now.graph.now self.new }
+    {
+        if at.node == network.source || at.node == network.sink {
+            return Ok(());
+        }
+        let graph = network.graph;
+        if at.is_excess {
+            self.take_from(network, at, graph.entering(at.node))
+        } else {
+            self.take_from(network, at, graph.leaving(at.node))
         }
     }
-    Ok(())
-}
 
-/// Takes what is left, or as much as there is, from what an edge carries. It is missing at the edge's other end from then on.
-/// What is left after that.
-fn take_at(
-    network: &Network,
-    amounts: &mut Vec<u64>,
-    pending: &mut Vec<Imbalance>,
-    edge: ResidualEdge,
-    left: u64,
-) -> Result<u64, AllocError>
-    requires place { edge.place < length network.now.graph.now.edges }
-    requires amounts { length amounts.old.items ≡ length network.now.graph.now.edges }
-    requires pending { All (λ i. i.node < network.now.graph.now.nodes) pending.old.items }
-    ensures amounts { length amounts.new.items ≡ length network.now.graph.now.edges }
-    ensures pending { All (λ i. i.node < network.now.graph.now.nodes) pending.new.items }
-{
-    let taken = left.min(amounts[edge.place as usize]);
-    if taken == 0 {
-        return Ok(left);
+    /// Takes back all that is pending, and what that brings.
+    fn balance_all(&mut self, network: &Network) -> Result<(), AllocError>
+        requires { IsPreflow network.now.graph.now self.old }
+        ensures { IsPreflow network.now.graph.now self.new }
+    {
+        // Each step but those at edges lost makes some amount less, so there are few; but nothing rests on that.
+        for _step in 0..u64::MAX {
+            let Some(at) = self.pending.pop() else {
+                return Ok(());
+            };
+            self.balance(network, at)?;
+        }
+        Ok(())
     }
-    amounts[edge.place as usize] -= taken;
-    pending.push(Imbalance {
-        node: network.end(edge),
-        amount: taken,
-        is_excess: edge.back,
-    })?;
-    Ok(left - taken)
-}
-
-/// Takes what is too much at a node from what these edges carry. It is missing at their other ends from then on.
-fn take_from(
-    network: &Network,
-    amounts: &mut Vec<u64>,
-    pending: &mut Vec<Imbalance>,
-    at: Imbalance,
-    places: &[u32],
-) -> Result<(), AllocError>
-    requires places { All (λ k. k < length network.now.graph.now.edges) places.now }
-    requires amounts { length amounts.old.items ≡ length network.now.graph.now.edges }
-    requires pending { All (λ i. i.node < network.now.graph.now.nodes) pending.old.items }
-    ensures amounts { length amounts.new.items ≡ length network.now.graph.now.edges }
-    ensures pending { All (λ i. i.node < network.now.graph.now.nodes) pending.new.items }
-{
-    let mut left = at.amount;
-    for place in places {
-        let edge = ResidualEdge {
-            place: *place,
-            back: at.is_excess,
-        };
-        left = take_at(network, amounts, pending, edge, left)?;
-    }
-    Ok(())
-}
-
-/// Takes an excess back from the edges that enter its node, and a deficit from those that leave it. The source and the
-/// sink need no balance.
-fn balance(
-    network: &Network,
-    amounts: &mut Vec<u64>,
-    pending: &mut Vec<Imbalance>,
-    at: Imbalance,
-) -> Result<(), AllocError>
-    requires node { at.node < network.now.graph.now.nodes }
-    requires amounts { length amounts.old.items ≡ length network.now.graph.now.edges }
-    requires pending { All (λ i. i.node < network.now.graph.now.nodes) pending.old.items }
-    ensures amounts { length amounts.new.items ≡ length network.now.graph.now.edges }
-    ensures pending { All (λ i. i.node < network.now.graph.now.nodes) pending.new.items }
-{
-    if at.node == network.source || at.node == network.sink {
-        return Ok(());
-    }
-    let graph = network.graph;
-    if at.is_excess {
-        take_from(network, amounts, pending, at, graph.entering(at.node))
-    } else {
-        take_from(network, amounts, pending, at, graph.leaving(at.node))
-    }
-}
-
-/// Takes back all that is pending, and what that brings.
-fn balance_all(
-    network: &Network,
-    amounts: &mut Vec<u64>,
-    pending: &mut Vec<Imbalance>,
-) -> Result<(), AllocError>
-    requires amounts { length amounts.old.items ≡ length network.now.graph.now.edges }
-    requires pending { All (λ i. i.node < network.now.graph.now.nodes) pending.old.items }
-    ensures { length amounts.new.items ≡ length network.now.graph.now.edges }
-{
-    // Each step but those at edges lost makes some amount less, so there are few; but nothing rests on that.
-    for _step in 0..u64::MAX {
-        let Some(at) = pending.pop() else {
-            return Ok(());
-        };
-        balance(network, amounts, pending, at)?;
-    }
-    Ok(())
 }
 
 /// The listed edges that carry something still, with what they carry now.
@@ -204,11 +187,8 @@ pub(crate) fn mend(
     requires { All (λ a. a.edge < length network.now.graph.now.edges) listed.now }
     ensures { IfOk result (λ left. All (λ a. a.edge < length network.now.graph.now.edges) left.items) }
 {
-    let edges = network.graph.edge_count() as usize;
-    let mut amounts = vec![in alloc; 0; edges]?;
-    let mut pending = Vec::new(alloc);
-    load(&mut amounts, listed);
-    cancel_lost(network, &mut amounts, &mut pending, listed)?;
-    balance_all(network, &mut amounts, &mut pending)?;
-    carrying(alloc, amounts.as_slice(), listed)
+    let mut flow = Preflow::of(alloc, network, listed)?;
+    flow.cancel_lost(network, listed)?;
+    flow.balance_all(network)?;
+    carrying(alloc, flow.amounts.as_slice(), listed)
 }

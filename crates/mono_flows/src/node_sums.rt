@@ -4,9 +4,9 @@
 //! it is balanced. Amounts are at most the weights of their edges, and there are at most as many as edges, so a sum may
 //! need 84 bits: it has 128.
 
-ghost use Rattle.std.specs.Prelude.{◌≡◌, ◌<◌, ◌≤◌, ◌⊎◌, ◌+◌, ◌^◌, ◌-ℤ◌, ℕ, pos, All, IfOk, IfSome, length, slice_index_or, int_le};
+ghost use Rattle.std.specs.Prelude.{◌≡◌, ◌<◌, ◌≤◌, ◌+◌, ◌^◌, ◌-ℤ◌, pos, All, IfOk, IfSome, length, slice_index_or, int_le};
 ghost use Rattle.std.specs.List.{list_all};
-ghost use Rattle.mono_flows.specs.Listed.{listed_out, listed_in, has_balanced_ends, is_balanced_at as is_balanced_node};
+ghost use Rattle.mono_flows.specs.Listed.{has_balanced_ends, is_balanced_at as is_balanced_node};
 ghost use Rattle.mono_flows.specs.Sums.{AreSmall, AreSums, AreZero, AreSumsOf, MayBeSumsOf};
 
 use crate::network::Network;
@@ -33,8 +33,7 @@ fn is_enough(leaving: u128, entering: u128, least: i64) -> bool
 impl NodeSums {
     /// Nothing leaves or enters any of this many nodes.
     pub fn new(alloc: Global, nodes: u32) -> Result<Self, AllocError>
-        ensures sums { IfOk result (AreSums nodes) }
-        ensures zero { IfOk result AreZero }
+        ensures { IfOk result (AreZero nodes) }
     {
         Ok(NodeSums {
             leaving: vec![in alloc; 0; nodes as usize]?,
@@ -47,8 +46,7 @@ impl NodeSums {
         requires known { All (λ a. a.edge < length graph.now.edges) amounts.now }
         requires few { length amounts.now ≤ MAX_EDGES }
         requires small { All (λ a. a.amount ≤ MAX_WEIGHT) amounts.now }
-        requires sums { AreSums graph.now.nodes self.old }
-        requires zero { AreZero self.old }
+        requires zero { AreZero graph.now.nodes self.old }
         ensures sums { AreSums graph.now.nodes self.new }
         ensures listed { AreSumsOf graph.now amounts.now self.new }
         ensures small { AreSmall self.new }
@@ -122,8 +120,7 @@ impl NodeSums {
         requires known { All (λ a. a.edge < length graph.now.edges) amounts.now }
         requires sums { AreSums graph.now.nodes self.old }
         requires listed { MayBeSumsOf graph.now amounts.now self.old }
-        ensures sums { AreSums graph.now.nodes self.new }
-        ensures zero { AreZero self.new }
+        ensures { AreZero graph.now.nodes self.new }
     {
         for amount in amounts {
             let edge = graph.edge(amount.edge);

@@ -4,10 +4,10 @@
 //! from then on. A node is marked exactly where it was visited. Where no node waits any longer, each residual edge
 //! with capacity out of a marked node leads to a marked node.
 
-ghost use Rattle.std.specs.Prelude.{◌≡◌, ◌≢◌, ◌<◌, ◌≤◌, ◌+◌, ◌-◌, ℕ, [], false, IfOk, IfSome, OnSome, IfNone, All, length, map, count_by, not, IsTrue, min};
+ghost use Rattle.std.specs.Prelude.{◌≡◌, ◌≢◌, ◌<◌, ℕ, [], false, IfOk, IfSome, OnSome, IfNone, All, length, map, IsTrue, min};
 ghost use Rattle.mono_graph.specs.Digraph.{edge_at, has};
 ghost use Rattle.mono_flows.specs.Residual.{amount_of, residual_at, start_of, end_of};
-ghost use Rattle.mono_flows.specs.Visits.{visit_at, is_marked, IsSearch, IsSearchTree, AreMarks, Extends, IsExpanded, IsAugmentingPath, IsBlocked};
+ghost use Rattle.mono_flows.specs.Visits.{visit_at, is_marked, IsSearch, IsSearchTree, AreMarks, GoesOn, CameTo, IsExpanded, IsAugmentingPath, IsBlocked};
 
 use crate::network::{Network, ResidualEdge};
 use crate::visit::Visit;
@@ -109,17 +109,11 @@ impl Search {
         requires tree { IsSearchTree network.now.graph.now network.now.part.now (amount_of amounts.now) self.old.visits.items }
         requires marks { AreMarks network.now.graph.now self.old.marks.items self.old.visits.items }
         ensures search { IsSearch network.now.graph.now.nodes self.new }
-        ensures tree { IfOk result (λ _. IsSearchTree network.now.graph.now network.now.part.now (amount_of amounts.now) self.new.visits.items) }
-        ensures marks { IfOk result (λ _. AreMarks network.now.graph.now self.new.marks.items self.new.visits.items) }
-        ensures extends { IfOk result (λ _. Extends self.old.marks.items self.new.marks.items self.old.visits.items self.new.visits.items) }
+        ensures goes_on { IfOk result (λ _. GoesOn network.now amounts.now self.old self.new) }
+        ensures came { IfOk result (CameTo network.now.sink self.old self.new) }
         ensures covers { IfOk result (λ found. found ≡ false → (k : ℕ) → IsTrue (has places.now k)
             → 0 < residual_at network.now.graph.now network.now.part.now (amount_of amounts.now) k back
             → IsTrue (is_marked self.new.marks.items (end_of (edge_at network.now.graph.now k) back))) }
-        ensures found { IfOk result (λ found. IsTrue found → (visit_at self.new.visits.items (length self.new.visits.items - 1)).node ≡ network.now.sink) }
-        ensures away { IfOk result (λ found. found ≡ false → is_marked self.old.marks.items network.now.sink ≡ false
-            → is_marked self.new.marks.items network.now.sink ≡ false) }
-        ensures work { IfOk result (λ _. count_by (λ b. not b) self.new.marks.items + length self.new.visits.items
-            ≤ count_by (λ b. not b) self.old.marks.items + length self.old.visits.items) }
     {
         for place in places {
             let edge = ResidualEdge {
@@ -149,17 +143,11 @@ impl Search {
         requires tree { IsSearchTree network.now.graph.now network.now.part.now (amount_of amounts.now) self.old.visits.items }
         requires marks { AreMarks network.now.graph.now self.old.marks.items self.old.visits.items }
         ensures search { IsSearch network.now.graph.now.nodes self.new }
-        ensures tree { IfOk result (λ _. IsSearchTree network.now.graph.now network.now.part.now (amount_of amounts.now) self.new.visits.items) }
-        ensures marks { IfOk result (λ _. AreMarks network.now.graph.now self.new.marks.items self.new.visits.items) }
-        ensures extends { IfOk result (λ _. Extends self.old.marks.items self.new.marks.items self.old.visits.items self.new.visits.items) }
+        ensures goes_on { IfOk result (λ _. GoesOn network.now amounts.now self.old self.new) }
+        ensures came { IfOk result (CameTo network.now.sink self.old self.new) }
         ensures covers { IfOk result (λ found. found ≡ false
             → IsExpanded network.now.graph.now network.now.part.now (amount_of amounts.now)
             (visit_at self.old.visits.items at).node self.new.marks.items) }
-        ensures found { IfOk result (λ found. IsTrue found → (visit_at self.new.visits.items (length self.new.visits.items - 1)).node ≡ network.now.sink) }
-        ensures away { IfOk result (λ found. found ≡ false → is_marked self.old.marks.items network.now.sink ≡ false
-            → is_marked self.new.marks.items network.now.sink ≡ false) }
-        ensures work { IfOk result (λ _. count_by (λ b. not b) self.new.marks.items + length self.new.visits.items
-            ≤ count_by (λ b. not b) self.old.marks.items + length self.old.visits.items) }
     {
         let node = self.visits[at].node;
         let graph = network.graph;

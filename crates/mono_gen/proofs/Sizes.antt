@@ -1,11 +1,12 @@
 -- A board's edges lead from node to node, and there are few of them.
-use Rattle.std.proofs.Common.{◌≡◌, ℕ, zero, suc, ◌+◌, ◌-◌, ◌*◌, ◌<◌, ◌≤◌, Bool, true, false, ltb, List, [], ◌++◌, length, refl, arith, length-append}
+use Rattle.std.proofs.Common.{◌≡◌, ℕ, zero, suc, ◌+◌, ◌-◌, ◌*◌, ◌<◌, ◌≤◌, Bool, true, false, ltb, List, [], length, refl, arith}
 use Rattle.std.specs.Prelude.{All}
 use Rattle.std.proofs.Math.Nat.{mul-le-mul_left, mul-le-mul_right}
 use Rattle.std.proofs.lemmas.Bool.Decides.{nat_tests}
 use Rattle.std.proofs.lemmas.List.Elements.{All-append, All-nil, All-cons}
 use Rattle.mono_gen.specs.Joined.{joined}
 use Rattle.mono_gen.specs.Board.{node, edge_where, edges_from, edges_of_row, edges_of}
+use Rattle.mono_gen.proofs.Counts.{length-edges}
 
 -- ---- joined lists
 
@@ -13,15 +14,6 @@ All-joined : {A : Type 0} (P : A → Type 0) (f : ℕ → List A) (n k : ℕ) �
 unfolding joined
 All-joined P f n zero each within = All-nil P
 All-joined P f n (suc k) each within = All-append P (joined f k) (f k) (All-joined P f n k each (omega (arith, within))) (each k (omega (arith, within)))
-
-length-joined : {A : Type 0} (f : ℕ → List A) (n k most : ℕ) → ((j : ℕ) → j < n → length (f j) ≤ most) → k ≤ n → length (joined f k) ≤ k * most
-unfolding joined
-length-joined f n zero most each within = omega arith
-length-joined f n (suc k) most each within =
-    let before = length-joined f n k most each (omega (arith, within)) in
-    let here = each k (omega (arith, within)) in
-    let more : suc k * most ≡ k * most + most = omega arith in
-    omega (arith, before, here, more, length-append (joined f k) (f k))
 
 -- ---- nodes
 
@@ -53,29 +45,13 @@ edges_on n = All-joined (IsOn n) (λ r. edges_of_row n r) n n (λ r low. All-joi
 
 -- ---- how many
 
-few_where : (exists : Bool) (from to : ℕ) → length (edge_where exists from to) ≤ 1
-few_where true from to = omega arith
-few_where false from to = omega arith
-
-few_from : (n r q : ℕ) → length (edges_from n r q) ≤ 4
-few_from n r q =
-    let a = edge_where (ltb (q + 1) n) (node n r q) (node n r (q + 1)) in
-    let b = edge_where (ltb (r + 1) n) (node n r q) (node n (r + 1) q) in
-    let d = edge_where (ltb 0 q) (node n r q) (node n r (q - 1)) in
-    let e = edge_where (ltb 0 r) (node n r q) (node n (r - 1) q) in
-    omega (
-      arith,
-      length-append (a ++ b ++ d) e,
-      length-append (a ++ b) d,
-      length-append a b,
-      few_where (ltb (q + 1) n) (node n r q) (node n r (q + 1)),
-      few_where (ltb (r + 1) n) (node n r q) (node n (r + 1) q),
-      few_where (ltb 0 q) (node n r q) (node n r (q - 1)),
-      few_where (ltb 0 r) (node n r q) (node n (r - 1) q),
-    )
+few_counted : (n : ℕ) → 1 ≤ n → n ≤ 100 → length (edges_of n) ≤ 40000
+few_counted n some few =
+    let counted = length-edges n some in
+    let wide : 4 * n * (n - 1) ≤ 4 * n * 100 = mul-le-mul_left (4 * n) (omega (arith, few)) in
+    omega (arith, counted, wide, few)
 
 pub few_edges : (n : ℕ) → n ≤ 100 → length (edges_of n) ≤ 40000
-few_edges n few =
-    let rows = length-joined (λ r. edges_of_row n r) n n (n * 4) (λ r low. length-joined (λ q. edges_from n r q) n n 4 (λ q within. few_from n r q) (omega arith)) (omega arith) in
-    let wide : n * (n * 4) ≤ n * 400 = mul-le-mul_left n (omega (arith, few)) in
-    omega (arith, rows, wide, few)
+unfolding joined
+few_edges zero few = omega arith
+few_edges (suc m) few = few_counted (suc m) (omega arith) few

@@ -18,7 +18,7 @@ edges_from n r q =
     ++ edge_where (nat_lt 0 q) (node n r q) (node n r (q - 1))
     ++ edge_where (nat_lt 0 r) (node n r q) (node n (r - 1) q)
 
--- those of a row, and of all rows
+-- the edges from the nodes of a row, and from those of all rows
 abbrev pub edges_of_row : ℕ → ℕ → List (ℕ × ℕ)
 edges_of_row n r = joined (λ q. edges_from n r q) n
 

@@ -1,12 +1,79 @@
-//! The nodes and edges of a board: so many rows of as many nodes, each with edges to its neighbours.
+//! A board: rows of nodes, and edges between neighbours.
 
-ghost use Rattle.std.specs.Prelude.{◌≡◌, ◌≤◌, ◌<◌, ◌+◌, ◌-◌, ◌++◌, ◌∷◌, [], IfOk, OnOk, nat_lt};
-ghost use Rattle.mono_gen.specs.Board.{node, edge_where, edges_from as edges_from_node, edges_of_row, edges_of};
+ghost use Rattle.std.specs.Prelude.{◌≡◌, ◌≤◌, ◌<◌, ◌*◌, ◌++◌, IfOk, OnOk, length};
+ghost use Rattle.mono_gen.specs.Board.{node, edge_where, edges_from as edges_from_node, edges_of_row, edges_of, edge_count};
 
 use std::alloc::{AllocError, Global};
+use std::marker::Model;
 
-/// The node in a row and a column, both from 0.
-pub(crate) fn node(size: u32, row: u32, column: u32) -> u32
+/// From 2 to 100 rows of as many nodes, and an edge from each node to each of its neighbours.
+///
+/// Contracts see it as the number of its rows.
+#[derive(Drop)]
+pub(crate) struct Board {
+    size: u32,
+    edges: Vec<(u32, u32)>,
+}
+
+impl Model for Board {
+    ghost use Rattle.std.specs.Prelude.{◌≡◌, ◌≤◌, ℕ};
+    ghost use Rattle.mono_gen.specs.Board.{edges_of};
+
+    ghost Value = { ℕ };
+
+    ghost view = { λ board. board.size };
+
+    ghost invariant = { λ board. (2 ≤ board.size) × (board.size ≤ 100) × (board.edges.items ≡ edges_of board.size) };
+}
+
+impl Board {
+    /// The board of so many rows.
+    pub(crate) fn new(alloc: Global, size: u32) -> Result<Board, AllocError>
+        requires low { 2 ≤ size }
+        requires high { size ≤ 100 }
+        ensures { IfOk result (λ board. board ≡ size) }
+    {
+        let edges = edges_of(alloc, size)?;
+        Ok(Board { size, edges })
+    }
+
+    /// How many rows there are, and how many nodes in each of them.
+    pub(crate) fn size(&self) -> u32
+        ensures value { result ≡ self.now }
+        ensures low { 2 ≤ result }
+        ensures high { result ≤ 100 }
+    {
+        self.size
+    }
+
+    /// How many nodes there are.
+    pub(crate) fn node_count(&self) -> u32
+        ensures value { result ≡ self.now * self.now }
+        ensures some { 0 < result }
+    {
+        self.size * self.size
+    }
+
+    /// How many edges there are.
+    pub(crate) fn edge_count(&self) -> u32
+        ensures value { result ≡ edge_count self.now }
+        ensures some { 0 < result }
+        ensures within { result ≤ 39600 }
+    {
+        4 * self.size * (self.size - 1)
+    }
+
+    /// The edges, each by the node it comes from and the node it leads to: row by row, and in a row node by node.
+    pub(crate) fn edges(&self) -> &[(u32, u32)]
+        ensures value { result.now ≡ edges_of self.now }
+        ensures few { length result.now ≤ 40000 }
+    {
+        self.edges.as_slice()
+    }
+}
+
+// The node in a row and a column, both from 0.
+fn node(size: u32, row: u32, column: u32) -> u32
     requires size { size ≤ 100 }
     requires row { row ≤ 100 }
     requires column { column ≤ 100 }
@@ -30,56 +97,6 @@ fn push_where(
     Ok(())
 }
 
-// The edges to the right and down.
-fn push_forward(
-    edges: &mut Vec<(u32, u32)>,
-    size: u32,
-    row: u32,
-    column: u32,
-) -> Result<(), AllocError>
-    requires size { size ≤ 100 }
-    requires row { row < size }
-    requires column { column < size }
-    ensures { OnOk result (edges.new.items ≡ (edges.old.items
-        ++ edge_where (nat_lt (column + 1) size) (node size row column) (node size row (column + 1)))
-        ++ edge_where (nat_lt (row + 1) size) (node size row column) (node size (row + 1) column)) }
-{
-    let from = node(size, row, column);
-    push_where(edges, column + 1 < size, from, node(size, row, column + 1))?;
-    push_where(edges, row + 1 < size, from, node(size, row + 1, column))
-}
-
-// The edge to the left.
-fn push_left(
-    edges: &mut Vec<(u32, u32)>,
-    size: u32,
-    row: u32,
-    column: u32,
-) -> Result<(), AllocError>
-    requires size { size ≤ 100 }
-    requires row { row < size }
-    requires column { column < size }
-    ensures { OnOk result (edges.new.items ≡ edges.old.items ++ edge_where (nat_lt 0 column) (node size row column) (node size row (column - 1))) }
-{
-    if column > 0 {
-        edges.push((node(size, row, column), node(size, row, column - 1)))?;
-    }
-    Ok(())
-}
-
-// The edge up.
-fn push_up(edges: &mut Vec<(u32, u32)>, size: u32, row: u32, column: u32) -> Result<(), AllocError>
-    requires size { size ≤ 100 }
-    requires row { row < size }
-    requires column { column < size }
-    ensures { OnOk result (edges.new.items ≡ edges.old.items ++ edge_where (nat_lt 0 row) (node size row column) (node size (row - 1) column)) }
-{
-    if row > 0 {
-        edges.push((node(size, row, column), node(size, row - 1, column)))?;
-    }
-    Ok(())
-}
-
 // The edges of a node: right, down, left and up.
 fn push_edges_from(
     edges: &mut Vec<(u32, u32)>,
@@ -92,9 +109,13 @@ fn push_edges_from(
     requires column { column < size }
     ensures { OnOk result (edges.new.items ≡ edges.old.items ++ edges_from_node size row column) }
 {
-    push_forward(edges, size, row, column)?;
-    push_left(edges, size, row, column)?;
-    push_up(edges, size, row, column)
+    let from = node(size, row, column);
+    let left = column.saturating_sub(1);
+    let above = row.saturating_sub(1);
+    push_where(edges, column + 1 < size, from, node(size, row, column + 1))?;
+    push_where(edges, row + 1 < size, from, node(size, row + 1, column))?;
+    push_where(edges, column > 0, from, node(size, row, left))?;
+    push_where(edges, row > 0, from, node(size, above, column))
 }
 
 fn push_row(edges: &mut Vec<(u32, u32)>, size: u32, row: u32) -> Result<(), AllocError>
@@ -108,8 +129,8 @@ fn push_row(edges: &mut Vec<(u32, u32)>, size: u32, row: u32) -> Result<(), Allo
     Ok(())
 }
 
-/// The edges of the board, each by the node it comes from and the node it leads to: row by row, and in a row node by node.
-pub(crate) fn edges_of(alloc: Global, size: u32) -> Result<Vec<(u32, u32)>, AllocError>
+// The edges of the board, row by row.
+fn edges_of(alloc: Global, size: u32) -> Result<Vec<(u32, u32)>, AllocError>
     requires { size ≤ 100 }
     ensures { IfOk result (λ edges. edges.items ≡ edges_of size) }
 {

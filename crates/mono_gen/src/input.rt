@@ -1,15 +1,17 @@
 //! Draws, and the whole text.
 
-ghost use Rattle.std.specs.Prelude.{◌≡◌, ◌≤◌, ◌<◌, ◌+◌, ◌^◌, ◌++◌, ◌∷◌, [], pos, neg_ℤ, if◌then◌else◌, IfOk, OnOk, None, length};
+ghost use Rattle.std.specs.Prelude.{◌≡◌, ◌≤◌, ◌<◌, ◌+◌, ◌++◌, ◌∷◌, [], pos, neg_ℤ, if◌then◌else◌, IfOk, OnOk, None, length};
 ghost use Rattle.mono_gnf.specs.Faults.{first_fault};
 ghost use Rattle.mono_gen.specs.Lines.{clause};
 ghost use Rattle.mono_gen.specs.Draws.{after, draw};
-ghost use Rattle.mono_gen.specs.Board.{edges_of, edge_count};
+ghost use Rattle.mono_base.specs.declared.limits.TheConstants.{MAX_VARS};
 ghost use Rattle.mono_gen.specs.Generated.{board_line, head_text, edges_text, walk_line, cross_line, flow_line, drawn_literal, drawn_clause, drawn_clauses, grid_text, leads_out, wall_clauses, wall_text, generated};
 
-use crate::board::edges_of;
+use crate::board::Board;
 use crate::kind::GenKind;
-use crate::text::{push_clause, push_line};
+use mono_base::Lit;
+use mono_gnf::push_clause;
+use mono_text::push_line;
 use rand_core::utils::NextWord;
 use rand_pcg::Lcg64Xsh32;
 use std::alloc::{AllocError, Global};
@@ -24,35 +26,21 @@ fn draw(words: &mut Lcg64Xsh32, below: u32) -> u32
     words.next_word() % below
 }
 
-fn edge_count(size: u32) -> u32
-    requires low { 2 ≤ size }
-    requires high { size ≤ 100 }
-    ensures value { result ≡ edge_count size }
-    ensures some { 0 < result }
-    ensures within { result ≤ 39600 }
+fn push_board(out: &mut Vec<u8>, board: &Board) -> Result<(), AllocError>
+    ensures { OnOk result (out.new.items ≡ out.old.items ++ board_line board.now) }
 {
-    4 * size * (size - 1)
-}
-
-fn push_board(out: &mut Vec<u8>, size: u32) -> Result<(), AllocError>
-    requires low { 2 ≤ size }
-    requires high { size ≤ 100 }
-    ensures { OnOk result (out.new.items ≡ out.old.items ++ board_line size) }
-{
-    let nodes = u64::from(size * size);
-    let edges = u64::from(edge_count(size));
+    let nodes = u64::from(board.node_count());
+    let edges = u64::from(board.edge_count());
     push_line(out, b"digraph int", &[nodes, edges, 0])
 }
 
 // A new text that begins with the header and the board.
-fn head(alloc: Global, size: u32, vars: u32, clauses: u32) -> Result<Vec<u8>, AllocError>
-    requires low { 2 ≤ size }
-    requires high { size ≤ 100 }
-    ensures { IfOk result (λ text. text.items ≡ head_text size vars clauses) }
+fn head(alloc: Global, board: &Board, vars: u32, clauses: u32) -> Result<Vec<u8>, AllocError>
+    ensures { IfOk result (λ text. text.items ≡ head_text board.now vars clauses) }
 {
     let mut out = Vec::new(alloc);
     push_line(&mut out, b"p gnf", &[u64::from(vars), u64::from(clauses)])?;
-    push_board(&mut out, size)?;
+    push_board(&mut out, board)?;
     Ok(out)
 }
 
@@ -84,36 +72,39 @@ fn push_edges(
 }
 
 // A variable of one of the edges.
-fn draw_variable(words: &mut Lcg64Xsh32, edges: u32) -> i64
-    requires { 0 < edges }
+fn draw_variable(words: &mut Lcg64Xsh32, edges: u32) -> Lit
+    requires some { 0 < edges }
+    requires few { edges ≤ MAX_VARS }
     ensures value { result ≡ pos (1 + draw edges words.old) }
     ensures next { words.new ≡ after 1 words.old }
 {
-    i64::from(draw(words, edges)) + 1
+    Lit::of(1 + draw(words, edges), true)
 }
 
 // A variable of one of the edges, and its sign.
-fn draw_literal(words: &mut Lcg64Xsh32, edges: u32) -> i64
-    requires { 0 < edges }
+fn draw_literal(words: &mut Lcg64Xsh32, edges: u32) -> Lit
+    requires some { 0 < edges }
+    requires few { edges ≤ MAX_VARS }
     ensures value { result ≡ drawn_literal edges words.old }
     ensures next { words.new ≡ after 2 words.old }
 {
     let variable = draw_variable(words, edges);
     if draw(words, 2) == 1 {
-        -variable
+        variable.negated()
     } else {
         variable
     }
 }
 
-fn three(first: i64, second: i64, third: i64) -> [i64; 3]
+fn three(first: Lit, second: Lit, third: Lit) -> [Lit; 3]
     ensures { result ≡ first ∷ second ∷ third ∷ [] }
 {
     [first, second, third]
 }
 
-fn draw_clause(words: &mut Lcg64Xsh32, edges: u32) -> [i64; 3]
-    requires { 0 < edges }
+fn draw_clause(words: &mut Lcg64Xsh32, edges: u32) -> [Lit; 3]
+    requires some { 0 < edges }
+    requires few { edges ≤ MAX_VARS }
     ensures value { result ≡ drawn_clause edges words.old }
     ensures next { words.new ≡ after 5 words.old }
 {
@@ -129,7 +120,8 @@ fn push_drawn_clauses(
     edges: u32,
     count: u32,
 ) -> Result<(), AllocError>
-    requires { 0 < edges }
+    requires some { 0 < edges }
+    requires few { edges ≤ MAX_VARS }
     ensures { OnOk result (out.new.items ≡ out.old.items ++ drawn_clauses edges words.old count) }
 {
     for _done in 0..count {
@@ -140,82 +132,70 @@ fn push_drawn_clauses(
 }
 
 // The walk from the first to the last node.
-fn push_walk(out: &mut Vec<u8>, size: u32) -> Result<(), AllocError>
-    requires low { 2 ≤ size }
-    requires high { size ≤ 100 }
-    ensures { OnOk result (out.new.items ≡ out.old.items ++ walk_line size) }
+fn push_walk(out: &mut Vec<u8>, board: &Board) -> Result<(), AllocError>
+    ensures { OnOk result (out.new.items ≡ out.old.items ++ walk_line board.now) }
 {
-    let nodes = u64::from(size * size);
-    let edges = u64::from(edge_count(size));
+    let nodes = u64::from(board.node_count());
+    let edges = u64::from(board.edge_count());
     push_line(out, b"reach", &[0, 0, nodes - 1, edges + 1])
 }
 
 // The walk from the last column of the first row to the first column of the last.
-fn push_cross_walk(out: &mut Vec<u8>, size: u32) -> Result<(), AllocError>
-    requires low { 2 ≤ size }
-    requires high { size ≤ 100 }
-    ensures { OnOk result (out.new.items ≡ out.old.items ++ cross_line size) }
+fn push_cross_walk(out: &mut Vec<u8>, board: &Board) -> Result<(), AllocError>
+    ensures { OnOk result (out.new.items ≡ out.old.items ++ cross_line board.now) }
 {
-    let side = u64::from(size);
-    let edges = u64::from(edge_count(size));
+    let side = u64::from(board.size());
+    let edges = u64::from(board.edge_count());
     push_line(out, b"reach", &[0, side - 1, side * side - side, edges + 2])
 }
 
 // The flow of 2 from the first to the last node.
-fn push_flow(out: &mut Vec<u8>, size: u32) -> Result<(), AllocError>
-    requires low { 2 ≤ size }
-    requires high { size ≤ 100 }
-    ensures { OnOk result (out.new.items ≡ out.old.items ++ flow_line size) }
+fn push_flow(out: &mut Vec<u8>, board: &Board) -> Result<(), AllocError>
+    ensures { OnOk result (out.new.items ≡ out.old.items ++ flow_line board.now) }
 {
-    let nodes = u64::from(size * size);
-    let edges = u64::from(edge_count(size));
+    let nodes = u64::from(board.node_count());
+    let edges = u64::from(board.edge_count());
     push_line(out, b"maximum_flow_geq", &[0, 0, nodes - 1, edges + 3, 2])
 }
 
 // The clause of a predicate's variable.
 fn push_unit(out: &mut Vec<u8>, variable: u32) -> Result<(), AllocError>
+    requires low { 0 < variable }
+    requires high { variable ≤ MAX_VARS }
     ensures { OnOk result (out.new.items ≡ out.old.items ++ clause (pos variable ∷ [])) }
 {
-    push_clause(out, &[i64::from(variable)])
+    push_clause(out, &[Lit::of(variable, true)])
 }
 
 // The predicates of a grid.
-fn push_predicates(out: &mut Vec<u8>, size: u32) -> Result<(), AllocError>
-    requires low { 2 ≤ size }
-    requires high { size ≤ 100 }
-    ensures { OnOk result (out.new.items ≡ out.old.items ++ walk_line size ++ cross_line size ++ flow_line size) }
+fn push_predicates(out: &mut Vec<u8>, board: &Board) -> Result<(), AllocError>
+    ensures { OnOk result (out.new.items ≡ out.old.items ++ walk_line board.now ++ cross_line board.now ++ flow_line board.now) }
 {
-    push_walk(out, size)?;
-    push_cross_walk(out, size)?;
-    push_flow(out, size)
+    push_walk(out, board)?;
+    push_cross_walk(out, board)?;
+    push_flow(out, board)
 }
 
 // The clauses of the predicates of a grid.
 fn push_units(out: &mut Vec<u8>, edges: u32) -> Result<(), AllocError>
     requires { edges ≤ 39600 }
-    ensures { OnOk result (out.new.items ≡ out.old.items ++ clause (pos (edges + 1) ∷ []) ++ clause (pos (edges + 2) ∷ []) ++ clause (pos (edges + 3) ∷ [])) }
+    ensures { OnOk result (out.new.items
+        ≡ out.old.items ++ clause (pos (edges + 1) ∷ []) ++ clause (pos (edges + 2) ∷ []) ++ clause (pos (edges + 3) ∷ [])) }
 {
     push_unit(out, edges + 1)?;
     push_unit(out, edges + 2)?;
     push_unit(out, edges + 3)
 }
 
-fn grid(
-    alloc: Global,
-    size: u32,
-    edges: &[(u32, u32)],
-    words: &mut Lcg64Xsh32,
-) -> Result<Vec<u8>, AllocError>
-    requires low { 2 ≤ size }
-    requires high { size ≤ 100 }
-    requires edges { edges.now ≡ edges_of size }
-    ensures { IfOk result (λ text. text.items ≡ grid_text size words.old) }
+fn grid(alloc: Global, board: &Board, words: &mut Lcg64Xsh32) -> Result<Vec<u8>, AllocError>
+    ensures { IfOk result (λ text. text.items ≡ grid_text board.now words.old) }
 {
-    let count = edge_count(size);
+    let size = board.size();
+    let count = board.edge_count();
     let clauses = 4 * size * size;
-    let mut out = head(alloc, size, count + 3, clauses)?;
-    push_edges(&mut out, edges, words)?;
-    push_predicates(&mut out, size)?;
+    let mut out = head(alloc, board, count + 3, clauses)?;
+    push_edges(&mut out, board.edges(), words)?;
+    push_predicates(&mut out, board)?;
     push_units(&mut out, count)?;
     push_drawn_clauses(&mut out, words, count, clauses - 3)?;
     Ok(out)
@@ -230,6 +210,7 @@ fn push_wall_clauses(
 ) -> Result<(), AllocError>
     requires low { 2 ≤ size }
     requires column { column < size }
+    requires few { length edges.now ≤ MAX_VARS }
     ensures { OnOk result (out.new.items ≡ out.old.items ++ wall_clauses size column edges.now) }
 {
     for place in 0..edges.len() {
@@ -238,6 +219,7 @@ fn push_wall_clauses(
     Ok(())
 }
 
+// The clause of the edge at a place, if it leads from the column to the next.
 fn push_wall_clause(
     out: &mut Vec<u8>,
     size: u32,
@@ -247,33 +229,27 @@ fn push_wall_clause(
 ) -> Result<(), AllocError>
     requires low { 2 ≤ size }
     requires column { column < size }
-    requires place { place < 2 ^ 62 }
-    ensures { OnOk result (out.new.items ≡ out.old.items ++ (if leads_out size column edge then clause (neg_ℤ (pos (place + 1)) ∷ []) else [])) }
+    requires place { place < MAX_VARS }
+    ensures { OnOk result (out.new.items
+        ≡ out.old.items ++ (if leads_out size column edge then clause (neg_ℤ (pos (place + 1)) ∷ []) else [])) }
 {
     if edge.0 % size == column && edge.1 % size == column + 1 {
-        push_clause(out, &[-(place as i64 + 1)])?;
+        push_clause(out, &[Lit::of(place as u32 + 1, false)])?;
     }
     Ok(())
 }
 
-fn wall(
-    alloc: Global,
-    size: u32,
-    edges: &[(u32, u32)],
-    words: &mut Lcg64Xsh32,
-) -> Result<Vec<u8>, AllocError>
-    requires low { 2 ≤ size }
-    requires high { size ≤ 100 }
-    requires edges { edges.now ≡ edges_of size }
-    ensures { IfOk result (λ text. text.items ≡ wall_text size words.old) }
+fn wall(alloc: Global, board: &Board, words: &mut Lcg64Xsh32) -> Result<Vec<u8>, AllocError>
+    ensures { IfOk result (λ text. text.items ≡ wall_text board.now words.old) }
 {
-    let count = edge_count(size);
-    let mut out = head(alloc, size, count + 1, size + 1)?;
-    push_edges(&mut out, edges, words)?;
+    let size = board.size();
+    let count = board.edge_count();
+    let mut out = head(alloc, board, count + 1, size + 1)?;
+    push_edges(&mut out, board.edges(), words)?;
     let column = draw(words, size - 1);
-    push_walk(&mut out, size)?;
+    push_walk(&mut out, board)?;
     push_unit(&mut out, count + 1)?;
-    push_wall_clauses(&mut out, size, column, edges)?;
+    push_wall_clauses(&mut out, size, column, board.edges())?;
     Ok(out)
 }
 
@@ -282,11 +258,11 @@ fn text_of(alloc: Global, kind: GenKind, size: u32, seed: u64) -> Result<Vec<u8>
     requires high { size ≤ 100 }
     ensures { IfOk result (λ text. text.items ≡ generated kind size seed) }
 {
-    let edges = edges_of(alloc, size)?;
+    let board = Board::new(alloc, size)?;
     let mut words = Lcg64Xsh32::new(seed, 0);
     match kind {
-        GenKind::Grid => grid(alloc, size, edges.as_slice(), &mut words),
-        GenKind::Wall => wall(alloc, size, edges.as_slice(), &mut words),
+        GenKind::Grid => grid(alloc, &board, &mut words),
+        GenKind::Wall => wall(alloc, &board, &mut words),
     }
 }
 

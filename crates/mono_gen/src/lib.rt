@@ -4,7 +4,7 @@
 //! (O'Neill 2014) with 64 bits of state, begun at the seed.
 #![tactic(auto)]
 
-/// The nodes and edges of a board.
+/// A board, its nodes and its edges.
 mod board;
 /// Draws, and the whole text.
 mod input;
@@ -12,8 +12,6 @@ mod input;
 mod kind;
 /// Laws of generated inputs.
 pub mod laws;
-/// Lines appended to a text.
-mod text;
 /// Texts and counts that were worked by hand.
 pub mod worked;
 

@@ -1,6 +1,6 @@
 //! Texts and counts that were worked by hand.
 
-ghost use Rattle.std.specs.Prelude.{◌≡◌, ◌∷◌, [], codes, length};
+ghost use Rattle.std.specs.Prelude.{◌≡◌, ◌∷◌, ◌++◌, [], codes, length};
 ghost use Rattle.mono_gen.specs.Board.{edges_of, edge_count};
 ghost use Rattle.mono_gen.specs.Draws.{seeded, draw, after};
 ghost use Rattle.mono_gen.specs.Generated.{generated};
@@ -24,5 +24,6 @@ pub fn worked_draws()
 /// A whole text.
 pub fn worked_wall()
     ensures wall { generated kind.Wall 2 7 ≡ codes
-        "p gnf 9 3\ndigraph int 4 8 0\nedge 0 0 1 1 1\nedge 0 0 2 2 2\nedge 0 1 3 3 9\nedge 0 1 0 4 3\nedge 0 2 3 5 5\nedge 0 2 0 6 2\nedge 0 3 2 7 6\nedge 0 3 1 8 3\nreach 0 0 3 9\n9 0\n-1 0\n-5 0\n" }
+        "p gnf 9 3\ndigraph int 4 8 0\nedge 0 0 1 1 1\nedge 0 0 2 2 2\nedge 0 1 3 3 9\nedge 0 1 0 4 3\n"
+        ++ codes "edge 0 2 3 5 5\nedge 0 2 0 6 2\nedge 0 3 2 7 6\nedge 0 3 1 8 3\nreach 0 0 3 9\n9 0\n-1 0\n-5 0\n" }
 {}

@@ -1,5 +1,5 @@
 -- Lines put together: what is appended piece by piece is the printed form.
-use Rattle.std.proofs.Common.{◌≡◌, ℕ, ◌+◌, ◌<◌, List, [], ◌∷◌, ◌++◌, length, map, take, get_or, flat_map, codes, decimal, ℤ, refl, sym, ap, ◌∙◌, append_assoc, arith}
+use Rattle.std.proofs.Common.{◌≡◌, ℕ, ◌+◌, ◌<◌, List, [], ◌∷◌, ◌++◌, length, map, take, get_or, flat_map, codes, ℤ, refl, sym, ap, ◌∙◌, append_assoc, arith}
 use Rattle.std.specs.Fmt.{signed_decimal}
 use Rattle.std.proofs.lemmas.List.{flat_map_more, map-append, take_more}
 use Rattle.std.proofs.lemmas.List.FromFn.{map-range_with_len_more}
@@ -7,18 +7,7 @@ use Rattle.mono_text.specs.Text.{spaced}
 use Rattle.mono_problem.specs.Instance.{Instance}
 use Rattle.mono_gnf.specs.Printed.{edge_line, edge_numbered, edges_up_to, clause_line}
 
--- ---- a line
-
--- a word, each number behind a space, and a line feed
-spaced-numbers : (word : List ℕ) (ns : List ℕ) → word ++ (flat_map (λ n. codes " " ++ decimal n) ns ++ 10 ∷ []) ≡ spaced (word ∷ map decimal ns)
-spaced-numbers word [] = refl
-spaced-numbers word (n ∷ ns) =
-    ap (λ t. word ++ 32 ∷ t) (append_assoc (decimal n) (flat_map (λ n. codes " " ++ decimal n) ns) (10 ∷ []) ∙ spaced-numbers (decimal n) ns)
-
-pub line_of_numbers : (out word ns : List ℕ) → ((out ++ word) ++ flat_map (λ n. codes " " ++ decimal n) ns) ++ 10 ∷ [] ≡ out ++ spaced (word ∷ map decimal ns)
-line_of_numbers out word ns =
-    append_assoc (out ++ word) (flat_map (λ n. codes " " ++ decimal n) ns) (10 ∷ [])
-    ∙ (append_assoc out word (flat_map (λ n. codes " " ++ decimal n) ns ++ 10 ∷ []) ∙ ap (λ t. out ++ t) (spaced-numbers word ns))
+-- ---- a clause
 
 spaced-literal : (t : List ℕ) (c : List ℤ) → t ++ 32 ∷ spaced (clause_line c) ≡ spaced (t ∷ clause_line c)
 spaced-literal t [] = refl

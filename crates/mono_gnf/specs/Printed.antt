@@ -49,7 +49,7 @@ abbrev pub most_number : ℤ → ℕ
 most_number (pos k) = k
 most_number (negsuc k) = 0
 
--- the same of a bound from below: one beyond 2^53 is written as `gt` of one less
+-- of two words, the one of a bound from below, and the bound that is written: one beyond 2^53 is written as `gt` of one less
 abbrev pub is_beyond : ℤ → Bool
 is_beyond (pos f) = nat_lt MAX_BOUND f
 is_beyond (negsuc n) = false

@@ -30,10 +30,18 @@ declared_graph es (id, nodes) = (id, record { nodes = nodes; edges = edges_named
 abbrev pub greatest : List ℕ → ℕ
 greatest xs = fold max 0 xs
 
+-- what the headers announce, and each variable that occurs
+abbrev pub variables_named : List Statement → List ℤ → List ℕ
+variables_named statements numbers =
+    headers statements
+    ++ map (λ e. e.var) (edges statements)
+    ++ map (λ x. x.var) (atoms statements)
+    ++ flat_map (λ c. map nat_abs c) (clauses_of numbers)
+
 -- the problem of statements and numbers. Its variables go up to the greatest that a header announces or that occurs
 abbrev pub problem_from : List Statement → List ℤ → Instance
 problem_from statements numbers = record {
-  vars = greatest (headers statements ++ map (λ e. e.var) (edges statements) ++ map (λ x. x.var) (atoms statements) ++ flat_map (λ c. map nat_abs c) (clauses_of numbers));
+  vars = greatest (variables_named statements numbers);
   graphs = map (declared_graph (edges statements)) (graphs statements);
   atoms = map (numbered_atom (graphs statements)) (enumerate_from 1 (atoms statements));
   clauses = clauses_of numbers;

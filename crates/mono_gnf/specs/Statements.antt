@@ -87,17 +87,21 @@ graph_of ts =
     if length ts == 4 && not (has_int ts) then Err fault.WeightWord
     else with_fields (fields_of (MAX_NODES ∷ MAX_WIDE ∷ MAX_WIDE ∷ []) (if length ts == 4 then drop 1 ts else ts)) (λ fs. says.Graph (field fs 2) (field fs 0))
 
+-- an edge by its first four fields and its weight
+abbrev pub edge_by : List ℕ → ℕ → Statement
+edge_by fs weight = says.Edge (field fs 0) (field fs 1) (field fs 2) (field fs 3) weight
+
 -- `edge G u v x`, `edge G u v x w`
 abbrev pub edge_of : List (List ℕ) → Result Statement GnfFault
 edge_of ts =
-    if length ts == 5 then with_fields (fields_of (MAX_WIDE ∷ MAX_WIDE ∷ MAX_WIDE ∷ MAX_VARS ∷ MAX_WEIGHT ∷ []) ts) (λ fs. says.Edge (field fs 0) (field fs 1) (field fs 2) (field fs 3) (field fs 4))
-    else with_fields (fields_of (MAX_WIDE ∷ MAX_WIDE ∷ MAX_WIDE ∷ MAX_VARS ∷ []) ts) (λ fs. says.Edge (field fs 0) (field fs 1) (field fs 2) (field fs 3) 1)
+    if length ts == 5 then with_fields (fields_of (MAX_WIDE ∷ MAX_WIDE ∷ MAX_WIDE ∷ MAX_VARS ∷ MAX_WEIGHT ∷ []) ts) (λ fs. edge_by fs (field fs 4))
+    else with_fields (fields_of (MAX_WIDE ∷ MAX_WIDE ∷ MAX_WIDE ∷ MAX_VARS ∷ []) ts) (λ fs. edge_by fs 1)
 
--- an edge by its first four fields and its weight
+-- an edge where its first four fields and its weight are read, or the fault of the first that isn't
 abbrev pub edge_from : Result (List ℕ) FieldRefusal → Result ℕ NumberRefusal → Result Statement GnfFault
 edge_from (Err e) weight = Err (fault_of e)
 edge_from (Ok fs) (Err e) = Err (number_fault_of e)
-edge_from (Ok fs) (Ok w) = Ok (says.Edge (field fs 0) (field fs 1) (field fs 2) (field fs 3) w)
+edge_from (Ok fs) (Ok w) = Ok (edge_by fs w)
 
 -- `lt k` is `leq` k - 1, which is -1 for 0 and never met then; `gt f` is `geq` f + 1
 abbrev pub at_most : Bool → ℕ → ℤ
@@ -108,7 +112,9 @@ at_least strict f = pos (if strict then f + 1 else f)
 
 -- `reach G u v x`: x is true exactly where a walk leads from u to v
 abbrev pub reach_of : List (List ℕ) → Result Statement GnfFault
-reach_of ts = with_fields (fields_of (MAX_WIDE ∷ MAX_WIDE ∷ MAX_WIDE ∷ MAX_VARS ∷ []) ts) (λ fs. says.Atom (field fs 0) (field fs 3) (kind.Reach (field fs 1) (field fs 2)))
+reach_of ts =
+    with_fields (fields_of (MAX_WIDE ∷ MAX_WIDE ∷ MAX_WIDE ∷ MAX_VARS ∷ []) ts)
+    (λ fs. says.Atom (field fs 0) (field fs 3) (kind.Reach (field fs 1) (field fs 2)))
 
 -- the forms with two nodes and a bound: `distance_leq G u v x k`, `maximum_flow_geq G s t x f` and those like them
 abbrev pub bounded_by : BoundedKind → Bool → ℕ → ℕ → ℕ → Predicate
@@ -117,11 +123,15 @@ bounded_by bounded_kind.Distance strict u v k = kind.Distance u v (at_most stric
 bounded_by bounded_kind.Flow strict u v f = kind.Flow u v (at_least strict f)
 
 abbrev pub bounded_of : BoundedKind → Bool → List (List ℕ) → Result Statement GnfFault
-bounded_of m strict ts = with_fields (fields_of (MAX_WIDE ∷ MAX_WIDE ∷ MAX_WIDE ∷ MAX_VARS ∷ MAX_BOUND ∷ []) ts) (λ fs. says.Atom (field fs 0) (field fs 3) (bounded_by m strict (field fs 1) (field fs 2) (field fs 4)))
+bounded_of m strict ts =
+    with_fields (fields_of (MAX_WIDE ∷ MAX_WIDE ∷ MAX_WIDE ∷ MAX_VARS ∷ MAX_BOUND ∷ []) ts)
+    (λ fs. says.Atom (field fs 0) (field fs 3) (bounded_by m strict (field fs 1) (field fs 2) (field fs 4)))
 
 -- `mst_weight_leq G x k`, `mst_weight_lt G x k`
 abbrev pub tree_of : Bool → List (List ℕ) → Result Statement GnfFault
-tree_of strict ts = with_fields (fields_of (MAX_WIDE ∷ MAX_VARS ∷ MAX_BOUND ∷ []) ts) (λ fs. says.Atom (field fs 0) (field fs 1) (kind.Tree (at_most strict (field fs 2))))
+tree_of strict ts =
+    with_fields (fields_of (MAX_WIDE ∷ MAX_VARS ∷ MAX_BOUND ∷ []) ts)
+    (λ fs. says.Atom (field fs 0) (field fs 1) (kind.Tree (at_most strict (field fs 2))))
 
 -- `acyclic G x`: x is true exactly where there is no cycle
 abbrev pub acyclic_of : List (List ℕ) → Result Statement GnfFault

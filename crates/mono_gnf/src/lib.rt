@@ -18,16 +18,14 @@ mod refusal;
 /// What a word line says.
 mod statement;
 
-/// Laws of what a text stands for.
+/// Laws of what a text stands for, and of its printed form.
 pub mod laws;
-/// Laws of the printed form.
-pub mod print_laws;
 /// Worked cases of printed forms.
 pub mod print_worked;
 /// Worked cases of faults and problems.
 pub mod worked;
 
 pub use fault::GnfFault;
-pub use print::print_gnf;
+pub use print::{print_gnf, push_clause};
 pub use read::read_gnf;
 pub use refusal::GnfRefusal;

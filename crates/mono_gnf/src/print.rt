@@ -3,7 +3,7 @@
 //! Each kind of line has a function that appends one such line. The order of lines is that of the printed form: the
 //! header, graphs, edges by their numbers, predicates, clauses.
 
-ghost use Rattle.std.specs.Prelude.{◌≡◌, ◌<◌, ◌≤◌, ◌++◌, ◌∷◌, IfOk, IfSome, OnOk, codes, decimal, length, map, flat_map};
+ghost use Rattle.std.specs.Prelude.{◌≡◌, ◌<◌, ◌≤◌, ◌++◌, IfOk, IfSome, OnOk, codes, length, map, flat_map};
 ghost use Rattle.std.specs.Fmt.{signed_decimal};
 ghost use Rattle.mono_text.specs.Text.{spaced};
 ghost use Rattle.mono_graph.specs.Digraph.{IsGraph, place_of};
@@ -18,32 +18,11 @@ use mono_base::Lit;
 use mono_base::limits::{MAX_BOUND, MAX_EDGES};
 use mono_graph::{Edge, Graph};
 use mono_problem::{Predicate, Problem};
-use mono_text::{push_natural, push_signed};
+use mono_text::{push_line, push_signed};
 use std::alloc::{AllocError, Global};
 
 /// The greatest bound that a line writes.
 const BOUND: i64 = MAX_BOUND as i64;
-
-// A space and a number, for each of the numbers.
-fn push_numbers(out: &mut Vec<u8>, numbers: &[u64]) -> Result<(), AllocError>
-    ensures { OnOk result (out.new.items ≡ out.old.items ++ flat_map (λ n. codes " " ++ decimal n) numbers.now) }
-{
-    for number in numbers {
-        out.push(b' ')?;
-        push_natural(out, *number)?;
-    }
-    Ok(())
-}
-
-// A line of a word and numbers.
-fn push_line(out: &mut Vec<u8>, word: &[u8], numbers: &[u64]) -> Result<(), AllocError>
-    ensures { OnOk result (out.new.items ≡ out.old.items ++ spaced (word.now ∷ map decimal numbers.now)) }
-{
-    out.extend_from_slice(word)?;
-    push_numbers(out, numbers)?;
-    out.push(b'\n')?;
-    Ok(())
-}
 
 fn push_header(out: &mut Vec<u8>, problem: &Problem) -> Result<(), AllocError>
     ensures instance { IsInstance problem.now }
@@ -255,7 +234,9 @@ fn push_literals(out: &mut Vec<u8>, lits: &[Lit]) -> Result<(), AllocError>
     Ok(())
 }
 
-fn push_clause(out: &mut Vec<u8>, lits: &[Lit]) -> Result<(), AllocError>
+/// Appends the line of a clause: each literal and a space, a 0 and a line feed. Where memory is wanting, a part of the
+/// line may stand behind what was there.
+pub fn push_clause(out: &mut Vec<u8>, lits: &[Lit]) -> Result<(), AllocError>
     ensures { OnOk result (out.new.items ≡ out.old.items ++ spaced (clause_line lits.now)) }
 {
     push_literals(out, lits)?;

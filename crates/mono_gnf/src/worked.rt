@@ -1,6 +1,6 @@
 //! Worked cases: texts with their first faults, and what texts stand for.
 
-ghost use Rattle.std.specs.Prelude.{◌≡◌, ◌+◌, ◌∷◌, [], ℕ, ℤ, List, codes, length, sum_by, Some, None, Ok, Err, pos, negsuc};
+ghost use Rattle.std.specs.Prelude.{◌≡◌, ◌+◌, ◌∷◌, ◌++◌, [], ℕ, ℤ, List, codes, length, sum_by, Some, None, Ok, Err, pos, negsuc};
 ghost use Rattle.mono_base.specs.declared.limits.TheConstants.{MAX_GRAPHS, MAX_EDGES, MAX_ATOMS, MAX_CLAUSES, MAX_LITERALS};
 ghost use Rattle.mono_problem.specs.Instance.{Instance};
 ghost use Rattle.mono_problem.specs.declared.atom.Predicate.TheVariants as kind;
@@ -127,7 +127,8 @@ pub fn worked_problems()
           atoms = record { number = 1; graph = 0; var = 5; predicate = kind.Reach 0 2 } ∷ [];
           clauses = [];
         }) }
-    ensures bounds { Stands (codes "digraph 2 0 0\ndistance_leq 0 0 1 1 3\ndistance_lt 0 0 1 2 0\nweighted_distance_lt 0 1 0 3 4\nmaximum_flow_geq 0 0 1 4 5\nmaximum_flow_gt 0 1 0 5 9007199254740992\nmst_weight_leq 0 6 7\nmst_weight_lt 0 7 7")
+    ensures bounds { Stands (codes "digraph 2 0 0\ndistance_leq 0 0 1 1 3\ndistance_lt 0 0 1 2 0\nweighted_distance_lt 0 1 0 3 4\n"
+        ++ codes "maximum_flow_geq 0 0 1 4 5\nmaximum_flow_gt 0 1 0 5 9007199254740992\nmst_weight_leq 0 6 7\nmst_weight_lt 0 7 7")
         (record {
           vars = 7;
           graphs = (0, record { nodes = 2; edges = [] }) ∷ [];
@@ -147,7 +148,8 @@ pub fn worked_problems()
           ∷ record { number = 2; graph = 0; var = 2; predicate = kind.Acyclic } ∷ [];
       clauses = [];
     }) }
-    ensures limits { Stands (codes "p gnf 1000000 4294967295\ndigraph 1000000 4294967295 4294967295\nedge 4294967295 999999 0 1000000 18446744073709551615\n-1000000 0")
+    ensures limits { Stands (codes "p gnf 1000000 4294967295\ndigraph 1000000 4294967295 4294967295\n"
+        ++ codes "edge 4294967295 999999 0 1000000 18446744073709551615\n-1000000 0")
         (record {
           vars = 1000000;
           graphs = (

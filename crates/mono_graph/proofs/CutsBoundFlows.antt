@@ -173,19 +173,21 @@ pub flag_on : (b : Bool) (w : ℕ) → IsTrue b → (if b then w else 0) ≡ w
 flag_on true w e = refl
 flag_on false w e = absurd cc
 
-pub flow_value_bounded : (g : Digraph) (P : List Bool) (s t : ℕ) (f : ℕ → ℕ) (set : List ℕ) → HasEnds g → s < g.nodes → IsTrue (is_flow g P s t f) → IsTrue (has set s) → has set t ≡ false
-    → outflow g f s ≤ inflow g f s + weight_of g (present_by (leads_out set) g P)
-flow_value_bounded g P s t f set ok in-range flow inside outside =
+-- where what enters each node but two leaves it again, what leaves a set with the first of them and without the second, less what
+-- enters the set, is what leaves the first less what enters it
+pub value_across : (g : Digraph) (s t : ℕ) (f : ℕ → ℕ) (set : List ℕ) → HasEnds g → s < g.nodes
+    → ((u : ℕ) → u < g.nodes → u ≢ s → u ≢ t → inflow g f u ≡ outflow g f u) → IsTrue (has set s) → has set t ≡ false
+    → outflow g f s + total f (λ k. has set (edge_at g k).to && not (has set (edge_at g k).from)) (places g)
+    ≡ inflow g f s + total f (λ k. has set (edge_at g k).from && not (has set (edge_at g k).to)) (places g)
+value_across g s t f set ok in-range balanced inside outside =
     let n : ℕ = length g.edges in
     let from : ℕ → ℕ = λ k. (edge_at g k).from in
     let to : ℕ → ℕ = λ k. (edge_at g k).to in
     let S : ℕ → Bool = λ u. has set u in
-    let parts = and_parts (is_within g P f) (is_conserved g s t f) flow in
     let out-is : (u : ℕ) → outflow g f u ≡ total f (λ k. from k == u) (places g) = λ u. total_is f (λ k. from k == u) (places g) in
     let in-is : (u : ℕ) → inflow g f u ≡ total f (λ k. to k == u) (places g) = λ u. total_is f (λ k. to k == u) (places g) in
     let conserved : (u : ℕ) → u < g.nodes → u ≢ s → u ≢ t → total f (λ k. to k == u) (places g) ≡ total f (λ k. from k == u) (places g) =
-    λ u lt not-s not-t. sym (in-is u) ∙ (same_flow s t u (inflow g f u) (outflow g f u)
-    (all_below (λ w. (w == s || w == t) || inflow g f w == outflow g f w) 0 g.nodes parts.1 u (omega arith) (omega arith)) not-s not-t ∙ out-is u) in
+    λ u lt not-s not-t. sym (in-is u) ∙ (balanced u lt not-s not-t ∙ out-is u) in
     let balance = kept S (λ u. total f (λ k. to k == u) (places g)) (λ u. total f (λ k. from k == u) (places g)) s t g.nodes inside outside conserved in
     let balance' = rw (lt-ltb s g.nodes in-range) at balance in
     let outs : node_total S (λ u. total f (λ k. from k == u) (places g)) g.nodes ≡ total f (λ k. S (from k)) (places g) =
@@ -197,12 +199,23 @@ flow_value_bounded g P s t f set ok in-range flow inside outside =
     let out-split = split f (λ k. S (from k)) (λ k. S (to k)) (places g) in
     let in-split = split f (λ k. S (to k)) (λ k. S (from k)) (places g) in
     let turn = turned f (λ k. S (from k)) (λ k. S (to k)) (places g) in
-    let bound : total f (λ k. S (from k) && not (S (to k))) (places g) ≤ total (λ k. (edge_at g k).weight) (λ k. present P k && (S (from k) && not (S (to k)))) (places g) =
-    under f (λ k. (edge_at g k).weight) (present P) (λ k. S (from k) && not (S (to k))) 0 n
+    rw (out-is s, in-is s) (omega (arith, balance', outs, ins, out-split, in-split, turn))
+
+pub flow_value_bounded : (g : Digraph) (P : List Bool) (s t : ℕ) (f : ℕ → ℕ) (set : List ℕ) → HasEnds g → s < g.nodes → IsTrue (is_flow g P s t f) → IsTrue (has set s) → has set t ≡ false
+    → outflow g f s ≤ inflow g f s + weight_of g (present_by (leads_out set) g P)
+flow_value_bounded g P s t f set ok in-range flow inside outside =
+    let n : ℕ = length g.edges in
+    let leaves : ℕ → Bool = λ k. has set (edge_at g k).from && not (has set (edge_at g k).to) in
+    let parts = and_parts (is_within g P f) (is_conserved g s t f) flow in
+    let across = value_across g s t f set ok in-range
+    (λ u lt not-s not-t. same_flow s t u (inflow g f u) (outflow g f u)
+    (all_below (λ w. (w == s || w == t) || inflow g f w == outflow g f w) 0 g.nodes parts.1 u (omega arith) (omega arith)) not-s not-t) inside outside in
+    let bound : total f leaves (places g) ≤ total (λ k. (edge_at g k).weight) (λ k. present P k && leaves k) (places g) =
+    under f (λ k. (edge_at g k).weight) (present P) leaves 0 n
     (λ k low high. leb-true _ _ (all_below (λ j. nat_le (f j) (if present P j then (edge_at g j).weight else 0)) 0 n parts.0 k (omega arith) (omega arith))) in
-    let cut-is : weight_of g (present_by (leads_out set) g P) ≡ total (λ k. (edge_at g k).weight) (λ k. present P k && (S (from k) && not (S (to k)))) (places g) =
+    let cut-is : weight_of g (present_by (leads_out set) g P) ≡ total (λ k. (edge_at g k).weight) (λ k. present P k && leaves k) (places g) =
     total_is (λ k. (edge_at g k).weight) (λ k. present P k && leads_out set (edge_at g k)) (places g) in
-    rw (out-is s, in-is s, cut-is) (omega (arith, balance', outs, ins, out-split, in-split, turn, bound))
+    rw cut-is (omega (arith, across, bound))
 
 -- the value of a flow is at most what leaves a set with the source and without the sink
 pub value_of-le : (g : Digraph) (P : List Bool) (s t : ℕ) (f : ℕ → ℕ) (set : List ℕ) → HasEnds g → s < g.nodes → IsTrue (is_flow g P s t f) → IsTrue (has set s) → IsTrue (not (has set t))

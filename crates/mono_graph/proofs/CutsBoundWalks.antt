@@ -12,6 +12,7 @@ use Rattle.mono_graph.specs.Walks.{leads, is_walk, is_path, is_light, is_cut, is
 use Rattle.mono_graph.specs.declared.label.Label.{Label}
 use Rattle.mono_graph.specs.declared.limit.Limit.{Limit}
 use Rattle.mono_graph.specs.declared.limit.Limit.TheVariants.{Free, Steps, Weight}
+use Rattle.mono_graph.proofs.Limits.{ones}
 use Rattle.mono_graph.proofs.Places.{at_place}
 
 stays_in : (p a b : Bool) → IsTrue (not (p && (a && not b))) → IsTrue p → IsTrue a → IsTrue b
@@ -87,10 +88,6 @@ labels_are_potential g P limit label h = record {
   where
     le_from_not_lt : (x y : ℤ) → int_lt x y ≡ false → y ≤ℤ x
     le_from_not_lt x y e = grind (arith, ints)
-
-ones : (ks : List ℕ) → sum_by (λ (k : ℕ). 1) ks ≡ length ks
-ones [] = refl
-ones (k ∷ ks) = rw (sum_by-cons (λ (k : ℕ). 1) k ks) (omega (arith, ones ks))
 
 pub lt_from_test : (x y : ℤ) → IsTrue (int_lt x y) → x <ℤ y
 lt_from_test x y e = grind (arith, ints)

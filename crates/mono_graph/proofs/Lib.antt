@@ -4,6 +4,8 @@ pub mod EdgeNumbers
 pub mod GraphGrown
 pub mod NodeLists
 pub mod Membership
+pub mod GrownWalks
+pub mod Limits
 pub mod CutsBoundWalks
 pub mod Parts
 pub mod CutsBoundFlows

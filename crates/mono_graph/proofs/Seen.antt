@@ -1,11 +1,10 @@
 -- A list whose numbers are looked at once each: those that were seen are marked.
-use Rattle.std.proofs.Common.{◌≡◌, ℕ, ◌+◌, ◌<◌, Bool, true, false, List, [], ◌∷◌, ◌++◌, length, take, set, get_or, refl, sym, ap, subst, ◌∙◌, arith}
+use Rattle.std.proofs.Common.{◌≡◌, ℕ, ◌+◌, ◌<◌, Bool, true, false, List, [], ◌∷◌, ◌++◌, length, take, set, get_or, sym, ap, subst, ◌∙◌, arith}
 use Rattle.std.specs.Prelude.{IsTrue}
 use Rattle.std.specs.List.{list_all}
-use Rattle.std.proofs.lemmas.Bool.{and_parts, and_from}
 use Rattle.std.proofs.lemmas.List.{length-set, take_more}
 use Rattle.mono_graph.specs.Digraph.{has}
-use Rattle.mono_graph.proofs.Membership.{all_at}
+use Rattle.mono_graph.proofs.Membership.{all_at, list_all_push}
 use Rattle.mono_graph.proofs.Prefixes.{has_again, marked_more, take_has}
 
 -- the first i of the numbers are marked among so many marks, and each passes
@@ -13,10 +12,6 @@ pub record AreSeen (p : ℕ → Bool) (count : ℕ) (seen : List Bool) (xs : Lis
   pub len : length seen ≡ count
   pub marked : (u : ℕ) → get_or seen u false ≡ has (take i xs) u
   pub pass : IsTrue (list_all p (take i xs))
-
-list_all-push : (p : ℕ → Bool) (xs : List ℕ) (x : ℕ) → IsTrue (list_all p xs) → IsTrue (p x) → IsTrue (list_all p (xs ++ x ∷ []))
-list_all-push p [] x h t = and_from (p x) true t refl
-list_all-push p (y ∷ ys) x h t = let a = and_parts (p y) (list_all p ys) h in and_from (p y) (list_all p (ys ++ x ∷ [])) a.0 (list_all-push p ys x a.1 t)
 
 one_more : (xs : List ℕ) (i x : ℕ) → i < length xs → x ≡ get_or xs i 0 → take (i + 1) xs ≡ take i xs ++ x ∷ []
 one_more xs i x lt is = take_more xs i 0 lt ∙ ap (λ (k : ℕ). take i xs ++ k ∷ []) (sym is)
@@ -28,7 +23,7 @@ seen_new p count seen xs i x lt is within pass s =
     record {
       len = length-set seen x true ∙ s.len;
       marked = λ v. marked_more seen (take i xs) x (let e = s.len in omega arith) s.marked v ∙ ap (λ (ks : List ℕ). has ks v) (sym more);
-      pass = subst (λ (ks : List ℕ). IsTrue (list_all p ks)) (sym more) (list_all-push p (take i xs) x s.pass pass);
+      pass = subst (λ (ks : List ℕ). IsTrue (list_all p ks)) (sym more) (list_all_push p (take i xs) x s.pass pass);
     }
 
 pub seen_again : (p : ℕ → Bool) (count : ℕ) (seen : List Bool) (xs : List ℕ) (i x : ℕ) → i < length xs → x ≡ get_or xs i 0
@@ -39,7 +34,7 @@ seen_again p count seen xs i x lt is on s =
     record {
       len = s.len;
       marked = λ v. s.marked v ∙ (sym (has_again (take i xs) x v there) ∙ ap (λ (ks : List ℕ). has ks v) (sym more));
-      pass = subst (λ (ks : List ℕ). IsTrue (list_all p ks)) (sym more) (list_all-push p (take i xs) x s.pass (all_at p (take i xs) x s.pass there));
+      pass = subst (λ (ks : List ℕ). IsTrue (list_all p ks)) (sym more) (list_all_push p (take i xs) x s.pass (all_at p (take i xs) x s.pass there));
     }
 
 -- with one more mark, only numbers of the list are marked

@@ -1,7 +1,8 @@
 -- Walks, and what shows that there is none: sets of nodes that no walk leaves, and labels that bound what walks cost.
-use Rattle.std.specs.Prelude.{ℕ, Bool, true, not, ◌&&◌, ℤ, pos, ◌+ℤ◌, int_lt, int_le, List, [], ◌∷◌, length, map, sum_by, ◌==◌, if◌then◌else◌}
+use Rattle.std.specs.Prelude.{ℕ, Bool, true, not, ◌&&◌, ℤ, pos, negsuc, ◌+ℤ◌, ◌≤ℤ◌, int_lt, int_le, List, [], ◌∷◌, length, map, sum_by, ◌==◌, if◌then◌else◌}
 use Rattle.std.specs.Ordering.{int_eq}
 use Rattle.std.specs.List.{list_all}
+use Rattle.mono_base.specs.declared.limits.TheConstants.{MAX_BOUND}
 use Rattle.mono_graph.specs.declared.edge.Edge.{Edge}
 use Rattle.mono_graph.specs.declared.label.Label.{Label}
 use Rattle.mono_graph.specs.declared.limit.Limit.{Limit}
@@ -45,6 +46,16 @@ cost_of limit.Free e = 0
 cost_of (limit.Steps most) e = 1
 cost_of (limit.Weight most) e = e.weight
 
+-- a walk that costs so much is within the limit. Where nothing counts, each walk costs 0
+abbrev pub admits : Limit → ℕ → Bool
+admits l cost = int_le (pos cost) (bound_of l)
+
+-- the limit has no bound, or one from -1 to the greatest that a predicate may have
+abbrev pub IsBounded : Limit → Type 0
+IsBounded limit.Free = Unit {0}
+IsBounded (limit.Steps most) = (negsuc 0 ≤ℤ most) × (most ≤ℤ pos MAX_BOUND)
+IsBounded (limit.Weight most) = (negsuc 0 ≤ℤ most) × (most ≤ℤ pos MAX_BOUND)
+
 -- what the edges cost together
 abbrev pub cost_along : Limit → Digraph → List ℕ → ℕ
 cost_along limit g ks = sum_by (λ k. cost_of limit (edge_at g k)) ks
@@ -64,13 +75,3 @@ is_labelling g P u v l ls =
     let label = label_at ls (bound_of l) in
     is_distinct (map (λ l. l.node) ls) && int_eq (label u) (pos 0) && int_lt (bound_of l) (label v)
     && list_all (λ k. not (present P k && is_tense label l (edge_at g k))) (places g)
-
--- the limits under the names that they had here; to go once no crate above imports them
-abbrev pub Free : Limit
-Free = limit.Free
-
-abbrev pub Steps : ℤ → Limit
-Steps most = limit.Steps most
-
-abbrev pub Weight : ℤ → Limit
-Weight most = limit.Weight most

@@ -1,4 +1,4 @@
-//! The edges that an assignment enables.
+//! The values of an assignment, and the edges that it enables.
 
 ghost use Rattle.std.specs.Prelude.{◌≡◌, ◌<◌, ◌≤◌, ◌==◌, ◌&&◌, ◌||◌, ℕ, IfOk, length};
 ghost use Rattle.mono_base.specs.Literal.{value_in};
@@ -7,8 +7,8 @@ ghost use Rattle.mono_graph.specs.Digraph.{edge_at, enabled, present};
 use crate::{Graph, Part};
 use std::alloc::{AllocError, Global};
 
-/// The value of a variable.
-fn value(model: &[bool], var: u32) -> bool
+/// The value of a variable under the assignment that a model lists, variable 1 first.
+pub fn value_of(model: &[bool], var: u32) -> bool
     requires low { 0 < var }
     requires high { var ≤ length model.now }
     ensures { result ≡ value_in model.now var }
@@ -34,7 +34,7 @@ pub fn enabled_edges(alloc: Global, graph: &Graph, model: &[bool]) -> Result<Par
 {
     let mut part = Part::none(alloc, graph.edge_count())?;
     for place in 0..graph.edge_count() {
-        let is_there = value(model, graph.edge(place).var);
+        let is_there = value_of(model, graph.edge(place).var);
         put_if(&mut part, place, is_there);
     }
     Ok(part)

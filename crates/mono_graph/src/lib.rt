@@ -5,7 +5,7 @@
 mod amount;
 /// Edges.
 mod edge;
-/// The edges that an assignment enables.
+/// The values of an assignment, and the edges that it enables.
 mod enabled;
 /// Graphs.
 mod graph;
@@ -19,14 +19,17 @@ mod limit;
 mod marking;
 /// Parts of a graph.
 mod part;
+/// The test of walks.
+mod walk;
 /// What the definitions make of small graphs.
 pub mod worked;
 
 pub use amount::Amount;
 pub use edge::Edge;
-pub use enabled::enabled_edges;
+pub use enabled::{enabled_edges, value_of};
 pub use graph::{EdgeRefusal, Graph};
 pub use label::Label;
 pub use limit::Limit;
 pub use marking::{mark, unmark};
 pub use part::Part;
+pub use walk::is_walk;

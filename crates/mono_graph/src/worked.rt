@@ -2,13 +2,13 @@
 
 ghost use Rattle.std.specs.Prelude.{◌≡◌, ◌+◌, ◌≤◌, ◌==◌, [], ◌∷◌, true, false, pos, negsuc, Some, None, length};
 ghost use Rattle.mono_graph.specs.Digraph.{Digraph, IsGraph, IsPartOf, IsSubpart, leaving, entering, place_of, with_edge, weight_of, enabled, present, has, is_distinct};
-ghost use Rattle.mono_graph.specs.Walks.{is_walk, is_path, is_cut, is_labelling};
+ghost use Rattle.mono_graph.specs.Walks.{admits, is_walk, is_path, is_cut, is_labelling, IsBounded};
 ghost use Rattle.mono_graph.specs.Flows.{is_flow_of, is_flow_cut};
 ghost use Rattle.mono_graph.specs.Trees.{joins, is_tree, is_split, is_least, component_count};
 ghost use Rattle.mono_graph.specs.Worked.{edge, edge_of, single, label, amount, round_trip, parallel, lone, looped, triangle, kite, pipe, both, first_alone, last_alone, neither, all_three};
 
 use crate::Limit;
-use mono_base::limits::{MAX_EDGES, MAX_NODES, MAX_VARS, MAX_WEIGHT};
+use mono_base::limits::{MAX_BOUND, MAX_EDGES, MAX_NODES, MAX_VARS, MAX_WEIGHT};
 
 /// A walk may go over an edge again, and each time counts.
 pub fn walk_repeats_an_edge()
@@ -42,6 +42,30 @@ pub fn walk_is_connected()
     ensures goes_past { is_walk (pipe 1 1) both 0 1 (0 ∷ 1 ∷ []) ≡ false }
     ensures stands_still { is_walk (pipe 1 1) both 0 1 (0 ∷ 0 ∷ []) ≡ false }
     ensures past_the_edges { is_walk lone (true ∷ []) 0 0 (0 ∷ []) ≡ false }
+{}
+
+/// A limit admits what is at most its bound: where nothing counts that is 0, and with a negative bound nothing.
+pub fn costs_within_limits()
+    ensures at_the_bound { admits (Limit.Steps (pos 3)) 3 ≡ true }
+    ensures above { admits (Limit.Steps (pos 3)) 4 ≡ false }
+    ensures light { admits (Limit.Weight (pos 3)) 3 ≡ true }
+    ensures heavy { admits (Limit.Weight (pos 3)) 4 ≡ false }
+    ensures nothing { admits (Limit.Weight (negsuc 0)) 0 ≡ false }
+    ensures free { admits Limit.Free 0 ≡ true }
+    ensures uncounted { admits Limit.Free 1 ≡ false }
+{}
+
+/// Bounds go from -1 to the greatest that a predicate may have.
+pub fn bounds_of_limits()
+    ensures free { IsBounded Limit.Free }
+    ensures least { IsBounded (Limit.Steps (negsuc 0)) }
+    ensures below { IsBounded (Limit.Steps (negsuc 1)) → ⊥ }
+    ensures greatest { IsBounded (Limit.Steps (pos MAX_BOUND)) }
+    ensures beyond { IsBounded (Limit.Steps (pos (MAX_BOUND + 1))) → ⊥ }
+    ensures least_weight { IsBounded (Limit.Weight (negsuc 0)) }
+    ensures below_weight { IsBounded (Limit.Weight (negsuc 1)) → ⊥ }
+    ensures greatest_weight { IsBounded (Limit.Weight (pos MAX_BOUND)) }
+    ensures beyond_weight { IsBounded (Limit.Weight (pos (MAX_BOUND + 1))) → ⊥ }
 {}
 
 /// A bound of -1 is never met. The labels that show it are all 0, listed or not.

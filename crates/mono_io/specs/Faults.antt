@@ -10,7 +10,7 @@ pub record HasCause {T E : Type 0} (before now : ℕ) (result : Result T E) : Ty
   pub failed : OnErr result (now ≡ counted before)
   pub succeeded : OnOk result (now ≡ before)
 
--- the same of a count that may be untold; a count that is told stays told
+-- Of a count that may be untold: where it is told, a call that fails raises it by one, one that succeeds leaves it, and it stays told.
 abbrev pub HasToldCause : {T E : Type 0} → Option ℕ → Option ℕ → Result T E → Type 0
 HasToldCause None now result = Unit {0}
 HasToldCause (Some before) None result = ⊥

@@ -39,7 +39,8 @@ made_of p j ns = record { graph = graph_at p (j / 5); atoms = map (atom_numbered
 
 -- the theories of the first j slots: each atom there is one theory's
 pub record AreMade (p : Instance) (j : ℕ) (fs : List Facts) : Type 0 where
-  pub once : (n : ℕ) → 0 < n → n ≤ length p.atoms → count_by (λ f. owns_of f.atoms n) fs ≡ (if nat_lt (slot_of (atom_numbered p n)) j then 1 else 0)
+  pub once : (n : ℕ) → 0 < n → n ≤ length p.atoms
+      → count_by (λ f. owns_of f.atoms n) fs ≡ (if nat_lt (slot_of (atom_numbered p n)) j then 1 else 0)
   pub exact : All (λ f. All (λ x. numbered p.atoms x.number ≡ Some x) f.atoms) fs
   pub graphs : All (λ f. All (λ x. f.graph ≡ graph_at p x.graph) f.atoms) fs
   pub unseen : All (λ f. f.seen ≡ []) fs

@@ -3,7 +3,7 @@ use Rattle.std.proofs.Common.{◌≡◌, ℕ, zero, suc, ◌+◌, ◌-◌, ◌<�
 use Rattle.std.specs.Prelude.{IsTrue, nat_le, slice_get}
 use Rattle.std.specs.List.{cons_option}
 use Rattle.std.proofs.lemmas.Bool.{and_parts, and_from, le-leb, leb-true, cases_lt}
-use Rattle.std.proofs.lemmas.List.{length-map, map-append}
+use Rattle.std.proofs.lemmas.List.{append-nil, length-map, map-append}
 use Rattle.mono_base.specs.Literal.{var_of, lit_at}
 use Rattle.mono_problem.specs.Instance.{Instance, numbered}
 use Rattle.mono_steps.specs.declared.lemma.Lemma.{Lemma}
@@ -12,12 +12,13 @@ use Rattle.mono_steps.specs.declared.step.Step.TheVariants as step
 use Rattle.mono_steps.specs.Chains.{chain_end}
 use Rattle.mono_steps.specs.ChainSteps.{clauses_named, names_clauses}
 use Rattle.mono_steps.specs.Steps.{clause_of, clauses_after, are_justified}
-use Rattle.mono_steps.proofs.StepLists.{append_nil, numbered_more, length_clauses}
+use Rattle.mono_steps.proofs.StepLists.{numbered_more, length_clauses}
 use Rattle.mono_trail.specs.declared.reason.Reason.TheVariants.{Clause, Late}
 use Rattle.mono_trail.specs.Places.{reason_at, place_in}
 use Rattle.mono_trail.specs.Moves.{settled, settled_where, settled_at, HasLate}
 use Rattle.mono_trail.specs.TrailView.{TrailView, IsSound}
 use Rattle.mono_steps.specs.Journals.{lemma_steps, AddsLemmas}
+use Rattle.mono_steps.proofs.JournalSteps.{after-append}
 use Rattle.mono_learn.specs.Explain.{IsExplanation}
 use Rattle.mono_learn.specs.Reasons.{WasUnit, WasForced, ReasonHolds, HasReasons}
 use Rattle.mono_learn.specs.Settled.{Settles, IsAskedFor, AreAskedFor}
@@ -27,12 +28,8 @@ use Rattle.mono_learn.specs.Resolving.{HasCome}
 use Rattle.mono_learn.proofs.PlacesOfLits.{place_in_at}
 use Rattle.mono_learn.proofs.Settling.{settles_none, settles_then, settles_more, settles_one, clause_after, late_before, reasons_more, reasons_settled, lemma_was_unit, reason_settled}
 
--- more clauses
-pub clauses_more : (p : Instance) (j more : List Step) → clauses_after p (j ++ more) ≡ clauses_after p j ++ map clause_of more
-clauses_more p j more = ap (λ (cs : List (List ℤ)). p.clauses ++ cs) (map-append clause_of j more) ∙ sym (append_assoc p.clauses (map clause_of j) (map clause_of more))
-
 pub clauses_asked : (p : Instance) (t0 t : TrailView) (j0 j : List Step) → (a : AsksFor p t0 j0 t j) → clauses_after p j ≡ clauses_after p j0 ++ map clause_of (lemma_steps a.lemmas)
-clauses_asked p t0 t j0 j a = ap (clauses_after p) a.pushed ∙ clauses_more p j0 (lemma_steps a.lemmas)
+clauses_asked p t0 t j0 j a = ap (clauses_after p) a.pushed ∙ after-append p j0 (lemma_steps a.lemmas)
 
 -- ---- what stands in two lists
 
@@ -54,7 +51,7 @@ get_lemma (l ∷ ls) (suc k) m e = get_lemma ls k m e
 -- ---- lemmas asked for
 
 pub asks_none : (p : Instance) (t : TrailView) (j : List Step) → AsksFor p t j t j
-asks_none p t j = record { lemmas = []; pushed = sym (append_nil j); settles = settles_none (clauses_after p j) t; asked = λ i m e. absurd cc; keeps = λ h. h }
+asks_none p t j = record { lemmas = []; pushed = sym (append-nil j); settles = settles_none (clauses_after p j) t; asked = λ i m e. absurd cc; keeps = λ h. h }
 
 pub asks_more : (p : Instance) (t0 t1 t2 : TrailView) (j0 j1 j2 : List Step) → AsksFor p t0 j0 t1 j1 → AsksFor p t1 j1 t2 j2 → AsksFor p t0 j0 t2 j2
 asks_more p t0 t1 t2 j0 j1 j2 a b = record {
@@ -126,7 +123,7 @@ late_asked p shown t t' j j' place atom kept n v x m s lt ex ev r late e ej en k
 }
   where
     more : clauses_after p j' ≡ clauses_after p j ++ m.clause ∷ []
-    more = ap (clauses_after p) ej ∙ clauses_more p j (step.Lemma m ∷ [])
+    more = ap (clauses_after p) ej ∙ after-append p j (step.Lemma m ∷ [])
 
     number : n ≡ length (clauses_after p j) + 1
     number = en ∙ ap (λ (ds : List (List ℤ)). length ds) more ∙ length-append (clauses_after p j) (m.clause ∷ [])

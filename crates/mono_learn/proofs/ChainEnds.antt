@@ -3,13 +3,14 @@ use Rattle.std.proofs.Common.{◌≡◌, ℕ, zero, suc, Bool, true, false, ◌&
 use Rattle.std.specs.Prelude.{IsTrue, option_map, option_and_then}
 use Rattle.std.specs.Ordering.{int_eq}
 use Rattle.std.specs.List.{list_all, cons_option}
-use Rattle.std.proofs.lemmas.Bool.{and_parts, and_from, or_cases, or_left, or_right, cases_Bool}
+use Rattle.std.proofs.lemmas.Bool.{and_parts, and_from, or_left, or_right, cases_Bool}
 use Rattle.std.proofs.lemmas.List.Elements.{filter_map-append}
 use Rattle.mono_base.specs.Literal.{var_of, has_lit, without}
 use Rattle.mono_steps.specs.Chains.{clashing, only_var, joined_at, resolvent, end_from, chain_end}
 use Rattle.mono_problem.specs.Instance.{numbered}
 use Rattle.mono_steps.specs.ChainSteps.{clauses_named}
-use Rattle.mono_base.proofs.Truth.{same_lit, lit_itself}
+use Rattle.mono_steps.proofs.LitTests.{has-filter}
+use Rattle.mono_base.proofs.Truth.{lit_itself}
 
 -- x is in the second clause, its negation in the first, and nothing else clashes
 pub record ClashesAt (c d : List ℤ) (x : ℤ) : Type 0 where
@@ -36,34 +37,16 @@ only_var_is x (m ∷ c) a h =
     ap (λ (b : Bool). cond b (Some (var_of m)) None) rest ∙ ap (λ (l : ℤ). Some (var_of l)) at
 
 -- what a filter keeps
-filter_has : (p : ℤ → Bool) (c : List ℤ) (l : ℤ) → IsTrue (has_lit (filter p c) l) → IsTrue (has_lit c l) × IsTrue (p l)
-filter_has p [] l h = absurd cc
-filter_has p (m ∷ c) l h = by_head (cases_Bool (p m)) (λ k. let r = filter_has p c l k in (or_right (int_eq l m) (has_lit c l) r.0, r.1))
-  where
-    by_head : (p m ≡ true) ⊎ (p m ≡ false) → (IsTrue (has_lit (filter p c) l) → IsTrue (has_lit (m ∷ c) l) × IsTrue (p l)) → IsTrue (has_lit (m ∷ c) l) × IsTrue (p l)
-    by_head (inr e) later = later (rw e at h)
-    by_head (inl e) later =
-        elim (or_cases (int_eq l m) (has_lit (filter p c) l) (rw e at h)) [
-          | inl s ↦ (or_left (int_eq l m) (has_lit c l) s, subst (λ (k : ℤ). IsTrue (p k)) (sym (same_lit l m s)) e)
-          | inr k ↦ later k
-        ]
+pub filter_has : (p : ℤ → Bool) (c : List ℤ) (l : ℤ) → IsTrue (has_lit (filter p c) l) → IsTrue (has_lit c l) × IsTrue (p l)
+filter_has p c l h = let a = and_parts (p l) (has_lit c l) (sym (has-filter p c l) ∙ h) in (a.1, a.0)
 
-has-filter : (p : ℤ → Bool) (c : List ℤ) (l : ℤ) → IsTrue (has_lit c l) → IsTrue (p l) → IsTrue (has_lit (filter p c) l)
-has-filter p [] l h q = h
-has-filter p (m ∷ c) l h q =
-    elim (or_cases (int_eq l m) (has_lit c l) h) [
-      | inl s ↦ (let e : p m ≡ true = subst (λ (k : ℤ). IsTrue (p k)) (same_lit l m s) q in rw e (or_left (int_eq l m) (has_lit (filter p c) l) s))
-      | inr k ↦ later (cases_Bool (p m)) (has-filter p c l k q)
-    ]
-  where
-    later : (p m ≡ true) ⊎ (p m ≡ false) → IsTrue (has_lit (filter p c) l) → IsTrue (has_lit (filter p (m ∷ c)) l)
-    later (inl e) k = rw e (or_right (int_eq l m) (has_lit (filter p c) l) k)
-    later (inr e) k = rw e k
+pub filter_keeps : (p : ℤ → Bool) (c : List ℤ) (l : ℤ) → IsTrue (has_lit c l) → IsTrue (p l) → IsTrue (has_lit (filter p c) l)
+filter_keeps p c l h q = has-filter p c l ∙ and_from (p l) (has_lit c l) q h
 
 clash_var : (c d : List ℤ) (x : ℤ) → ClashesAt c d x → only_var (clashing c d) ≡ Some (var_of x)
 clash_var c d x k = only_var_is x (clashing c d)
     (record { are = λ l h. let r = filter_has (λ m. has_lit c (neg_ℤ m)) d l h in k.only l r.0 r.1 })
-    (has-filter (λ m. has_lit c (neg_ℤ m)) d x k.second k.first)
+    (filter_keeps (λ m. has_lit c (neg_ℤ m)) d x k.second k.first)
 
 -- what is left where they clash
 joined_is : (c d : List ℤ) (x : ℤ) → ClashesAt c d x → joined_at c d (var_of x) ≡ without c (neg_ℤ x) ++ without d x

@@ -2,7 +2,7 @@
 use Rattle.std.proofs.Common.{◌≡◌, ◌≢◌, ℕ, ◌+◌, ◌<◌, ◌≤◌, Bool, true, false, List, length, get_or, set, refl, sym, ap, subst, ◌∙◌, ◌⊎◌, inl, inr, ℤ, arith}
 use Rattle.std.specs.Prelude.{IsTrue, Some}
 use Rattle.std.specs.List.Sorted.{IsNonDecreasing}
-use Rattle.std.proofs.lemmas.Bool.{cases_Bool}
+use Rattle.std.proofs.lemmas.Bool.{cases_Bool, cases_eq, cases_lt}
 use Rattle.std.proofs.lemmas.Option.{same_Some}
 use Rattle.mono_base.specs.Literal.{var_of, has_lit, without, lit_at}
 use Rattle.mono_base.specs.Partial.{is_partial}
@@ -14,7 +14,7 @@ use Rattle.mono_trail.specs.TrailView.{TrailView, IsSound}
 use Rattle.mono_learn.specs.Resolvents.{FalseBy}
 use Rattle.mono_learn.specs.Minimizing.{AreReasons, IsCovered, IsUncovered, IsRedundantAt, IsDropped, AreDropped}
 use Rattle.mono_learn.proofs.LitSets.{true_false, without_has}
-use Rattle.mono_learn.proofs.Marking.{by_place, by_same, unmarked}
+use Rattle.mono_learn.proofs.Marking.{unmarked}
 use Rattle.mono_learn.proofs.PlacesOfLits.{one_place, reason_others}
 
 -- ---- one place
@@ -79,14 +79,14 @@ dropped_none cs t seen kept n le = record {
   same = λ k low. refl;
 }
 
-at_or_above : (i j : ℕ) → i ≤ j → (j ≡ i) ⊎ (i + 1 ≤ j)
-at_or_above i j le = elim (by_place (i + 1) j) [ inl a ↦ inl (omega arith) | inr b ↦ inr b ]
+pub at_or_above : (i j : ℕ) → i ≤ j → (j ≡ i) ⊎ (i + 1 ≤ j)
+at_or_above i j le = elim (cases_lt j (i + 1)) [ inl a ↦ inl (omega arith) | inr b ↦ inr b ]
 
 pub dropped_more : (cs : List (List ℤ)) (t : TrailView) (old mid new : List Bool) (kept : List ℕ) (n i p : ℕ) → IsSound t → AreReasons cs t → p < length t.lits → IsNonDecreasing kept → n ≡ i + 1 → n ≤ length kept → p ≡ get_or kept i 0 → AreDropped cs t old mid kept n → IsDropped cs t mid new p
     → ((k : ℕ) → k ≢ p → is_marked new k ≡ is_marked mid k) → ((k : ℕ) → is_marked new k ≡ true → is_marked mid k ≡ true) → AreDropped cs t old new kept i
 dropped_more cs t old mid new kept n i p s reasons lt up en within ep h d others fewer = record {
   fewer = λ k on. h.fewer k (fewer k on);
-  gone = λ k on off. gone k on off (by_same k p);
+  gone = λ k on off. gone k on off (cases_eq k p);
   left = λ j from in_list on r. left j in_list on r (at_or_above i j from);
   same = λ k low. same k low (low i (omega arith) (omega (arith, en, within)));
 }

@@ -3,7 +3,7 @@ use Rattle.std.proofs.Common.{◌≡◌, ℕ, ◌+◌, ◌^◌, ◌<◌, ◌≤�
 use Rattle.std.specs.Prelude.{IsTrue}
 use Rattle.std.specs.Ordering.{int_eq}
 use Rattle.std.proofs.lemmas.Bool.{or_left}
-use Rattle.std.proofs.lemmas.List.{length-set, take_more, take_all}
+use Rattle.std.proofs.lemmas.List.{append-nil, length-set, take_more, take_all}
 use Rattle.std.proofs.lemmas.List.Elements.{filter-append}
 use Rattle.mono_base.specs.Literal.{var_of, has_lit, without}
 use Rattle.mono_base.specs.Partial.{is_partial}
@@ -55,11 +55,7 @@ room_for start p seen count n e l lt = omega (arith, e, l, lt, marked_le start s
 
 -- no literals
 pub joins_none : (t : List ℤ) (start : ℕ) (old : Resolvent) → old.count ≡ marked_from start old.seen.items → Joins t start old old []
-joins_none t start old n = record { grows = omega arith; counted = n; slots = refl; resolvent = λ top e h f. subst (λ (c : List ℤ). StandsFor t start top old c) (sym (nil e)) f }
-  where
-    nil : (e : List ℤ) → e ++ [] ≡ e
-    nil [] = refl
-    nil (x ∷ xs) = ap (λ (ys : List ℤ). x ∷ ys) (nil xs)
+joins_none t start old n = record { grows = omega arith; counted = n; slots = refl; resolvent = λ top e h f. subst (λ (c : List ℤ). StandsFor t start top old c) (sym (append-nil e)) f }
 
 -- some literals, and then others
 pub joins_then : (t : List ℤ) (start : ℕ) (old mid new : Resolvent) (c d : List ℤ) → Joins t start old mid c → Joins t start mid new d → Joins t start old new (c ++ d)
@@ -84,11 +80,7 @@ without_more c k x l lt e n =
 pub without_same : (c : List ℤ) (k : ℕ) (x l : ℤ) → k < length c → l ≡ get_or c k l → l ≡ x → without (take (k + 1) c) x ≡ without (take k c) x
 without_same c k x l lt e s =
     let on : int_eq x l ≡ true = rw s (lit_itself x) in
-    without_step c k x l lt e ∙ ap (λ (b : Bool). without (take k c) x ++ cond (not b) (l ∷ []) []) on ∙ nil (without (take k c) x)
-  where
-    nil : (xs : List ℤ) → xs ++ [] ≡ xs
-    nil [] = refl
-    nil (y ∷ ys) = ap (λ (zs : List ℤ). y ∷ zs) (nil ys)
+    without_step c k x l lt e ∙ ap (λ (b : Bool). without (take k c) x ++ cond (not b) (l ∷ []) []) on ∙ append-nil (without (take k c) x)
 
 pub without_all : (c : List ℤ) (n : ℕ) (x : ℤ) → length c ≤ n → without (take n c) x ≡ without c x
 without_all c n x le = ap (λ (d : List ℤ). without d x) (take_all n c le)

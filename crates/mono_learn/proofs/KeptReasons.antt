@@ -1,7 +1,7 @@
 -- Reasons under the moves of a trail, and learned clauses below their level.
-use Rattle.std.proofs.Common.{◌≡◌, ℕ, zero, suc, ◌+◌, ◌<◌, ◌≤◌, Bool, true, false, not, cond, List, [], ◌∷◌, ◌++◌, length, take, refl, sym, ap, subst, ◌∙◌, ◌⊎◌, inl, inr, ℤ, pos, neg_ℤ, arith, length-append}
-use Rattle.std.specs.Prelude.{IsTrue, nat_le}
-use Rattle.std.proofs.lemmas.Bool.{leb-false, and_from, cases_lt}
+use Rattle.std.proofs.Common.{◌≡◌, ℕ, ◌+◌, ◌<◌, ◌≤◌, Bool, true, false, not, List, [], ◌∷◌, ◌++◌, length, take, refl, sym, ap, subst, ◌∙◌, ◌⊎◌, inl, inr, ℤ, pos, neg_ℤ, arith, length-append}
+use Rattle.std.specs.Prelude.{IsTrue}
+use Rattle.std.proofs.lemmas.Bool.{and_from, cases_lt}
 use Rattle.std.proofs.lemmas.List.{get_or_append_left, get_or_push, get_or-take, length-take, take-append-le, take-take}
 use Rattle.std.proofs.Math.Seq.{take-append_seam}
 use Rattle.mono_base.specs.Literal.{var_of, has_lit, without, within, lit_at}
@@ -18,10 +18,9 @@ use Rattle.mono_learn.specs.Explain.{AtomForces}
 use Rattle.mono_learn.specs.Reasons.{ReasonHolds, HasReasons}
 use Rattle.mono_learn.specs.Learned.{IsLearnt}
 use Rattle.mono_learn.specs.ReasonsStay.{MayJoin, StillShown, IsUnitIn}
-use Rattle.mono_trail.proofs.Levels.{next_at_least}
+use Rattle.mono_trail.proofs.Levels.{up_to_level, kept_low}
 use Rattle.mono_learn.proofs.LitSets.{without_has}
 use Rattle.mono_learn.proofs.PlacesOfLits.{has_stands, stands_has, one_place, no_opposites}
-use Rattle.mono_learn.proofs.LevelsByPlace.{level_low}
 
 -- ---- one reason
 
@@ -107,23 +106,11 @@ reasons_shown p cs old new t h r = record { at = λ k lt. holds_shown p cs old n
 
 -- ---- learned clauses below their level
 
-levels_rise : (low : ℕ) (ms : List Mark) (top k : ℕ) → Climbs low ms top → k < length ms → low ≤ level_at ms k
-levels_rise low [] top k c lt = absurd (omega (arith, lt))
-levels_rise low (m ∷ ms) top zero c lt = omega (arith, c.0, next_at_least m.reason low)
-levels_rise low (m ∷ ms) top (suc k) c lt = omega (arith, levels_rise m.level ms top k c.1 (omega (arith, lt)), c.0, next_at_least m.reason low)
-
 level_above : (low : ℕ) (ms : List Mark) (top j k : ℕ) → Climbs low ms top → count_to j ms ≤ k → k < length ms → j < level_at ms k
-level_above low [] top j k c le lt = absurd (omega (arith, lt))
-level_above low (m ∷ ms) top j zero c le lt = by_level (nat_le m.level j) refl le
-  where
-    by_level : (b : Bool) → nat_le m.level j ≡ b → cond b (count_to j ms + 1) 0 ≤ 0 → j < m.level
-    by_level true e g = absurd (omega (arith, g))
-    by_level false e g = leb-false m.level j e
-level_above low (m ∷ ms) top j (suc k) c le lt = by_level (nat_le m.level j) refl le (λ h. level_above m.level ms top j k c.1 h (omega (arith, lt))) (levels_rise m.level ms top k c.1 (omega (arith, lt)))
-  where
-    by_level : (b : Bool) → nat_le m.level j ≡ b → cond b (count_to j ms + 1) 0 ≤ suc k → (count_to j ms ≤ k → j < level_at ms k) → m.level ≤ level_at ms k → j < level_at ms k
-    by_level true e g ih up = ih (omega (arith, g))
-    by_level false e g ih up = omega (arith, leb-false m.level j e, up)
+level_above low ms top j k c le lt = elim (cases_lt j (level_at ms k)) [
+  | inl above ↦ above
+  | inr up_to ↦ absurd (omega (arith, le, (up_to_level low ms top j k c lt).1 up_to))
+]
 
 pub learnt_asserts : (t : TrailView) (c : List ℤ) (back level : ℕ) → IsSound t → (a : IsLearnt t c back) → back ≤ level → level < t.level → IsUnitIn (take (count_to level t.marks) t.lits) c a.lit
 learnt_asserts t c back level s a low high = record {
@@ -145,7 +132,7 @@ learnt_asserts t c back level s a low high = record {
         let len = length-take n t.lits in
         let there : lit_at t.lits w.place ≡ neg_ℤ a.lit = sym (get_or-take n t.lits w.place (pos 0) (omega (arith, w.within, len))) ∙ w.there in
         let same : w.place ≡ a.present.place = one_place t.lits w.place a.present.place s.partial (omega (arith, w.within, len)) a.present.within (ap var_of (there ∙ sym a.present.there)) in
-        omega (arith, ap (level_at t.marks) same, a.present.at, level_low level t.marks w.place (omega (arith, w.within, len)), high)
+        omega (arith, ap (level_at t.marks) same, a.present.at, kept_low level t.marks w.place (omega (arith, w.within, len)), high)
 
     not_true : IsTrue (has_lit (take n t.lits) a.lit) → ⊥
     not_true h =

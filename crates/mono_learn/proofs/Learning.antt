@@ -4,6 +4,7 @@ use Rattle.std.specs.Prelude.{IsTrue, Some, nat_le, ◌&&◌, Contains, slice_ge
 use Rattle.std.specs.Result.{OnErr, IfOk}
 use Rattle.std.specs.Ordering.{int_eq}
 use Rattle.std.proofs.lemmas.Bool.{and_from, le-leb, or_left, cases_lt}
+use Rattle.std.proofs.lemmas.List.{append-nil}
 use Rattle.std.proofs.lemmas.Option.{same_Some}
 use Rattle.mono_base.specs.Literal.{var_of, has_lit, without, lit_at}
 use Rattle.mono_problem.specs.Instance.{Instance, numbered}
@@ -18,16 +19,17 @@ use Rattle.mono_steps.specs.declared.step.Step.{Step}
 use Rattle.mono_steps.specs.declared.step.Step.TheVariants as step
 use Rattle.mono_steps.specs.Steps.{clause_of, clauses_after}
 use Rattle.mono_steps.specs.declared.lemma.Lemma.{Lemma}
-use Rattle.mono_steps.proofs.StepLists.{append_nil, numbered_more}
+use Rattle.mono_steps.proofs.JournalSteps.{after-append}
+use Rattle.mono_steps.proofs.StepLists.{numbered_more}
 use Rattle.mono_learn.specs.declared.learn.Learnt.{Learnt}
 use Rattle.mono_learn.specs.Asked.{AsksFor, AddsChains, PushesChain}
 use Rattle.mono_steps.specs.Journals.{lemma_steps, AddsLemmas}
 use Rattle.mono_steps.specs.New.{IsExactEnd}
 use Rattle.mono_learn.specs.Learned.{IsLearnt, IsMinimal, Learns, Refutes}
 use Rattle.mono_learn.specs.Settled.{Settles, IsAskedFor, AreAskedFor}
-use Rattle.mono_learn.proofs.Asking.{clauses_more, was_unit, asked_by, get_left, get_right}
+use Rattle.mono_learn.proofs.Asking.{was_unit, asked_by, get_left, get_right}
 use Rattle.mono_learn.proofs.Settling.{settles_more, reasons_more}
-use Rattle.mono_learn.proofs.MinimizingSteps.{end_justified, learnt_false}
+use Rattle.mono_learn.proofs.MinimizingSteps.{false_vars, learnt_false}
 use Rattle.mono_learn.specs.Resolvents.{marked_from, AllFalse}
 use Rattle.mono_learn.specs.Joins.{Joins, StandsFor}
 use Rattle.mono_learn.specs.Resolving.{IsFresh, HasCome}
@@ -153,28 +155,23 @@ pub some_lits : (cs : List (List ℤ)) (t : List ℤ) (n : ℕ) (c : List ℤ) �
 some_lits cs t n [] w is z = absurd (let e : true ≡ false = z in cc)
 some_lits cs t n (x ∷ c) w is z = let f = (are_false cs t n (x ∷ c) w is).are x (or_left (int_eq x x) (has_lit c x) (lit_itself x)) in omega (arith, f.within)
 
-pub empty_justified : (p : Instance) (cs : List (List ℤ)) (c : Chain) → c.clause ≡ [] → IsExactEnd cs c → IsTrue (is_justified_chain p cs c)
-empty_justified p cs c e a = and_from (names_vars p c.clause && names_clauses cs c.used) (covers c.clause (chain_end (clauses_named cs c.used)))
-    (and_from (names_vars p c.clause) (names_clauses cs c.used) (rw e refl) a.named)
-    (rw a.is_end (from_each (has_lit c.clause) a.end (λ l h. a.same l ∙ h)))
-
 -- ---- what is pushed
 
--- the chain of a learned clause is justified
-pub learnt_justified : (p : Instance) (cs : List (List ℤ)) (t : TrailView) (back : ℕ) (lits c : List ℤ) (used used' : List ℕ) → IsSound t → t.vars ≡ p.vars → IsLearnt t lits back → IsExactEnd cs (record { clause = lits; used = used }) → c ≡ lits → used' ≡ used → IsTrue (is_justified_chain p cs (record { clause = c; used = used' }))
-learnt_justified p cs t back lits c used used' s ev a e ec eu = rw (ec, eu) (end_justified p cs t (record { clause = lits; used = used }) s ev (learnt_false t lits back a) e)
+-- a chain whose clause is exactly its end is justified
+pub exact_justified : (p : Instance) (cs : List (List ℤ)) (c : Chain) → IsTrue (names_vars p c.clause) → IsExactEnd cs c → IsTrue (is_justified_chain p cs c)
+exact_justified p cs c vars a = and_from (names_vars p c.clause && names_clauses cs c.used) (covers c.clause (chain_end (clauses_named cs c.used)))
+    (and_from (names_vars p c.clause) (names_clauses cs c.used) vars a.named)
+    (rw a.is_end (from_each (has_lit c.clause) a.end (λ l h. a.same l ∙ h)))
 
-pub pushes_by : (p : Instance) (j j' : List Step) (lits c d : List ℤ) (used used' : List ℕ) (n : ℕ) → IsExactEnd (clauses_after p j) (record { clause = lits; used = used }) → c ≡ lits → d ≡ lits → used' ≡ used → j' ≡ j ++ step.Chain (record { clause = c; used = used' }) ∷ [] → n ≡ length (clauses_after p j')
-    → PushesChain p j j' d n
-pushes_by p j j' lits c d used used' n e ec ed eu ej en = record {
-  used = used';
-  pushed = subst (λ (x : List ℤ). j' ≡ j ++ step.Chain (record { clause = x; used = used' }) ∷ []) (ec ∙ sym ed) ej;
-  number = en;
-  exact = rw (ed, eu) e;
-}
+pub learnt_vars : (p : Instance) (t : TrailView) (back : ℕ) (lits : List ℤ) → IsSound t → t.vars ≡ p.vars → IsLearnt t lits back → IsTrue (names_vars p lits)
+learnt_vars p t back lits s ev a = false_vars p t lits s ev (learnt_false t lits back a)
+
+pub pushes_by : (p : Instance) (j j' : List Step) (c : List ℤ) (used used' : List ℕ) (n : ℕ) → IsExactEnd (clauses_after p j) (record { clause = c; used = used }) → used' ≡ used → j' ≡ j ++ step.Chain (record { clause = c; used = used' }) ∷ [] → n ≡ length (clauses_after p j')
+    → PushesChain p j j' c n
+pushes_by p j j' c used used' n e eu ej en = record { used = used'; pushed = ej; number = en; exact = rw eu e }
 
 pub chains_none : (j j' : List Step) → j' ≡ j → AddsChains j j'
-chains_none j j' e = record { chains = []; pushed = e ∙ sym (append_nil j) }
+chains_none j j' e = record { chains = []; pushed = e ∙ sym (append-nil j) }
 
 pub chains_one : (j j' : List Step) (c : Chain) → j' ≡ j ++ step.Chain c ∷ [] → AddsChains j j'
 chains_one j j' c e = record { chains = c ∷ []; pushed = e }
@@ -182,7 +179,7 @@ chains_one j j' c e = record { chains = c ∷ []; pushed = e }
 -- ---- lemmas that were asked for, and then a chain
 
 pub clauses_grown : (p : Instance) (j j' : List Step) → (g : AddsChains j j') → clauses_after p j' ≡ clauses_after p j ++ map clause_of (map (λ (c : Chain). step.Chain c) g.chains)
-clauses_grown p j j' g = ap (clauses_after p) g.pushed ∙ clauses_more p j (map (λ (c : Chain). step.Chain c) g.chains)
+clauses_grown p j j' g = ap (clauses_after p) g.pushed ∙ after-append p j (map (λ (c : Chain). step.Chain c) g.chains)
 
 pub reasons_grown : (p : Instance) (j j' : List Step) (shown : ℕ → List ℤ) (t : TrailView) → AddsChains j j' → HasReasons p (clauses_after p j) shown t → HasReasons p (clauses_after p j') shown t
 reasons_grown p j j' shown t g h = subst (λ (cs : List (List ℤ)). HasReasons p cs shown t) (sym (clauses_grown p j j' g)) (reasons_more p (clauses_after p j) (map clause_of (map (λ (c : Chain). step.Chain c) g.chains)) shown t h)

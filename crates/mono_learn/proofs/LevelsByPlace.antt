@@ -8,7 +8,7 @@ use Rattle.mono_trail.specs.declared.reason.Reason.{Reason}
 use Rattle.mono_trail.specs.declared.reason.Reason.TheVariants.{Decided, Clause, Late}
 use Rattle.mono_trail.specs.Places.{reason_at, level_at}
 use Rattle.mono_trail.specs.TrailView.{count_to, TrailView, IsSound, Climbs, next_level, StandsAt}
-use Rattle.mono_trail.proofs.Levels.{next_at_least, climbs_to}
+use Rattle.mono_trail.proofs.Levels.{next_at_least, climbs_to, at_most, up_to_level, kept_low}
 use Rattle.mono_base.specs.Literal.{has_lit}
 use Rattle.mono_base.proofs.Truth.{same_lit, lit_itself}
 use Rattle.mono_learn.specs.Levels.{level_by, highest_of}
@@ -42,45 +42,19 @@ all_implied t start s one e = record { at = λ k lt in_list d. implied_after 0 t
 pub none_decided : (t : TrailView) (k : ℕ) → IsSound t → t.level ≡ 0 → k < length t.lits → reason_at t.marks k ≡ Decided → ⊥
 none_decided t k s z lt d = implied_on 0 t.marks t.level k s.climbs (omega (arith, z)) (omega (arith, lt, s.as_many)) d
 
--- the marks before a level's end are not above it
-pub level_low : (j : ℕ) (ms : List Mark) (k : ℕ) → k < count_to j ms → level_at ms k ≤ j
-level_low j [] k h = absurd (omega arith)
-level_low j (m ∷ ms) zero h = by_level (nat_le m.level j) refl h
-  where
-    by_level : (b : Bool) → nat_le m.level j ≡ b → 0 < cond b (count_to j ms + 1) 0 → m.level ≤ j
-    by_level true e g = leb-true m.level j e
-    by_level false e g = absurd (omega arith)
-level_low j (m ∷ ms) (suc k) h = level_low j ms k (by_level (nat_le m.level j) h)
-  where
-    by_level : (b : Bool) → suc k < cond b (count_to j ms + 1) 0 → k < count_to j ms
-    by_level true g = omega arith
-    by_level false g = absurd (omega arith)
-
-level_top : (low : ℕ) (ms : List Mark) (top k : ℕ) → Climbs low ms top → top ≤ low → k < length ms → level_at ms k ≡ top
-level_top low [] top k c le lt = absurd (omega arith)
-level_top low (m ∷ ms) top zero c le lt = omega (arith, c.0, next_at_least m.reason low, climbs_to m.level ms top c.1, le)
-level_top low (m ∷ ms) top (suc k) c le lt = level_top m.level ms top k c.1 (omega (arith, c.0, next_at_least m.reason low, le)) (omega arith)
-
 -- from the present level's decision on, each mark is of that level
 pub level_high : (low : ℕ) (ms : List Mark) (top k : ℕ) → Climbs low ms top → 1 ≤ top → count_to (top - 1) ms ≤ k → k < length ms → level_at ms k ≡ top
-level_high low [] top k c one le lt = absurd (omega arith)
-level_high low (m ∷ ms) top zero c one le lt = by_level (nat_le m.level (top - 1)) refl le
-  where
-    by_level : (b : Bool) → nat_le m.level (top - 1) ≡ b → cond b (count_to (top - 1) ms + 1) 0 ≤ 0 → m.level ≡ top
-    by_level true e g = absurd (omega arith)
-    by_level false e g = omega (arith, leb-false m.level (top - 1) e, climbs_to m.level ms top c.1)
-level_high low (m ∷ ms) top (suc k) c one le lt = by_level (nat_le m.level (top - 1)) refl le (λ h. level_high m.level ms top k c.1 one h (omega arith))
-  where
-    by_level : (b : Bool) → nat_le m.level (top - 1) ≡ b → cond b (count_to (top - 1) ms + 1) 0 ≤ suc k → (count_to (top - 1) ms ≤ k → level_at ms k ≡ top) → level_at ms k ≡ top
-    by_level true e g ih = ih (omega arith)
-    by_level false e g ih = level_top m.level ms top k c.1 (omega (arith, leb-false m.level (top - 1) e)) (omega arith)
+level_high low ms top k c one le lt = elim (cases_lt (top - 1) (level_at ms k)) [
+  | inl above ↦ omega (arith, above, at_most low ms top k c lt, one)
+  | inr up_to ↦ absurd (omega (arith, le, (up_to_level low ms top (top - 1) k c lt).1 up_to))
+]
 
 -- the level of a false literal is that of its place
 pub level_is : (t : TrailView) (n : ℕ) (l : ℤ) → IsSound t → (f : FalseBy t.lits n l) → level_by t l ≡ level_at t.marks f.place
 level_is t n l s f = ap (λ (o : Option ℕ). unwrap_or (option_map (level_at t.marks) o) 0) (place_of_false t.lits n l s.partial f)
 
 pub level_before : (t : TrailView) (start n : ℕ) (l : ℤ) → IsSound t → 1 ≤ t.level → start ≡ count_to (t.level - 1) t.marks → (f : FalseBy t.lits n l) → f.place < start → level_by t l < t.level
-level_before t start n l s one e f lt = omega (arith, level_is t n l s f, level_low (t.level - 1) t.marks f.place (omega (arith, lt, e)), one)
+level_before t start n l s one e f lt = omega (arith, level_is t n l s f, kept_low (t.level - 1) t.marks f.place (omega (arith, lt, e)), one)
 
 pub level_after : (t : TrailView) (start n : ℕ) (l : ℤ) → IsSound t → 1 ≤ t.level → start ≡ count_to (t.level - 1) t.marks → (f : FalseBy t.lits n l) → start ≤ f.place → level_by t l ≡ t.level
 level_after t start n l s one e f le = level_is t n l s f ∙ level_high 0 t.marks t.level f.place s.climbs one (omega (arith, le, e)) (omega (arith, f.within, s.as_many))
@@ -91,7 +65,7 @@ present_high t start l one e w = by_place (nat_le start w.place) refl
   where
     by_place : (b : Bool) → nat_le start w.place ≡ b → start ≤ w.place
     by_place true g = leb-true start w.place g
-    by_place false g = absurd (omega (arith, level_low (t.level - 1) t.marks w.place (omega (arith, e, leb-false start w.place g)), w.at, one))
+    by_place false g = absurd (omega (arith, kept_low (t.level - 1) t.marks w.place (omega (arith, e, leb-false start w.place g)), w.at, one))
 
 -- a false literal's negation stands at the literal's level
 pub stands_at_level : (t : TrailView) (n : ℕ) (l : ℤ) → IsSound t → (f : FalseBy t.lits n l) → StandsAt t (neg_ℤ l) (level_by t l)

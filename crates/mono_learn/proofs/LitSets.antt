@@ -1,12 +1,13 @@
 -- Lists of literals as sets.
-use Rattle.std.proofs.Common.{◌≡◌, ℕ, zero, suc, Bool, true, false, List, [], ◌∷◌, ◌++◌, get_or, length, ◌<◌, refl, sym, subst, ◌∙◌, ◌⊎◌, inl, inr, ℤ, arith}
+use Rattle.std.proofs.Common.{◌≡◌, ℕ, zero, suc, Bool, true, false, not, List, [], ◌∷◌, ◌++◌, get_or, length, ◌<◌, sym, subst, ◌∙◌, ◌⊎◌, inl, inr, ℤ, arith}
 use Rattle.std.specs.Prelude.{IsTrue}
 use Rattle.std.specs.Ordering.{int_eq}
-use Rattle.std.proofs.lemmas.Bool.{or_cases, or_left, or_right, cases_Bool}
+use Rattle.std.proofs.lemmas.Bool.{and_parts, and_from, or_cases, or_left, or_right, cases_Bool, not-true, not_from_false}
 use Rattle.std.proofs.lemmas.Bool.Decides.{Decides-int_eq}
 use Rattle.std.proofs.lemmas.List.Folds.{list_any-append}
 use Rattle.mono_base.specs.Literal.{has_lit, without}
 use Rattle.mono_base.proofs.Truth.{same_lit, lit_itself}
+use Rattle.mono_steps.proofs.Sets.{has-without as without_is}
 
 pub true_false : (b : Bool) → b ≡ true → b ≡ false → ⊥
 true_false b t f = let e : true ≡ false = sym t ∙ f in cc
@@ -26,32 +27,12 @@ has-append_cases c d l h = or_cases (has_lit c l) (has_lit d l) (sym (list_any-a
 
 -- what a list has without a literal
 pub without_has : (c : List ℤ) (x l : ℤ) → IsTrue (has_lit (without c x) l) → IsTrue (has_lit c l) × (l ≡ x → ⊥)
-without_has [] x l h = absurd cc
-without_has (m ∷ c) x l h = by_head (cases_Bool (int_eq x m)) (λ k. let r = without_has c x l k in (or_right (int_eq l m) (has_lit c l) r.0, r.1))
-  where
-    by_head : (int_eq x m ≡ true) ⊎ (int_eq x m ≡ false) → (IsTrue (has_lit (without c x) l) → IsTrue (has_lit (m ∷ c) l) × (l ≡ x → ⊥)) → IsTrue (has_lit (m ∷ c) l) × (l ≡ x → ⊥)
-    by_head (inl e) later = later (rw e at h)
-    by_head (inr e) later =
-        elim (or_cases (int_eq l m) (has_lit (without c x) l) (rw e at h)) [
-          | inl s ↦ (or_left (int_eq l m) (has_lit c l) s, λ at. true_false (int_eq x m) ((Decides-int_eq x m).1 (sym at ∙ same_lit l m s)) e)
-          | inr k ↦ later k
-        ]
+without_has c x l h =
+    let a = and_parts (not (int_eq x l)) (has_lit c l) (sym (without_is c x l) ∙ h) in
+    (a.1, λ s. true_false (int_eq x l) ((Decides-int_eq x l).1 (sym s)) (not-true (int_eq x l) a.0))
 
 pub has-without : (c : List ℤ) (x l : ℤ) → (l ≡ x → ⊥) → IsTrue (has_lit c l) → IsTrue (has_lit (without c x) l)
-has-without [] x l n h = h
-has-without (m ∷ c) x l n h = by_head (cases_Bool (int_eq x m)) (λ k. has-without c x l n k)
-  where
-    by_head : (int_eq x m ≡ true) ⊎ (int_eq x m ≡ false) → (IsTrue (has_lit c l) → IsTrue (has_lit (without c x) l)) → IsTrue (has_lit (without (m ∷ c) x) l)
-    by_head (inl e) ih =
-        elim (or_cases (int_eq l m) (has_lit c l) h) [
-          | inl s ↦ absurd (n (same_lit l m s ∙ sym (same_lit x m e)))
-          | inr k ↦ rw e (ih k)
-        ]
-    by_head (inr e) ih =
-        elim (or_cases (int_eq l m) (has_lit c l) h) [
-          | inl s ↦ rw e (or_left (int_eq l m) (has_lit (without c x) l) s)
-          | inr k ↦ rw e (or_right (int_eq l m) (has_lit (without c x) l) (ih k))
-        ]
+has-without c x l n h = without_is c x l ∙ and_from (not (int_eq x l)) (has_lit c l) (not_from_false (int_eq x l) (lits_differ x l (λ s. n (sym s)))) h
 
 -- what stands in a list, it has
 pub has_at : (c : List ℤ) (k : ℕ) (d : ℤ) → k < length c → IsTrue (has_lit c (get_or c k d))
@@ -65,12 +46,6 @@ has_read c k l lt e = subst (λ (m : ℤ). IsTrue (has_lit c m)) (sym e) (has_at
 
 pub same_if : (l x : ℤ) → ((l ≡ x → ⊥) → ⊥) → l ≡ x
 same_if l x nn = elim (cases_Bool (int_eq l x)) [ inl e ↦ same_lit l x e | inr e ↦ absurd (nn (λ s. true_false (int_eq l x) ((Decides-int_eq l x).1 s) e)) ]
-
--- two lists with the same literals
-pub same_has : (b d : Bool) → (IsTrue b → IsTrue d) → (IsTrue d → IsTrue b) → b ≡ d
-same_has true d f g = sym (f refl)
-same_has false true f g = g refl
-same_has false false f g = refl
 
 -- one literal more at the end
 pub has_one : (e : List ℤ) (l : ℤ) → IsTrue (has_lit (e ++ l ∷ []) l)

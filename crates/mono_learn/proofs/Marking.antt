@@ -1,6 +1,7 @@
 -- How marking a place changes the marks.
 use Rattle.std.proofs.Common.{◌≡◌, ◌≢◌, ℕ, zero, suc, ◌+◌, ◌<◌, ◌≤◌, Bool, true, false, List, [], ◌∷◌, ◌++◌, length, set, refl, sym, ap, subst, ◌∙◌, ◌⊎◌, inl, inr, ℤ, neg_ℤ, arith, get_or-set_same, get_or-set_other}
 use Rattle.std.specs.Prelude.{IsTrue, Contains}
+use Rattle.std.proofs.lemmas.Bool.{cases_eq}
 use Rattle.std.proofs.lemmas.List.{length-set}
 use Rattle.mono_base.specs.Literal.{has_lit, lit_at}
 use Rattle.mono_learn.proofs.LitSets.{has-append_left, has_one, one_cases}
@@ -52,34 +53,9 @@ has_mark zero (true ∷ bs) h = record { place = 0; from = omega arith; marked =
 has_mark zero (false ∷ bs) h = let r = has_mark zero bs (omega (arith, h)) in record { place = suc r.place; from = omega arith; marked = r.marked }
 has_mark (suc s) (x ∷ bs) h = let r = has_mark s bs h in record { place = suc r.place; from = omega (arith, r.from); marked = r.marked }
 
-same_or_other : (k p : ℕ) → (k ≡ p) ⊎ (k ≢ p)
-same_or_other zero zero = inl refl
-same_or_other zero (suc p) = inr (λ e. omega arith)
-same_or_other (suc k) zero = inr (λ e. omega arith)
-same_or_other (suc k) (suc p) = up (same_or_other k p)
-  where
-    up : (k ≡ p) ⊎ (k ≢ p) → (suc k ≡ suc p) ⊎ (suc k ≢ suc p)
-    up (inl e) = inl (ap suc e)
-    up (inr n) = inr (λ e. n (omega arith))
-
-some_less : (s p : ℕ) → (p < s) ⊎ (s ≤ p)
-some_less zero p = inr (omega arith)
-some_less (suc s) zero = inl (omega arith)
-some_less (suc s) (suc p) = up (some_less s p)
-  where
-    up : (p < s) ⊎ (s ≤ p) → (suc p < suc s) ⊎ (suc s ≤ suc p)
-    up (inl a) = inl (omega arith)
-    up (inr a) = inr (omega arith)
-
-pub by_place : (s p : ℕ) → (p < s) ⊎ (s ≤ p)
-by_place = some_less
-
-pub by_same : (k p : ℕ) → (k ≡ p) ⊎ (k ≢ p)
-by_same = same_or_other
-
 -- what is marked stays so
 stays : (seen : List Bool) (p k : ℕ) → p < length seen → is_marked seen k ≡ true → is_marked (set seen p true) k ≡ true
-stays seen p k lt on = elim (same_or_other k p) [
+stays seen p k lt on = elim (cases_eq k p) [
   | inl e ↦ rw e (get_or-set_same seen p true false lt)
   | inr n ↦ get_or-set_other seen p k true false n ∙ on
 ]
@@ -89,7 +65,7 @@ was seen p k n on = sym (get_or-set_other seen p k true false n) ∙ on
 
 -- what is unmarked
 pub unmarked : (seen : List Bool) (p k : ℕ) → is_marked (set seen p false) k ≡ true → (k ≢ p) × (is_marked seen k ≡ true)
-unmarked seen p k on = by_place (same_or_other k p)
+unmarked seen p k on = by_place (cases_eq k p)
   where
     off : (k ≡ p) → is_marked seen p ≡ true → ⊥
     off e h = let z : is_marked (set seen p false) p ≡ false = get_or-set_same seen p false false (marked_within p seen h) in (let w : false ≡ true = sym z ∙ subst (λ (j : ℕ). is_marked (set seen p false) j ≡ true) e on in cc)
@@ -120,13 +96,13 @@ more_only t seen p n l e lt low at old m h = elim (one_cases e l m h) [
 ]
 
 more_all : (t : List ℤ) (seen : List Bool) (p n : ℕ) (l : ℤ) (e : List ℤ) → lit_at t p ≡ neg_ℤ l → ((m : ℤ) → MarkedBy t seen n m → IsTrue (has_lit e m)) → (m : ℤ) → MarkedBy t (set seen p true) n m → IsTrue (has_lit (e ++ l ∷ []) m)
-more_all t seen p n l e at old m k = elim (same_or_other k.place p) [
+more_all t seen p n l e at old m k = elim (cases_eq k.place p) [
   | inl s ↦ subst (λ (x : ℤ). IsTrue (has_lit (e ++ l ∷ []) x)) (sym (same_neg (lit_at t p) m l at (sym (ap (lit_at t) s) ∙ k.there))) (has_one e l)
   | inr d ↦ has-append_left e (l ∷ []) m (old m (record { place = k.place; below = k.below; there = k.there; marked = was seen p k.place d k.marked }))
 ]
 
 more_below : (seen : List Bool) (p top : ℕ) → p < top → ((k : ℕ) → is_marked seen k ≡ true → k < top) → (k : ℕ) → is_marked (set seen p true) k ≡ true → k < top
-more_below seen p top lt old k on = elim (same_or_other k p) [ inl e ↦ omega (arith, e, lt) | inr n ↦ old k (was seen p k n on) ]
+more_below seen p top lt old k on = elim (cases_eq k p) [ inl e ↦ omega (arith, e, lt) | inr n ↦ old k (was seen p k n on) ]
 
 -- a place is marked
 marked_more : (t : List ℤ) (top : ℕ) (seen : List Bool) (e : List ℤ) (p : ℕ) (l : ℤ) → IsMarked t top seen e → p < top → lit_at t p ≡ neg_ℤ l → IsMarked t top (set seen p true) (e ++ l ∷ [])
@@ -146,7 +122,7 @@ marks_low t start top seen kept count e p l f high low at = record {
   marks = marked_more t top seen e p l f.marks high at;
   counted = f.counted ∙ sym (mark_below start p seen true low);
   kept_only = λ k h. elim (Contains-push_cases kept p k h) [ inl a ↦ f.kept_only k a | inr s ↦ omega (arith, s, low) ];
-  kept_all = λ k lt on. elim (same_or_other k p) [
+  kept_all = λ k lt on. elim (cases_eq k p) [
     | inl s ↦ subst (λ (j : ℕ). Contains (kept ++ p ∷ []) j) (sym s) (Contains-push kept p)
     | inr d ↦ Contains-append_left kept (p ∷ []) k (f.kept_all k lt (was seen p k d on))
   ];

@@ -2,14 +2,14 @@
 use Rattle.std.proofs.Common.{◌≡◌, ◌≢◌, ℕ, zero, suc, ◌+◌, ◌-◌, ◌<◌, ◌≤◌, Bool, true, false, List, [], ◌∷◌, ◌++◌, length, take, get_or, set, refl, sym, ap, subst, ◌∙◌, ◌⊎◌, inl, inr, ℤ, neg_ℤ, arith}
 use Rattle.std.specs.Prelude.{IsTrue, Some, nat_le, ◌&&◌, Contains}
 use Rattle.std.specs.List.Sorted.{IsPermutation}
-use Rattle.std.proofs.lemmas.Bool.{and_from, le-leb, cases_Bool}
+use Rattle.std.proofs.lemmas.Bool.{and_from, le-leb, cases_Bool, cases_eq, cases_lt, false_from_ne_true}
 use Rattle.std.proofs.lemmas.Option.{same_Some}
 use Rattle.std.proofs.lemmas.List.Sorted.{Contains-permutation, IsPermutation-sym}
 use Rattle.mono_base.specs.Literal.{var_of, has_lit, without, within, lit_at}
+use Rattle.mono_graph.proofs.Membership.{same_truth}
 use Rattle.mono_problem.specs.Instance.{Instance, numbered}
-use Rattle.mono_steps.specs.declared.step.Chain.{Chain}
-use Rattle.mono_steps.specs.Chains.{chain_end}
-use Rattle.mono_steps.specs.ChainSteps.{clauses_named, names_clauses, names_vars, covers, is_justified_chain}
+use Rattle.mono_steps.specs.ChainSteps.{names_vars}
+use Rattle.mono_steps.proofs.CarriedSteps.{before_or_last}
 use Rattle.mono_trail.specs.TrailView.{TrailView, IsSound, count_to, StandsAt}
 use Rattle.mono_trail.specs.Seen.{is_marked, IsUnseen}
 use Rattle.mono_learn.specs.declared.resolvent.Resolvent.{Resolvent}
@@ -23,13 +23,13 @@ use Rattle.mono_learn.specs.Resolving.{IsAtLast, HasMinimized}
 use Rattle.mono_trail.specs.declared.reason.Reason.TheVariants.{Clause}
 use Rattle.mono_trail.specs.Places.{level_at, reason_at}
 use Rattle.mono_learn.specs.Minimizing.{IsCovered, IsUncovered, IsKeptFor, AreKept, IsWhole, AreLeft}
-use Rattle.mono_learn.proofs.LitSets.{has-append_left, has-append_cases, same_has, true_false, has_one, one_cases}
+use Rattle.mono_learn.proofs.LitSets.{has-append_left, has-append_cases, true_false, has_one, one_cases}
 use Rattle.mono_base.proofs.Partials.{neg-neg}
 use Rattle.mono_base.proofs.Truth.{same_lit, at_each, from_each}
 use Rattle.std.specs.Ordering.{int_eq}
 use Rattle.std.proofs.lemmas.Bool.Decides.{Decides-int_eq}
 use Rattle.mono_learn.proofs.Joining.{without_more, without_same}
-use Rattle.mono_learn.proofs.Marking.{mark_less, by_place, by_same, unmarked, stays_other}
+use Rattle.mono_learn.proofs.Marking.{mark_less, unmarked, stays_other}
 use Rattle.mono_learn.proofs.PlacesOfLits.{one_place, is_var_false}
 use Rattle.mono_learn.proofs.LevelsByPlace.{level_before, level_after, level_high, stands_at_level, highest_has, highest_reached}
 use Rattle.mono_learn.proofs.ResolvingSteps.{marked_false, marked_less, goes_on}
@@ -45,7 +45,7 @@ minimized_start cs t start place m kept used a perm = record {
   high = a.high;
   within = a.within;
   marked = a.marked;
-  one = λ k from on. last k from on (by_same k place);
+  one = λ k from on. last k from on (cases_eq k place);
   kept_only = λ k h. a.come.resolvent.kept_only k (Contains-permutation kept m.kept.items k (IsPermutation-sym m.kept.items kept perm) h);
   kept_all = λ k lt on. Contains-permutation m.kept.items kept k perm (a.come.resolvent.kept_all k lt on);
 }
@@ -97,16 +97,13 @@ minimizes cs t start place q n seen kept used used' r s h low on w is covered eu
 pub kept_none : (t : List ℤ) (start : ℕ) (seen : List Bool) (kept : List ℕ) → AreKept t start seen kept 0 []
 kept_none t start seen kept = record { only = λ l h. absurd cc; all = λ j lt on. absurd (omega arith) }
 
-at_or_below : (j i : ℕ) → j < i + 1 → (j < i) ⊎ (j ≡ i)
-at_or_below j i lt = elim (by_place i j) [ inl a ↦ inl a | inr b ↦ inr (omega arith) ]
-
 pub kept_more : (t : List ℤ) (start : ℕ) (seen : List Bool) (kept : List ℕ) (i k : ℕ) (x : ℤ) (lits lits' : List ℤ) → AreKept t start seen kept i lits → k ≡ get_or kept i 0 → k < start → is_marked seen k ≡ true → x ≡ neg_ℤ (lit_at t k) → lits' ≡ lits ++ x ∷ [] → AreKept t start seen kept (i + 1) lits'
 kept_more t start seen kept i k x lits lits' h is low on ex e = record {
   only = λ l has. elim (one_cases lits x l (subst (λ (c : List ℤ). IsTrue (has_lit c l)) e has)) [
     | inl a ↦ h.only l a
     | inr s ↦ record { place = k; below = low; there = sym (ap neg_ℤ (s ∙ ex) ∙ neg-neg (lit_at t k)); marked = on }
   ];
-  all = λ j lt m. subst (λ (c : List ℤ). IsTrue (has_lit c (neg_ℤ (lit_at t (get_or kept j 0))))) (sym e) (elim (at_or_below j i lt) [
+  all = λ j lt m. subst (λ (c : List ℤ). IsTrue (has_lit c (neg_ℤ (lit_at t (get_or kept j 0))))) (sym e) (elim (before_or_last j i lt) [
     | inl a ↦ has-append_left lits (x ∷ []) (neg_ℤ (lit_at t (get_or kept j 0))) (h.all j a m)
     | inr s ↦ subst (λ (y : ℤ). IsTrue (has_lit (lits ++ x ∷ []) y)) (ex ∙ ap (λ (n : ℕ). neg_ℤ (lit_at t n)) (is ∙ ap (λ (n : ℕ). get_or kept n 0) (sym s))) (has_one lits x)
   ]);
@@ -115,7 +112,7 @@ kept_more t start seen kept i k x lits lits' h is low on ex e = record {
 pub kept_skip : (t : List ℤ) (start : ℕ) (seen : List Bool) (kept : List ℕ) (i k : ℕ) (lits : List ℤ) → AreKept t start seen kept i lits → k ≡ get_or kept i 0 → is_marked seen k ≡ false → AreKept t start seen kept (i + 1) lits
 kept_skip t start seen kept i k lits h is off = record {
   only = h.only;
-  all = λ j lt m. elim (at_or_below j i lt) [
+  all = λ j lt m. elim (before_or_last j i lt) [
     | inl a ↦ h.all j a m
     | inr s ↦ absurd (let z : true ≡ false = sym m ∙ ap (λ (n : ℕ). is_marked seen (get_or kept n 0)) s ∙ ap (is_marked seen) (sym is) ∙ off in cc)
   ];
@@ -123,7 +120,7 @@ kept_skip t start seen kept i k lits h is off = record {
 
 pub whole : (cs : List (List ℤ)) (t : TrailView) (start place : ℕ) (seen : List Bool) (kept used : List ℕ) (i : ℕ) (others : List ℤ) (x : ℤ) → IsSound t → HasMinimized cs t.lits start place seen kept used → AreKept t.lits start seen kept i others → length kept ≤ i → x ≡ neg_ℤ (lit_at t.lits place) → IsWhole cs t start place others x used
 whole cs t start place seen kept used i others x s h a all_in ex = record {
-  exact = record { end = h.end; is_end = h.is_end; named = h.named; same = λ l. same_has (has_lit (others ++ x ∷ []) l) (has_lit h.end l) (to_end l) (from_end l) };
+  exact = record { end = h.end; is_end = h.is_end; named = h.named; same = λ l. same_truth (has_lit (others ++ x ∷ []) l) (has_lit h.end l) (to_end l) (from_end l) };
   last = record { place = place; below = h.within; within = h.within; there = sym (ap neg_ℤ ex ∙ neg-neg (lit_at t.lits place)) };
   high = h.high;
   low = record { are = λ l has. let m = a.only l has in record { place = m.place; below = m.below; within = omega (arith, h.marks.below m.place m.marked, h.marks.within); there = m.there } };
@@ -156,7 +153,7 @@ whole cs t start place seen kept used i others x s h a all_in ex = record {
         subst (λ (y : ℤ). IsTrue (has_lit (others ++ x ∷ []) y)) (ex ∙ ap (λ (n : ℕ). neg_ℤ (lit_at t.lits n)) (sym at) ∙ named_by l m.place m.there) (has_one others x)
 
     from_end : (l : ℤ) → IsTrue (has_lit h.end l) → IsTrue (has_lit (others ++ x ∷ []) l)
-    from_end l has = let m = h.marks.only l has in by_level l m (by_place start m.place)
+    from_end l has = let m = h.marks.only l has in by_level l m (cases_lt m.place start)
 
 -- what the whole clause teaches
 pub teaches : (cs : List (List ℤ)) (t : TrailView) (start place back : ℕ) (others c : List ℤ) (x : ℤ) (used : List ℕ) → IsSound t → 1 ≤ t.level → start ≡ count_to (t.level - 1) t.marks → IsWhole cs t start place others x used → back ≡ highest_of t others → c ≡ others ++ x ∷ [] → IsLearnt t c back
@@ -191,20 +188,13 @@ learnt_false t c back a l h = by_lit (cases_Bool (int_eq l a.lit))
     by_lit (inl e) = let w = a.present in record { place = w.place; below = w.within; within = w.within; there = w.there ∙ ap neg_ℤ (sym (same_lit l a.lit e)) }
     by_lit (inr e) = let o = a.others l h (λ at. true_false (int_eq l a.lit) ((Decides-int_eq l a.lit).1 at) e) in stands o.0 o.2
 
--- a chain with its end is justified
-pub end_justified : (p : Instance) (cs : List (List ℤ)) (t : TrailView) (chain : Chain) → IsSound t → t.vars ≡ p.vars → ((l : ℤ) → IsTrue (has_lit chain.clause l) → FalseBy t.lits (length t.lits) l) → IsExactEnd cs chain → IsTrue (is_justified_chain p cs chain)
-end_justified p cs t chain s ev are_false a =
-    and_from (names_vars p chain.clause && names_clauses cs chain.used) (covers chain.clause (chain_end (clauses_named cs chain.used)))
-    (and_from (names_vars p chain.clause) (names_clauses cs chain.used)
-    (from_each (λ l. nat_le 1 (var_of l) && nat_le (var_of l) p.vars) chain.clause (λ l h. let v = is_var_false t (length t.lits) l s (are_false l h) in and_from (nat_le 1 (var_of l)) (nat_le (var_of l) p.vars) (le-leb 1 (var_of l) v.0) (le-leb (var_of l) p.vars (omega (arith, v.1, ev)))))
-    a.named)
-    (rw a.is_end (from_each (has_lit chain.clause) a.end (λ l h. a.same l ∙ h)))
+-- a clause whose literals are all false on a trail names variables of the problem
+pub false_vars : (p : Instance) (t : TrailView) (c : List ℤ) → IsSound t → t.vars ≡ p.vars → ((l : ℤ) → IsTrue (has_lit c l) → FalseBy t.lits (length t.lits) l) → IsTrue (names_vars p c)
+false_vars p t c s ev are_false = from_each (λ l. nat_le 1 (var_of l) && nat_le (var_of l) p.vars) c (λ l h.
+    let v = is_var_false t (length t.lits) l s (are_false l h) in
+    and_from (nat_le 1 (var_of l)) (nat_le (var_of l) p.vars) (le-leb 1 (var_of l) v.0) (le-leb (var_of l) p.vars (omega (arith, v.1, ev))))
 
 -- ---- the marks are taken away
-
-false_or_true : (b : Bool) → (b ≡ true → ⊥) → b ≡ false
-false_or_true true n = absurd (n refl)
-false_or_true false n = refl
 
 pub left_start : (seen : List Bool) (kept : List ℕ) (place : ℕ) → AreLeft seen (set seen place false) kept place 0
 left_start seen kept place = record { stays = λ k on. (unmarked seen place k on).1; gone = λ k on. (unmarked seen place k on).0; gone_kept = λ j lt. absurd (omega arith) }
@@ -213,14 +203,14 @@ pub left_more : (seen now : List Bool) (kept : List ℕ) (place i k : ℕ) → k
 left_more seen now kept place i k is h = record {
   stays = λ j on. h.stays j (unmarked now k j on).1;
   gone = λ j on. h.gone j (unmarked now k j on).1;
-  gone_kept = λ j lt. false_or_true (is_marked (set now k false) (get_or kept j 0)) (λ on. elim (at_or_below j i lt) [
+  gone_kept = λ j lt. false_from_ne_true (is_marked (set now k false) (get_or kept j 0)) (λ on. elim (before_or_last j i lt) [
     | inl a ↦ (let z : true ≡ false = sym (unmarked now k (get_or kept j 0) on).1 ∙ h.gone_kept j a in cc)
     | inr s ↦ (unmarked now k (get_or kept j 0) on).0 (ap (λ (n : ℕ). get_or kept n 0) s ∙ sym is)
   ]);
 }
 
 pub all_gone : (cs : List (List ℤ)) (t : List ℤ) (start place : ℕ) (seen now : List Bool) (kept used : List ℕ) (i : ℕ) → HasMinimized cs t start place seen kept used → AreLeft seen now kept place i → length kept ≤ i → IsUnseen now
-all_gone cs t start place seen now kept used i h a le = record { unmarked = λ k. false_or_true (is_marked now k) (λ on. by_level k on (by_place start k)) }
+all_gone cs t start place seen now kept used i h a le = record { unmarked = λ k. false_from_ne_true (is_marked now k) (λ on. by_level k on (cases_lt k start)) }
   where
     in_range : (ks : List ℕ) (j d : ℕ) → j < length ks → get_or ks j 0 ≡ get_or ks j d
     in_range [] j d lt = absurd (omega arith)
@@ -250,7 +240,7 @@ pub kept_for_fewer : (cs : List (List ℤ)) (t : TrailView) (old new : List Bool
 kept_for_fewer cs t old new k fewer h = record {
   why = λ n r on e is.
       let u = h.why n r (fewer k on) e is in
-      record { lit = u.lit; has = u.has; open_by = record { by = u.open_by.by; off = false_or_true (is_marked new u.open_by.by.place) (λ m. true_false (is_marked old u.open_by.by.place) (fewer u.open_by.by.place m) u.open_by.off) } };
+      record { lit = u.lit; has = u.has; open_by = record { by = u.open_by.by; off = false_from_ne_true (is_marked new u.open_by.by.place) (λ m. true_false (is_marked old u.open_by.by.place) (fewer u.open_by.by.place m) u.open_by.off) } };
 }
 
 pub kept_for_other : (cs : List (List ℤ)) (t : TrailView) (seen : List Bool) (k : ℕ) → ((n : ℕ) → reason_at t.marks k ≡ Clause n → ⊥) → IsKeptFor cs t seen k
@@ -289,10 +279,10 @@ minimal_is cs t start last seen kept used c s one es h e needed = record { at = 
     at : (k n : ℕ) (r : List ℤ) → k < length t.lits → level_at t.marks k < t.level → IsTrue (has_lit c (neg_ℤ (lit_at t.lits k))) → reason_at t.marks k ≡ Clause n → numbered cs n ≡ Some r → within (without r (lit_at t.lits k)) c ≡ false
     at k n r lt low has why is =
         let on : is_marked seen k ≡ true = marked_at (neg_ℤ (lit_at t.lits k)) k lt (sym (neg-neg (lit_at t.lits k))) has in
-        let held = h.kept_all k (below_start k lt low (by_place start k)) on in
+        let held = h.kept_all k (below_start k lt low (cases_lt k start)) on in
         let found : get_or kept held.0 0 ≡ k = in_range kept held.0 k held.1 ∙ held.2 in
         let u = (subst (IsKeptFor cs t seen) found (needed held.0 held.1)).why n r on why is in
-        false_or_true (within (without r (lit_at t.lits k)) c) (λ all.
+        false_from_ne_true (within (without r (lit_at t.lits k)) c) (λ all.
         true_false (is_marked seen u.open_by.by.place) (marked_at u.lit u.open_by.by.place u.open_by.by.within u.open_by.by.there (at_each (has_lit c) (without r (lit_at t.lits k)) all u.lit u.has)) u.open_by.off)
 
 -- what is finished

@@ -1,7 +1,7 @@
 -- The walk back to the first unique implication point, and the clause that is left of it.
 use Rattle.std.proofs.Common.{◌≡◌, ◌≢◌, ℕ, zero, suc, ◌+◌, ◌-◌, ◌<◌, ◌≤◌, Bool, true, false, List, [], ◌∷◌, ◌++◌, length, get_or, map, set, refl, sym, ap, subst, ◌∙◌, ◌⊎◌, inl, inr, ℤ, neg_ℤ, arith}
 use Rattle.std.specs.Prelude.{IsTrue, Some}
-use Rattle.std.proofs.lemmas.Bool.{cases_Bool}
+use Rattle.std.proofs.lemmas.Bool.{cases_Bool, cases_lt}
 use Rattle.std.proofs.lemmas.Option.{same_Some}
 use Rattle.std.proofs.lemmas.List.Sorted.{IsPermutation-refl}
 use Rattle.mono_base.specs.Literal.{var_of, has_lit, without, lit_at}
@@ -21,6 +21,7 @@ use Rattle.mono_trail.specs.declared.reason.Reason.TheVariants.{Clause}
 use Rattle.mono_trail.specs.Places.{level_at, reason_at}
 use Rattle.mono_trail.specs.Seen.{is_marked}
 use Rattle.mono_trail.specs.TrailView.{TrailView, IsSound, StandsAt, count_to}
+use Rattle.mono_trail.proofs.Levels.{kept_low}
 use Rattle.mono_learn.specs.declared.resolvent.Resolvent.{Resolvent}
 use Rattle.mono_learn.specs.Asked.{AsksFor, AddsChains}
 use Rattle.mono_learn.specs.FirstPoint.{HasTwoPresent, HasOnePresent, StepsBack, ResolvesBack, LeadsTo, HasResolved, GoesOnWith, IsRedundant, IsMinimized, IsTaught}
@@ -33,9 +34,9 @@ use Rattle.mono_learn.specs.Resolving.{HasCome, IsAtLast, HasMinimized}
 use Rattle.mono_learn.proofs.Asking.{clauses_asked, come_asked, named_more, was_unit}
 use Rattle.mono_learn.proofs.ChainEnds.{named-push}
 use Rattle.mono_learn.proofs.Learning.{clauses_grown}
-use Rattle.mono_learn.proofs.LevelsByPlace.{level_before, level_high, level_low}
+use Rattle.mono_learn.proofs.LevelsByPlace.{level_before, level_high}
 use Rattle.mono_learn.proofs.LitSets.{true_false}
-use Rattle.mono_learn.proofs.Marking.{by_place, mark_less, has_mark, unmarked}
+use Rattle.mono_learn.proofs.Marking.{mark_less, has_mark, unmarked}
 use Rattle.mono_learn.proofs.PlacesOfLits.{one_place, is_number}
 use Rattle.mono_learn.proofs.Settling.{settles_none, clause_after}
 use Rattle.mono_learn.proofs.MinimizingSteps.{minimized_start}
@@ -166,7 +167,7 @@ point cs t start last m used s one es a = record {
   lit = neg_ℤ (lit_at t.lits last);
   has = a.come.resolvent.marks.all (neg_ℤ (lit_at t.lits last)) (record { place = last; below = omega arith; there = sym (neg-neg (lit_at t.lits last)); marked = a.marked });
   present = record { place = last; within = a.within; there = sym (neg-neg (lit_at t.lits last)); at = level_high 0 t.marks t.level last s.climbs one (omega (arith, a.high, es)) (omega (arith, a.within, s.as_many)) };
-  others = λ l h n. let w = a.come.resolvent.marks.only l h in lower l w n (by_place start w.place);
+  others = λ l h n. let w = a.come.resolvent.marks.only l h in lower l w n (cases_lt w.place start);
 }
   where
     only : HasMinimized cs t.lits start last m.seen.items m.kept.items used
@@ -215,7 +216,7 @@ minimized cs t start last m seen kept used used' c s one es a h x d = record {
     stays : (k : ℕ) → k < length t.lits → IsTrue (has_lit c (neg_ℤ (lit_at t.lits k))) → IsRedundant cs t a.come.end k → ⊥
     stays k lt has r =
         let on : is_marked seen k ≡ true = found seen k lt (to_new (neg_ℤ (lit_at t.lits k)) has) in
-        let held = h.kept_all k (low_place k lt r.lower (by_place start k)) on in
+        let held = h.kept_all k (low_place k lt r.lower (cases_lt k start)) on in
         let at : get_or kept held.0 0 ≡ k = in_range kept held.0 k held.1 ∙ held.2 in
         let redundant : IsRedundantAt cs t m.seen.items k = record {
           number = r.number;
@@ -232,7 +233,7 @@ minimized cs t start last m seen kept used used' c s one es a h x d = record {
         let on : is_marked m.seen.items k ≡ true = found m.seen.items k lt (a.come.resolvent.marks.only (neg_ℤ (lit_at t.lits k)) has) in
         let r = d.gone k on fell in
         record {
-          lower = lower k on fell (by_place start k);
+          lower = lower k on fell (cases_lt k start);
           number = r.number;
           why = r.why;
           reason = r.reason;
@@ -241,7 +242,7 @@ minimized cs t start last m seen kept used used' c s one es a h x d = record {
         }
       where
         lower : (j : ℕ) → is_marked m.seen.items j ≡ true → is_marked seen j ≡ false → (j < start) ⊎ (start ≤ j) → level_at t.marks j < t.level
-        lower j stood gone (inl low) = omega (arith, level_low (t.level - 1) t.marks j (omega (arith, low, es)), one)
+        lower j stood gone (inl low) = omega (arith, kept_low (t.level - 1) t.marks j (omega (arith, low, es)), one)
         lower j stood gone (inr high) = absurd (true_false (is_marked seen last) h.marked (subst (λ (q : ℕ). is_marked seen q ≡ false) (only.one j high stood) gone))
 
 pub taught : (cs : List (List ℤ)) (t : TrailView) (last conflict : ℕ) (m : Resolvent) (seen : List Bool) (kept used used' : List ℕ) (c : List ℤ) → IsSound t → 1 ≤ t.level → IsAtLast cs t.lits (count_to (t.level - 1) t.marks) last m used → HasMinimized cs t.lits (count_to (t.level - 1) t.marks) last seen kept used' → IsExactEnd cs (record { clause = c; used = used' })

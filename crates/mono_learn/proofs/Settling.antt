@@ -63,7 +63,7 @@ late_was cs t k x m (Late y i) (Late z j) h e = sym h ∙ e
 late_was cs t k x m (Clause n) b h e = sym h ∙ e
 late_was cs t k x m Decided b h e = sym h ∙ e
 
-decided_was : (cs : List (List ℤ)) (t : List ℤ) (k : ℕ) (a b : Reason) → SettledReason cs t k a b → b ≡ Decided → a ≡ Decided
+pub decided_was : (cs : List (List ℤ)) (t : List ℤ) (k : ℕ) (a b : Reason) → SettledReason cs t k a b → b ≡ Decided → a ≡ Decided
 decided_was cs t k (Late y i) (Clause n) h e = absurd cc
 decided_was cs t k (Late y i) Decided h e = absurd cc
 decided_was cs t k (Late y i) (Late z j) h e = absurd cc

@@ -24,7 +24,7 @@ use Rattle.mono_learn.proofs.LitSets.{true_false}
 use Rattle.mono_learn.proofs.PlacesOfLits.{place_in_at}
 
 -- the level at which a literal stands is that of its variable
-stands_level : (t : TrailView) (l : ℤ) (level : ℕ) → IsTrue (is_partial t.lits) → StandsAt t l level → level_by t l ≡ level
+pub stands_level : (t : TrailView) (l : ℤ) (level : ℕ) → IsTrue (is_partial t.lits) → StandsAt t l level → level_by t l ≡ level
 stands_level t l level p w =
     ap (λ (m : ℤ). level_by t m) (sym w.there) ∙ ap (λ (o : Option ℕ). unwrap_or (option_map (level_at t.marks) o) 0) (place_in_at t.lits w.place p w.within) ∙ w.at
 

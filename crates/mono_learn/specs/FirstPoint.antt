@@ -42,7 +42,7 @@ pub record StepsBack (cs : List (List ℤ)) (t : TrailView) (c : List ℤ) (n : 
   pub is : numbered cs n ≡ Some reason
   pub resolved : resolvent c reason ≡ Some e
 
--- such steps with these reasons lead from the clause c to the clause e
+-- steps back with these reasons, one after another, lead from the clause c to the clause e
 abbrev pub ResolvesBack : List (List ℤ) → TrailView → List ℤ → List ℕ → List ℤ → Type 0
 ResolvesBack cs t c [] e = e ≡ c
 ResolvesBack cs t c (n ∷ ns) e = (d : List ℤ) × StepsBack cs t c n d × ResolvesBack cs t d ns e
@@ -82,7 +82,8 @@ pub record IsRedundant (cs : List (List ℤ)) (t : TrailView) (c : List ℤ) (k 
 pub record IsMinimized (cs : List (List ℤ)) (t : TrailView) (c d : List ℤ) : Type 0 where
   pub part : IsTrue (within d c)
   pub stays : (k : ℕ) → k < length t.lits → IsTrue (has_lit d (neg_ℤ (lit_at t.lits k))) → IsRedundant cs t c k → ⊥
-  pub goes : (k : ℕ) → k < length t.lits → IsTrue (has_lit c (neg_ℤ (lit_at t.lits k))) → has_lit d (neg_ℤ (lit_at t.lits k)) ≡ false → IsRedundant cs t c k
+  pub goes : (k : ℕ) → k < length t.lits → IsTrue (has_lit c (neg_ℤ (lit_at t.lits k))) → has_lit d (neg_ℤ (lit_at t.lits k)) ≡ false
+      → IsRedundant cs t c k
 
 -- the clause is what the conflict teaches: that of the first unique implication point, without its redundant literals
 pub record IsTaught (cs : List (List ℤ)) (t : TrailView) (conflict : ℕ) (c : List ℤ) : Type 0 where

@@ -12,4 +12,5 @@ pub record Joins (t : List ℤ) (start : ℕ) (old new : Resolvent) (c : List �
   pub grows : old.count ≤ new.count
   pub counted : new.count ≡ marked_from start new.seen.items
   pub slots : length new.seen.items ≡ length old.seen.items
-  pub resolvent : (top : ℕ) (e : List ℤ) → ((l : ℤ) → IsTrue (has_lit c l) → FalseBy t top l) → StandsFor t start top old e → StandsFor t start top new (e ++ c)
+  pub resolvent : (top : ℕ) (e : List ℤ) → ((l : ℤ) → IsTrue (has_lit c l) → FalseBy t top l) → StandsFor t start top old e
+      → StandsFor t start top new (e ++ c)

@@ -24,7 +24,8 @@ pub record IsLearnt (t : TrailView) (c : List ℤ) (back_to : ℕ) : Type 0 wher
 
 -- a literal of a level below the present one whose reason is a clause is there only where the others of that clause aren't all there
 pub record IsMinimal (cs : List (List ℤ)) (t : TrailView) (c : List ℤ) : Type 0 where
-  pub at : (k n : ℕ) (r : List ℤ) → k < length t.lits → level_at t.marks k < t.level → IsTrue (has_lit c (neg_ℤ (lit_at t.lits k))) → reason_at t.marks k ≡ Clause n → numbered cs n ≡ Some r → within (without r (lit_at t.lits k)) c ≡ false
+  pub at : (k n : ℕ) (r : List ℤ) → k < length t.lits → level_at t.marks k < t.level → IsTrue (has_lit c (neg_ℤ (lit_at t.lits k)))
+      → reason_at t.marks k ≡ Clause n → numbered cs n ≡ Some r → within (without r (lit_at t.lits k)) c ≡ false
 
 -- lemmas that were asked for join the steps, and then the chain with the learned clause, which is exactly its end
 pub record Learns (p : Instance) (t : TrailView) (old new : List Step) (r : Learnt) : Type 0 where

@@ -31,7 +31,8 @@ pub record IsUncovered (t : List ℤ) (seen : List Bool) (c : List ℤ) : Type 0
 
 -- where the place is marked and its reason is a clause, another literal of that clause isn't in the one that the marks stand for
 pub record IsKeptFor (cs : List (List ℤ)) (t : TrailView) (seen : List Bool) (k : ℕ) : Type 0 where
-  pub why : (n : ℕ) (r : List ℤ) → is_marked seen k ≡ true → reason_at t.marks k ≡ Clause n → numbered cs n ≡ Some r → IsUncovered t.lits seen (without r (lit_at t.lits k))
+  pub why : (n : ℕ) (r : List ℤ) → is_marked seen k ≡ true → reason_at t.marks k ≡ Clause n → numbered cs n ≡ Some r
+      → IsUncovered t.lits seen (without r (lit_at t.lits k))
 
 -- the reason of the literal at the place is a clause, and its others are all in the clause that the marks stand for
 pub record IsRedundantAt (cs : List (List ℤ)) (t : TrailView) (seen : List Bool) (k : ℕ) : Type 0 where
@@ -51,7 +52,8 @@ pub record IsDropped (cs : List (List ℤ)) (t : TrailView) (old new : List Bool
 pub record AreDropped (cs : List (List ℤ)) (t : TrailView) (old new : List Bool) (kept : List ℕ) (i : ℕ) : Type 0 where
   pub fewer : (k : ℕ) → is_marked new k ≡ true → is_marked old k ≡ true
   pub gone : (k : ℕ) → is_marked old k ≡ true → is_marked new k ≡ false → IsRedundantAt cs t old k
-  pub left : (j : ℕ) → i ≤ j → j < length kept → is_marked new (slice_index_or kept j 0) ≡ true → IsRedundantAt cs t old (slice_index_or kept j 0) → ⊥
+  pub left : (j : ℕ) → i ≤ j → j < length kept → is_marked new (slice_index_or kept j 0) ≡ true
+      → IsRedundantAt cs t old (slice_index_or kept j 0) → ⊥
   pub same : (k : ℕ) → ((j : ℕ) → i ≤ j → j < length kept → k < slice_index_or kept j 0) → is_marked new k ≡ is_marked old k
 
 -- the literals of the kept places that are marked

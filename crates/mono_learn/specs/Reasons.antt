@@ -41,7 +41,7 @@ pub record IsFalseClause (cs : List (List ℤ)) (t : List ℤ) (n : ℕ) : Type 
   pub is : numbered cs n ≡ Some clause
   pub is_false : IsTrue (is_false_clause t clause)
 
--- and it has a literal of the present level
+-- the clause of that number is false, and has a literal of the present level
 pub record IsConflict (cs : List (List ℤ)) (t : TrailView) (n : ℕ) : Type 0 where
   pub clause : List ℤ
   pub is : numbered cs n ≡ Some clause

@@ -13,7 +13,8 @@ worked_clauses =
 
 abbrev pub worked_marks : List Mark
 worked_marks =
-    record { level = 1; reason = Decided } ∷ record { level = 1; reason = Clause 1 } ∷ record { level = 2; reason = Decided } ∷ record { level = 2; reason = Clause 2 }
+    record { level = 1; reason = Decided } ∷ record { level = 1; reason = Clause 1 }
+    ∷ record { level = 2; reason = Decided } ∷ record { level = 2; reason = Clause 2 }
     ∷ record { level = 3; reason = Decided } ∷ record { level = 3; reason = Clause 3 } ∷ record { level = 3; reason = Clause 4 } ∷ []
 
 abbrev pub worked_trail : TrailView

@@ -15,11 +15,12 @@ ghost use Rattle.mono_learn.specs.Minimizing.{AreReasons};
 use crate::analysis::Analysis;
 use crate::levels::highest;
 use crate::minimize::{kept_lits, unmark};
+use crate::pushing::push_end;
 use crate::resolvent::Resolvent;
 use crate::{Explainer, places};
-use mono_base::{Lit, Row};
+use mono_base::Lit;
 use mono_problem::Problem;
-use mono_steps::{Chain, Clause, Journal};
+use mono_steps::{Clause, Journal};
 use mono_trail::Trail;
 use std::alloc::{AllocError, Global};
 
@@ -135,11 +136,8 @@ fn push(
         back_to,
     } = derived;
     let clause = Clause::from_lits(alloc, lits.as_slice())?;
-    let chain = Chain {
-        clause: clause.copy()?,
-        used: Row::from_vec(used),
-    };
-    let number = journal.push_chain(problem, chain)?;
+    let copy = clause.copy()?;
+    let number = push_end(problem, journal, copy, used)?;
     Ok(Learnt {
         clause,
         back_to,

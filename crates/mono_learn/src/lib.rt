@@ -24,6 +24,8 @@ mod learn;
 mod levels;
 /// What a trail says of its places.
 mod places;
+/// The last step of an analysis.
+mod pushing;
 /// Conflicts at level 0.
 mod refuting;
 /// The clause that a chain has come to.

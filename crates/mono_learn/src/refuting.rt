@@ -12,10 +12,10 @@ ghost use Rattle.mono_learn.specs.Asked.{AsksFor, AddsChains, PushesChain};
 
 use crate::Explainer;
 use crate::analysis::Analysis;
+use crate::pushing::push_end;
 use crate::resolvent::Resolvent;
-use mono_base::Row;
 use mono_problem::Problem;
-use mono_steps::{Chain, Clause, Journal};
+use mono_steps::{Clause, Journal};
 use mono_trail::Trail;
 use std::alloc::{AllocError, Global};
 
@@ -69,11 +69,8 @@ fn push_empty(
     ensures grows { AddsChains journal.old journal.new }
     ensures err { OnErr result (journal.new ≡ journal.old) }
 {
-    let chain = Chain {
-        clause: Clause::from_lits(alloc, &[])?,
-        used: Row::from_vec(used),
-    };
-    let number = journal.push_chain(problem, chain)?;
+    let clause = Clause::from_lits(alloc, &[])?;
+    let number = push_end(problem, journal, clause, used)?;
     Ok(number)
 }
 

@@ -1,11 +1,10 @@
 -- Final labels make a cut or a labelling, and a cheap walk is within the limit.
-use Rattle.std.proofs.Common.{◌≡◌, ◌≢◌, ℕ, ◌+◌, ◌<◌, ◌≤◌, Bool, true, false, not, ◌&&◌, List, [], ◌∷◌, length, map, sum_by, get_or, refl, sym, ap, subst, ◌∙◌, inl, inr, arith, ℤ, pos, negsuc, ◌+ℤ◌, ◌≤ℤ◌, int_lt, int_le}
+use Rattle.std.proofs.Common.{◌≡◌, ◌≢◌, ℕ, ◌+◌, ◌<◌, ◌≤◌, Bool, true, false, not, ◌&&◌, List, [], ◌∷◌, length, map, get_or, refl, sym, ap, subst, ◌∙◌, inl, inr, arith, ℤ, pos, negsuc, ◌+ℤ◌, ◌≤ℤ◌, int_lt, int_le}
 use Rattle.std.specs.Prelude.{IsTrue, All}
 use Rattle.std.specs.Ordering.{int_eq}
 use Rattle.std.specs.List.{list_all}
 use Rattle.std.proofs.lemmas.Bool.{and_from, lt-ltb, ltb-true, eq-eqb, ne_eqb, cases_eq, cases_lt, cases_Bool, not_from_false, false_from_ne_true, both_ways}
 use Rattle.std.proofs.lemmas.List.{get_or-map, length-map}
-use Rattle.std.proofs.lemmas.List.Sums.{sum_by-cons}
 use Rattle.std.proofs.lemmas.Int.{ints}
 use Rattle.mono_base.specs.declared.limits.TheConstants.{MAX_BOUND, MAX_WITNESS_VALUE}
 use Rattle.mono_graph.specs.declared.label.Label.{Label}
@@ -13,6 +12,7 @@ use Rattle.mono_graph.specs.declared.limit.Limit.{Limit}
 use Rattle.mono_graph.specs.declared.limit.Limit.TheVariants as limit
 use Rattle.mono_graph.specs.Digraph.{Digraph, present, places, edge_at, has, leads_out, is_distinct, HasEnds, no_edge, weight_of}
 use Rattle.mono_graph.specs.Walks.{is_cut, is_walk, is_path, is_light, is_labelling, is_tense, label_at, bound_of, cost_of, cost_along}
+use Rattle.mono_graph.proofs.Limits.{ones}
 use Rattle.mono_graph.proofs.Places.{all_of}
 use Rattle.mono_graph.proofs.Membership.{has_here, has_there, has_get_or}
 use Rattle.mono_paths.specs.Found.{HasBound}
@@ -136,10 +136,6 @@ labels_known g labels us m small r = each us r.known (λ u lt h. reached_low g l
         (one (get_or xs i 0) (known i 0 in-range) (low (get_or xs i 0) (known i 0 in-range) (has_get_or xs i 0 in-range)))
 
 -- ---- walks within the limit
-
-pub ones : (ks : List ℕ) → sum_by (λ (k : ℕ). 1) ks ≡ length ks
-ones [] = refl
-ones (k ∷ ks) = rw (sum_by-cons (λ (k : ℕ). 1) k ks) (omega (arith, ones ks))
 
 int_le_from : (a m : ℕ) (x : ℤ) → x ≡ pos m → a < m + 1 → IsTrue (int_le (pos a) x)
 int_le_from a m x e lt = grind (arith, ints)

@@ -1,23 +1,33 @@
 -- Labels that are entered by node, and tests at the edges of listed nodes.
-use Rattle.std.proofs.Common.{◌≡◌, ◌≢◌, ℕ, zero, suc, ◌+◌, ◌<◌, ◌≤◌, Bool, true, false, not, ◌&&◌, ◌||◌, List, [], ◌∷◌, ◌++◌, length, get_or, set, take, map, refl, sym, ap, subst, ◌∙◌, inl, inr, arith, ℤ, pos, ◌+ℤ◌, int_lt}
+use Rattle.std.proofs.Common.{◌≡◌, ◌≢◌, ℕ, ◌+◌, ◌<◌, ◌≤◌, Bool, true, false, not, ◌&&◌, List, [], ◌∷◌, ◌++◌, length, get_or, set, take, map, refl, sym, ap, subst, ◌∙◌, inl, inr, arith, ℤ, pos, ◌+ℤ◌, int_lt}
 use Rattle.std.specs.Prelude.{IsTrue, ◌==◌, nat_lt, if◌then◌else◌}
 use Rattle.std.specs.Ordering.{int_eq}
 use Rattle.std.specs.List.{list_all}
 use Rattle.std.proofs.lemmas.Bool.{and_from, and_parts, cases_Bool, cases_eq, cases_lt, both_ways, eq-eqb, ne_eqb, lt-ltb, le-ltb, false_from_ne_true, not_from_false}
-use Rattle.std.proofs.lemmas.List.{get_or-set_same, get_or-set_other, length-set, take_more, map-append}
+use Rattle.std.proofs.Math.Path.{fun_ext}
+use Rattle.std.proofs.lemmas.List.{get_or-set_same, get_or-set_other, length-set, take_more, take-map, map-append}
+use Rattle.std.proofs.lemmas.List.Folds.{list_all-map}
 use Rattle.std.proofs.lemmas.Int.{ints}
 use Rattle.mono_graph.specs.Digraph.{Digraph, present, places, edge_at, has, leaving, entering, is_distinct}
 use Rattle.mono_graph.specs.declared.edge.Edge.{Edge}
-use Rattle.mono_graph.specs.Walks.{is_labelling, is_tense, label_at, bound_of, cost_of}
+use Rattle.mono_graph.specs.Walks.{is_labelling, is_tense, label_at, bound_of, cost_of, IsBounded}
 use Rattle.mono_graph.proofs.Places.{all_of, all_below}
 use Rattle.mono_graph.proofs.Membership.{all_at, all_from, places_at, at_places, has_here, has_there, same_truth}
 use Rattle.mono_graph.specs.declared.label.Label.{Label}
 use Rattle.mono_paths.specs.Listed.{nodes_listed, value_at, is_calm, is_calm_around}
-use Rattle.mono_graph.proofs.Prefixes.{distinct_new, not_distinct, distinct_take, marked_more}
+use Rattle.mono_graph.proofs.Prefixes.{distinct_new, not_distinct, distinct_take, marked_more, take_has}
 use Rattle.mono_graph.specs.declared.limit.Limit.{Limit}
+use Rattle.mono_graph.specs.declared.limit.Limit.TheVariants as limit
+use Rattle.mono_paths.specs.Found.{HasBound}
 
 abbrev pub no_label : Label
 no_label = record { node = 0; value = 0 }
+
+-- a bound from -1 on is one that a predicate may have
+pub is_bounded : (l : Limit) → HasBound l → IsBounded l
+is_bounded limit.Free h = absurd h
+is_bounded (limit.Steps most) h = h
+is_bounded (limit.Weight most) h = h
 
 -- ---- entered one by one
 
@@ -41,9 +51,7 @@ nodes_more labels i l lt is =
     ∙ ap (λ (s : Label). nodes_listed (take i labels) ++ s.node ∷ []) (sym is))
 
 nodes_take : (labels : List Label) (n : ℕ) → nodes_listed (take n labels) ≡ take n (nodes_listed labels)
-nodes_take labels zero = refl
-nodes_take [] (suc n) = refl
-nodes_take (l ∷ labels) (suc n) = ap (λ (us : List ℕ). l.node ∷ us) (nodes_take labels n)
+nodes_take labels n = sym (take-map (λ (l : Label). l.node) n labels)
 
 -- the first labels are entered, and their nodes are marked
 pub record Entered (n : ℕ) (listed : List Bool) (values : List ℕ) (labels : List Label) (i : ℕ) : Type 0 where
@@ -100,13 +108,7 @@ node_again n listed values labels i l lt is x again = false_from_ne_true (is_dis
 
 -- the marked nodes are listed, however far the list was gone through
 pub marked_listed : (labels : List Label) (i u : ℕ) → IsTrue (has (nodes_listed (take i labels)) u) → IsTrue (has (nodes_listed labels) u)
-marked_listed labels zero u h = absurd cc
-marked_listed [] (suc i) u h = absurd cc
-marked_listed (l ∷ labels) (suc i) u h = by_test (l.node == u) refl (λ t. marked_listed labels i u t) h
-  where
-    by_test : (b : Bool) → (l.node == u) ≡ b → (IsTrue (has (nodes_listed (take i labels)) u) → IsTrue (has (nodes_listed labels) u)) → IsTrue ((l.node == u) || has (nodes_listed (take i labels)) u) → IsTrue ((l.node == u) || has (nodes_listed labels) u)
-    by_test true e others t = rw e refl
-    by_test false e others t = let t' = rw e at t in rw e (others t')
+marked_listed labels i u h = take_has (nodes_listed labels) i u (subst (λ (us : List ℕ). IsTrue (has us u)) (nodes_take labels i) h)
 
 -- ---- calm at the listed nodes
 
@@ -157,15 +159,7 @@ unlisted_calm labels limit e from to =
     level : (x y m : ℤ) (c : ℕ) → x ≡ m +ℤ pos 1 → y ≡ m +ℤ pos 1 → int_lt (x +ℤ pos c) y ≡ false
     level x y m c ex ey = grind (arith, ints)
 
-list_all_map : {X : Type 0} (p : ℕ → Bool) (f : X → ℕ) (xs : List X) → list_all (λ x. p (f x)) xs ≡ list_all p (map f xs)
-list_all_map p f [] = refl
-list_all_map p f (x ∷ xs) = ap (λ (b : Bool). p (f x) && b) (list_all_map p f xs)
-
-list_all_same : (p q : ℕ → Bool) → ((k : ℕ) → p k ≡ q k) → (ks : List ℕ) → list_all p ks ≡ list_all q ks
-list_all_same p q same [] = refl
-list_all_same p q same (k ∷ ks) = ap (λ (b : Bool). b && list_all p ks) (same k) ∙ ap (λ (b : Bool). q k && b) (list_all_same p q same ks)
-
-lt_same : (x y : ℤ) (a b c : ℕ) → x ≡ pos a → y ≡ pos b → nat_lt (a + c) b ≡ int_lt (x +ℤ pos c) y
+pub lt_same : (x y : ℤ) (a b c : ℕ) → x ≡ pos a → y ≡ pos b → nat_lt (a + c) b ≡ int_lt (x +ℤ pos c) y
 lt_same x y a b c ex ey = elim (cases_lt (a + c) b) [
   | inl lt ↦ lt-ltb (a + c) b lt ∙ sym (yes lt)
   | inr le ↦ le-ltb (a + c) b le ∙ sym (no le)
@@ -187,11 +181,14 @@ pub record AreThese (labels : List Label) (limit : Limit) (listed : List Bool) (
 calm_places : (g : Digraph) (P : List Bool) (limit : Limit) (labels : List Label) (listed : List Bool) (values : List ℕ) (others : ℕ) → AreThese labels limit listed values others
     → list_all (λ l. is_calm_around (value_at listed values others) limit g P l.node) labels ≡ list_all (λ k. not (present P k && is_tense (label_at labels (bound_of limit)) limit (edge_at g k))) (places g)
 calm_places g P limit labels listed values others t =
-    list_all_map (is_calm_around (value_at listed values others) limit g P) (λ (l : Label). l.node) labels
-    ∙ (calm_everywhere (value_at listed values others) limit g P (nodes_listed labels) others (λ w off. ap (λ (b : Bool). if b then get_or values w 0 else others) (t.marked w ∙ off))
-    ∙ list_all_same (is_calm (value_at listed values others) limit g P) (λ k. not (present P k && is_tense (label_at labels (bound_of limit)) limit (edge_at g k)))
-    (λ k. ap (λ (b : Bool). not (present P k && b)) (lt_same (label_at labels (bound_of limit) (edge_at g k).from) (label_at labels (bound_of limit) (edge_at g k).to)
-    (value_at listed values others (edge_at g k).from) (value_at listed values others (edge_at g k).to) (cost_of limit (edge_at g k)) (t.each (edge_at g k).from) (t.each (edge_at g k).to))) (places g))
+    let label : ℕ → ℕ = value_at listed values others in
+    let told : ℕ → ℤ = label_at labels (bound_of limit) in
+    let same : is_calm label limit g P ≡ (λ k. not (present P k && is_tense told limit (edge_at g k))) =
+    fun_ext (λ k. ap (λ (b : Bool). not (present P k && b))
+    (lt_same (told (edge_at g k).from) (told (edge_at g k).to) (label (edge_at g k).from) (label (edge_at g k).to) (cost_of limit (edge_at g k)) (t.each (edge_at g k).from) (t.each (edge_at g k).to))) in
+    sym (list_all-map (is_calm_around label limit g P) (λ (l : Label). l.node) labels)
+    ∙ (calm_everywhere label limit g P (nodes_listed labels) others (λ w off. ap (λ (b : Bool). if b then get_or values w 0 else others) (t.marked w ∙ off))
+    ∙ ap (λ (p : ℕ → Bool). list_all p (places g)) same)
 
 -- ---- what the test answers
 

@@ -1,10 +1,9 @@
 -- What the labels of a search say of the walks from where it began.
-use Rattle.std.proofs.Common.{◌≡◌, ℕ, zero, suc, ◌+◌, ◌<◌, ◌≤◌, Bool, true, false, ◌&&◌, List, [], ◌∷◌, ◌++◌, length, get_or, sum_by, refl, sym, ap, subst, ◌∙◌, inl, inr, arith, ℤ, pos, negsuc, ◌≤ℤ◌, ◌<ℤ◌, int_le, ◌↔◌}
+use Rattle.std.proofs.Common.{◌≡◌, ℕ, zero, suc, ◌+◌, ◌<◌, ◌≤◌, Bool, false, ◌&&◌, List, [], ◌∷◌, ◌++◌, length, get_or, sum_by, refl, sym, ap, subst, ◌∙◌, inl, inr, arith, ℤ, pos, negsuc, ◌≤ℤ◌, ◌<ℤ◌, int_le, ◌↔◌}
 use Rattle.std.specs.Prelude.{IsTrue, ◌==◌, Some, None, All}
 use Rattle.std.specs.List.{list_all}
 use Rattle.std.proofs.lemmas.Bool.{and_from, and_parts, eq-eqb, eqb-true, lt-ltb, ltb-true, cases_eq, cases_lt, cases_Bool}
 use Rattle.std.proofs.lemmas.List.{get_or_append_left, get_or_push, get_or_default}
-use Rattle.std.proofs.lemmas.List.Folds.{list_all-append}
 use Rattle.std.proofs.lemmas.List.Sums.{sum_by-cons, sum_by_push}
 use Rattle.std.proofs.lemmas.Int.{ints}
 use Rattle.mono_graph.specs.declared.limit.Limit.{Limit}
@@ -22,8 +21,10 @@ use Rattle.mono_paths.specs.Searches.{IsSearch, source_of}
 use Rattle.mono_paths.specs.declared.target.Target.{Target}
 use Rattle.mono_paths.specs.Asked.{limit_by, target_at, HasPath}
 use Rattle.mono_paths.specs.NodeLabels.{AreReached}
-use Rattle.mono_graph.proofs.Membership.{has_get_or}
-use Rattle.mono_paths.proofs.Ends.{ones, light, reached_low}
+use Rattle.mono_graph.proofs.Membership.{has_get_or, list_all_push}
+use Rattle.mono_graph.proofs.Limits.{ones, zeros}
+use Rattle.mono_graph.proofs.GrownWalks.{leads_push}
+use Rattle.mono_paths.proofs.Ends.{light, reached_low}
 
 -- ---- a walk costs at least what the labels rise along it
 
@@ -40,16 +41,6 @@ rises g P limit labels t u (k ∷ ks) v known here way =
     omega (arith, from, step, rest, sum_by-cons (λ j. cost_of limit (edge_at g j)) k ks)
 
 -- ---- a walk leads to each visit
-
-leads_push : (g : Digraph) (u : ℕ) (ks : List ℕ) (k v : ℕ) → IsTrue (leads g u ks (edge_at g k).from) → (edge_at g k).to ≡ v → IsTrue (leads g u (ks ++ k ∷ []) v)
-leads_push g u [] k v way to =
-    and_from ((edge_at g k).from == u) ((edge_at g k).to == v) (eq-eqb (edge_at g k).from u (sym (eqb-true u (edge_at g k).from way))) (eq-eqb (edge_at g k).to v to)
-leads_push g u (j ∷ ks) k v way to =
-    let w = and_parts ((edge_at g j).from == u) (leads g (edge_at g j).to ks (edge_at g k).from) way in
-    and_from ((edge_at g j).from == u) (leads g (edge_at g j).to (ks ++ k ∷ []) v) w.0 (leads_push g (edge_at g j).to ks k v w.1 to)
-
-all_push : (p : ℕ → Bool) (ks : List ℕ) (k : ℕ) → IsTrue (list_all p ks) → IsTrue (p k) → IsTrue (list_all p (ks ++ k ∷ []))
-all_push p ks k h t = list_all-append p ks (k ∷ []) ∙ and_from (list_all p ks) (p k && true) h (and_from (p k) true t refl)
 
 pub record IsWayTo (g : Digraph) (P : List Bool) (limit : Limit) (u v n : ℕ) (ks : List ℕ) : Type 0 where
   pub places : IsTrue (list_all (is_place g) ks)
@@ -75,19 +66,16 @@ way_to g P limit vs t (suc n) i early lt = elim (cases_eq i 0) [
       sum_by_push (λ j. cost_of limit (edge_at g j)) r.0 k ∙ (ap (λ (c : ℕ). c + cost_of limit (edge_at g k)) r.1.cost ∙ sym s.cost) in (
         r.0 ++ k ∷ [],
         record {
-          places = all_push (is_place g) r.0 k r.1.places (lt-ltb k (length g.edges) s.known);
-          here = all_push (present P) r.0 k r.1.here s.present;
-          way = leads_push g (visit_at vs 0).node r.0 k (visit_at vs i).node (subst (λ (w : ℕ). IsTrue (leads g (visit_at vs 0).node r.0 w)) (sym s.from) r.1.way) s.to;
+          places = list_all_push (is_place g) r.0 k r.1.places (lt-ltb k (length g.edges) s.known);
+          here = list_all_push (present P) r.0 k r.1.here s.present;
+          way = subst (λ (w : ℕ). IsTrue (leads g (visit_at vs 0).node (r.0 ++ k ∷ []) w)) s.to
+              (leads_push g (visit_at vs 0).node k (visit_at vs (visit_at vs i).before).node r.0 r.1.way s.from);
           cost = total;
         },
       )
 ]
 
 -- ---- what counts, whatever the bound is
-
-zeros : (ks : List ℕ) → sum_by (λ (k : ℕ). 0) ks ≡ 0
-zeros [] = refl
-zeros (k ∷ ks) = rw (sum_by-cons (λ (k : ℕ). 0) k ks) (omega (arith, zeros ks))
 
 is_light_by : (m : Measure) (g : Digraph) (most : ℤ) (n : ℕ) (ks : List ℕ) → IsBound (limit_by m most) (Some n) → cost_along (limit_by m (pos 0)) g ks ≤ n → IsTrue (is_light (limit_by m most) g ks)
 is_light_by measure.Free g most n ks bound low = refl

@@ -22,6 +22,6 @@ label_in t u = value_at t.listed.items t.values.items t.others u
 abbrev pub is_calm : (ℕ → ℕ) → Limit → Digraph → List Bool → ℕ → Bool
 is_calm label limit g P k = not (present P k && nat_lt (label (edge_at g k).from + cost_of limit (edge_at g k)) (label (edge_at g k).to))
 
--- so it is at each edge of the node
+-- along each present edge of the node the label rises by at most what the edge costs
 abbrev pub is_calm_around : (ℕ → ℕ) → Limit → Digraph → List Bool → ℕ → Bool
 is_calm_around label limit g P u = list_all (is_calm label limit g P) (leaving g u) && list_all (is_calm label limit g P) (entering g u)

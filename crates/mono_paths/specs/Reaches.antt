@@ -20,7 +20,7 @@ pub record AreFinal (g : Digraph) (P : List Bool) (limit : Limit) (u v cap : ℕ
   pub most : (w : ℕ) → label_of labels w ≤ cap
   pub tight : AreTight g P limit labels
 
--- so it is for the labels of a search
+-- the cap and the labels of a search are such
 pub record HasFinal (g : Digraph) (P : List Bool) (limit : Limit) (u v cap : ℕ) (labels : NodeLabels) : Type 0 where
   pub at_cap : labels.cap ≡ cap
   pub final : AreFinal g P limit u v cap labels.each

@@ -7,6 +7,6 @@ use Rattle.mono_graph.specs.Digraph.{Digraph, present, edge_at, leaving}
 abbrev pub stays_by : (ℕ → Bool) → Digraph → List Bool → ℕ → Bool
 stays_by marked g P k = not (present P k && not (marked (edge_at g k).to))
 
--- so it is for each edge that leaves the node
+-- each present edge that leaves the node leads to a marked node
 abbrev pub stays_at : List Bool → Digraph → List Bool → ℕ → Bool
 stays_at inside g P u = list_all (stays_by (λ v. slice_index_or inside v false) g P) (leaving g u)

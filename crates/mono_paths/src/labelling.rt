@@ -4,10 +4,10 @@
 //! that enter them, since a listed label may be above that of the nodes that aren't listed. An edge between two of those
 //! is never tense.
 
-ghost use Rattle.std.specs.Prelude.{◌≡◌, ◌<◌, ◌+ℤ◌, ℕ, pos, false, All, IsTrue, length, vec_len, slice_index_or};
+ghost use Rattle.std.specs.Prelude.{◌≡◌, ◌<◌, ℕ, false, All, IsTrue, length, vec_len, slice_index_or};
 ghost use Rattle.std.specs.List.{list_all};
 ghost use Rattle.mono_graph.specs.Digraph.{IsPartOf, has};
-ghost use Rattle.mono_graph.specs.Walks.{is_labelling as is_labelling_of, bound_of};
+ghost use Rattle.mono_graph.specs.Walks.{is_labelling as is_labelling_of};
 ghost use Rattle.mono_paths.specs.Found.{HasBound};
 ghost use Rattle.mono_paths.specs.Listed.{nodes_listed, label_in, is_calm, is_calm_around};
 
@@ -72,18 +72,6 @@ fn is_calm_around(
     true
 }
 
-/// The label of the nodes that aren't listed: one more than the bound.
-fn label_of_others(limit: Limit) -> u64
-    requires { HasBound limit }
-    ensures { pos result ≡ bound_of limit +ℤ pos 1 }
-{
-    match limit {
-        Limit::Free => 0,
-        Limit::Steps(most) => (most + 1) as u64,
-        Limit::Weight(most) => (most + 1) as u64,
-    }
-}
-
 /// Whether the labels pass. They may be left in the table.
 pub fn holds(
     graph: &Graph,
@@ -107,7 +95,7 @@ pub fn holds(
     ensures values_len { vec_len table.new.values ≡ graph.now.nodes }
     ensures marked { (u : ℕ) → IsTrue (slice_index_or table.new.listed.items u false) → IsTrue (has (nodes_listed labels.now) u) }
 {
-    table.others = label_of_others(limit);
+    table.others = limit.cap();
     if !table.enter(labels) {
         return false;
     }

@@ -2,21 +2,20 @@
 use Rattle.std.proofs.Common.{◌≡◌, ℕ, zero, suc, ◌+◌, ◌-◌, ◌<◌, ◌≤◌, Bool, true, false, cond, List, [], ◌∷◌, ◌++◌, length, map, get_or, replicate, Some, refl, sym, ap, subst, ◌∙◌, ◌⊎◌, inl, inr, arith, ℤ, All, length-append}
 use Rattle.std.specs.Prelude.{IsTrue, nat_le, slice_get}
 use Rattle.std.proofs.lemmas.Bool.{and_parts, and_from, le-leb, lt-leb, cases_lt, cond-true, cond-false}
-use Rattle.std.proofs.lemmas.Option.{same_Some, slice_get_within}
+use Rattle.std.proofs.lemmas.Option.{slice_get_within}
 use Rattle.std.proofs.lemmas.List.{append_assoc, append-nil, length-map, length-replicate, get_or-append_right, get_or-map, get_or-replicate}
 use Rattle.mono_problem.specs.Instance.{Instance, numbered}
 use Rattle.mono_steps.specs.declared.step.Step.{Step}
-use Rattle.mono_steps.specs.ChainSteps.{names_vars}
 use Rattle.mono_steps.specs.Needed.{is_set}
 use Rattle.mono_steps.specs.Renumbering.{pick, rank, with_numbers, steps_with_numbers, KeepsNamed, MayBeCarried}
 use Rattle.mono_steps.specs.Steps.{clause_of, clauses_after, is_justified_step, are_justified_after, are_justified, ends_empty, is_refutation}
 use Rattle.mono_steps.proofs.CarriedSteps.{carried_justified, ends_carried}
 use Rattle.mono_steps.proofs.NeededSteps.{names_held, names_below}
-use Rattle.mono_steps.proofs.StepLists.{length_clauses, numbered_is, numbered_more, slice_get_is}
+use Rattle.mono_steps.proofs.StepLists.{length_clauses, numbered_is, numbered_more}
+use Rattle.mono_steps.proofs.StepVars.{vars_after}
 use Rattle.mono_portfolio.specs.Extended.{board_clause, extended, has_chain}
 use Rattle.mono_portfolio.specs.Moved.{moved_number, moved}
 use Rattle.mono_portfolio.proofs.Held.{IsHeld, held_number, held_clause}
-use Rattle.mono_portfolio.proofs.Named.{steps_name}
 
 -- ---- the new numbers
 
@@ -98,9 +97,8 @@ may_move p board taken steps held j = record { graphs = refl; atoms = refl; name
     named : (k : ℕ) (s : Step) → is_set (all_set (length steps)) k ≡ true → slice_get steps k ≡ Some s → KeepsNamed p (extended p board taken).clauses (clauses_after p board) (all_set (length steps)) (on_board p board taken) s
     named k s on at =
         let lt : k < length steps = slice_get_within steps k s at in
-        let here : get_or steps k s ≡ s = same_Some (get_or steps k s) s (sym (slice_get_is steps k s lt) ∙ at) in
         record {
-          vars = subst (λ (t : Step). IsTrue (names_vars p (clause_of t))) here (steps_name (extended p board taken) (extended p board taken).clauses steps k s j lt);
+          vars = vars_after (extended p board taken) (extended p board taken).clauses steps k s j at;
           clauses = λ n names le. same_clause p board taken n held le;
           steps = λ i names.
               let below : i < k = names_below (length (extended p board taken).clauses) k i s ((names_held (extended p board taken) steps j).at k s at) names in

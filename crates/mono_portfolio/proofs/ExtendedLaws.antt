@@ -5,6 +5,7 @@ use Rattle.std.specs.List.{list_all}
 use Rattle.std.proofs.lemmas.Bool.{and_parts, or_parts, leb-true, ltb-false}
 use Rattle.std.proofs.lemmas.List.{append-nil, map-append, length-map, get_or-append_right, get_or-map, take-append-drop, take_more}
 use Rattle.std.proofs.lemmas.List.Sums.{sum_by-append, sum_by-cons}
+use Rattle.std.proofs.lemmas.Option.{slice_get-get_or}
 use Rattle.mono_base.specs.declared.limits.TheConstants.{MAX_CLAUSES, MAX_LITERALS}
 use Rattle.mono_base.specs.Literal.{var_of}
 use Rattle.mono_problem.specs.Instance.{Instance, literals_total}
@@ -13,9 +14,9 @@ use Rattle.mono_steps.specs.declared.step.Step.{Step}
 use Rattle.mono_steps.specs.declared.step.Step.TheVariants as step
 use Rattle.mono_steps.specs.ChainSteps.{names_vars}
 use Rattle.mono_steps.specs.Steps.{clause_of, are_justified}
+use Rattle.mono_steps.proofs.StepVars.{vars_after}
 use Rattle.mono_portfolio.specs.Extended.{board_clause, extended, has_chain, passes_limits}
 use Rattle.mono_portfolio.proofs.Held.{held_number}
-use Rattle.mono_portfolio.proofs.Named.{steps_name}
 
 -- ---- the clause of a number
 
@@ -44,9 +45,10 @@ pub extended_more : (p : Instance) (board : List Step) (taken : List ℕ) (n : �
 extended_more p board taken n j h =
     let at = held_number p board n h in
     let d : Step = get_or board (n - length p.clauses - 1) (step.Chain (record { clause = []; used = [] })) in
+    let there = slice_get-get_or board (n - length p.clauses - 1) (step.Chain (record { clause = []; used = [] })) (omega (arith, at.low, at.high)) in
     let e = clause_is p board n (step.Chain (record { clause = []; used = [] })) h in
     let named : IsTrue (names_vars p (board_clause p board n)) =
-    subst (λ (c : List ℤ). IsTrue (names_vars p c)) (sym e) (steps_name p p.clauses board (n - length p.clauses - 1) (step.Chain (record { clause = []; used = [] })) j (omega (arith, at.low, at.high))) in
+    subst (λ (c : List ℤ). IsTrue (names_vars p c)) (sym e) (vars_after p p.clauses board (n - length p.clauses - 1) d j there) in
     let vars : greatest_var p.vars (board_clause p board n) ≡ p.vars = greatest_stays p.vars (board_clause p board n) named in
     let clauses : (p.clauses ++ map (board_clause p board) taken) ++ board_clause p board n ∷ [] ≡ p.clauses ++ map (board_clause p board) (taken ++ n ∷ []) =
     append_assoc p.clauses (map (board_clause p board) taken) (board_clause p board n ∷ []) ∙ ap (λ (cs : List (List ℤ)). p.clauses ++ cs) (sym (map-append (board_clause p board) taken (n ∷ []))) in

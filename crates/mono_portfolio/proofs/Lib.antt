@@ -1,6 +1,5 @@
 pub mod Held
 pub mod PreferredLaws
-pub mod Named
 pub mod Carried
 pub mod Tables
 pub mod Follows

@@ -1,5 +1,5 @@
--- The problem of the worked rows is one.
-use Rattle.std.proofs.Common.{◌≡◌, ℕ, ◌<◌, ◌≤◌, ℤ, [], ◌∷◌, All, Some, pos, arith}
+-- The problem of the worked rows is one, and what is learned over it.
+use Rattle.std.proofs.Common.{◌≡◌, ℕ, ◌<◌, ◌≤◌, ℤ, [], ◌∷◌, All, Some, pos, refl, lit<, arith}
 use Rattle.std.specs.Prelude.{slice_index_or}
 use Rattle.std.proofs.lemmas.List.Elements.{All-nil, All-cons}
 use Rattle.mono_base.specs.declared.limits.TheConstants.{MAX_NODES, MAX_EDGES, MAX_LITERALS}
@@ -7,8 +7,10 @@ use Rattle.mono_base.specs.Literal.{IsLitWithin}
 use Rattle.mono_problem.specs.declared.atom.Atom.{Atom}
 use Rattle.mono_problem.specs.Instance.{identity_at, place_named}
 use Rattle.mono_problem.specs.WellFormed.{IsInstance, IsAtomAt, IsDeclared, count_numbered}
+use Rattle.mono_steps.specs.New.{IsProgress}
 use Rattle.mono_steps.specs.WorkedLemmas.{minus}
-use Rattle.mono_portfolio.specs.Worked.{two_clauses}
+use Rattle.mono_steps.proofs.WorkedNew.{one_is_new}
+use Rattle.mono_search.specs.Worked.{two_clauses, first_learned}
 
 two : (l m : ℤ) → IsLitWithin 2 l → IsLitWithin 2 m → All (IsLitWithin 2) (l ∷ m ∷ [])
 two l m h k = All-cons (IsLitWithin 2) l (m ∷ []) h (All-cons (IsLitWithin 2) m [] k (All-nil (IsLitWithin 2)))
@@ -38,3 +40,7 @@ two_clauses_ok = record {
 
     atoms : (k : ℕ) (d : Atom) → k < 0 → IsAtomAt two_clauses k (slice_index_or two_clauses.atoms k d)
     atoms k d lt = absurd (omega (arith, lt))
+
+-- one clause was learned over it
+pub one_learned : IsProgress two_clauses 1 first_learned
+one_learned = record { justified = refl; new = one_is_new two_clauses refl refl refl; chains = refl; few = lit< tt }

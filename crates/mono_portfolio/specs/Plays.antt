@@ -31,7 +31,7 @@ Served s e r t = ⊥
 abbrev pub Answers : TeamView → Event → Reply → TeamView → Type 0
 Answers s e r t = MatchOption (refusal s e) (Served s e r t) (λ refused. (r ≡ refused) × (t ≡ s))
 
--- it may answer these events so, one after another
+-- the team may answer these events so, one after another
 abbrev pub Plays : TeamView → List Event → List Reply → TeamView → Type 0
 Plays s [] [] t = t ≡ s
 Plays s (e ∷ es) (r ∷ rs) t = (m : TeamView) × Answers s e r m × Plays m es rs t

@@ -16,7 +16,8 @@ pub record IsPiece (slice : ℕ) (p : Instance) (before : List Step) (taken : Li
 -- so many pieces, one after another
 abbrev pub IsRound : ℕ → Instance → ℕ → List ℕ → List Step → List Step → Type 0
 IsRound slice p zero taken before after = after ≡ before
-IsRound slice p (suc workers) taken before after = (piece : List Step) × IsPiece slice p before taken piece × IsRound slice p workers taken (before ++ piece) after
+IsRound slice p (suc workers) taken before after =
+    (piece : List Step) × IsPiece slice p before taken piece × IsRound slice p workers taken (before ++ piece) after
 
 -- the chain has at most 8 literals
 abbrev pub is_short : Step → Bool

@@ -50,7 +50,8 @@ pub record IsSound (p : Instance) (events : List Event) (replies : List Reply) (
   pub justified : IsTrue (are_justified p board)
   pub models : All (IsTrueModel p) replies
   -- where a worker's Give comes next after its Unsat, the board is a refutation then: the first steps of the last one
-  pub refutes : (k w : ℕ) → slice_get events k ≡ Some (event.Give w) → IsTrue (refuted_last w false (take k events) (take k replies)) → IsTrue (is_refutation p (take (given (take (k + 1) replies)) board))
+  pub refutes : (k w : ℕ) → slice_get events k ≡ Some (event.Give w) → IsTrue (refuted_last w false (take k events) (take k replies))
+      → IsTrue (is_refutation p (take (given (take (k + 1) replies)) board))
   pub one_answer : IsTrue (list_any is_model replies) → list_any is_unsat replies ≡ false
 
 -- a play of so many workers from nothing may give these replies and leave this board

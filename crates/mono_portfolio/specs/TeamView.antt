@@ -43,7 +43,7 @@ with_made s w made = with_worker s w (record (worker_at s w) { made = made })
 abbrev pub moved_from : TeamView → ℕ → List Step
 moved_from s w = moved s.problem (worker_at s w).made (worker_at s w).taken s.board
 
--- it joins the board
+-- what the worker made has joined the board
 abbrev pub after_give : TeamView → ℕ → TeamView
 after_give s w = record (with_made s w []) { board = s.board ++ moved_from s w }
 

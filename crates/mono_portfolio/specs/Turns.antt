@@ -23,7 +23,11 @@ having s w taken = with_worker s w (record { taken = taken; made = [] })
 pub record IsGiven (s : TeamView) (w : ℕ) (t : TeamView) : Type 0 where
   pub made : List Step
   pub slice : IsProgress (over s w) 1000 made
-  pub after : t ≡ record { problem = s.problem; board = s.board ++ moved s.problem made (worker_at s w).taken s.board; workers = slice_set s.workers w (record (worker_at s w) { made = [] }) }
+  pub after : t ≡ record {
+    problem = s.problem;
+    board = s.board ++ moved s.problem made (worker_at s w).taken s.board;
+    workers = slice_set s.workers w (record (worker_at s w) { made = [] });
+  }
 
 abbrev pub TurnsTo : TeamView → ℕ → TeamView → Turn → Type 0
 TurnsTo s w t (turn.Model model) = HasModel s.problem model
@@ -33,7 +37,8 @@ TurnsTo s w t turn.Gave = IsGiven s w t
 -- from an even team, a round of so many workers leads to an even team, with a piece for each worker
 pub record IsRounded (s : TeamView) (workers : ℕ) (t : TeamView) : Type 0 where
   pub few : 0 < workers → 1000 < 3 ^ s.problem.vars
-  pub leads : (k : ℕ) (taken : List ℕ) → workers ≤ k → s ≡ even s.problem k taken s.board → (t ≡ even s.problem k taken t.board) × IsRound 1000 s.problem workers taken s.board t.board
+  pub leads : (k : ℕ) (taken : List ℕ) → workers ≤ k → s ≡ even s.problem k taken s.board
+      → (t ≡ even s.problem k taken t.board) × IsRound 1000 s.problem workers taken s.board t.board
 
 abbrev pub RoundsTo : TeamView → ℕ → TeamView → Turn → Type 0
 RoundsTo s workers t (turn.Model model) = HasModel s.problem model

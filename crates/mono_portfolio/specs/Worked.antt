@@ -6,40 +6,22 @@ use Rattle.mono_steps.specs.declared.step.Step.{Step}
 use Rattle.mono_steps.specs.declared.step.Step.TheVariants as step
 use Rattle.mono_steps.specs.Worked.{clauses_over}
 use Rattle.mono_steps.specs.WorkedLemmas.{minus, chain, of_1}
+use Rattle.mono_search.specs.Worked.{two_clauses, first_learned, learned_behind_a_lemma}
 use Rattle.mono_portfolio.specs.declared.event.Event.{Event}
 use Rattle.mono_portfolio.specs.declared.event.Event.TheVariants as event
 use Rattle.mono_portfolio.specs.declared.event.Reply.{Reply}
 use Rattle.mono_portfolio.specs.declared.event.Reply.TheVariants as reply
 use Rattle.mono_portfolio.specs.TeamView.{WorkerView, TeamView}
 
--- {1, 2} and {1, -2}, from which {1} follows
-abbrev pub two_clauses : Instance
-two_clauses = clauses_over 2 ((pos 1 ∷ pos 2 ∷ []) ∷ (pos 1 ∷ minus 2 ∷ []) ∷ [])
-
--- {1} and {-1}, which no assignment satisfies
-abbrev pub two_units : Instance
-two_units = clauses_over 1 ((pos 1 ∷ []) ∷ (minus 1 ∷ []) ∷ [])
-
--- {1} from both
-abbrev pub first_learned : Step
-first_learned = chain (pos 1 ∷ []) (1 ∷ 2 ∷ [])
-
-abbrev pub learned : List Step
-learned = first_learned ∷ []
-
 -- a lemma
 abbrev pub some_lemma : Step
 some_lemma = step.Lemma (of_1 (pos 2 ∷ []) (by.Path []))
-
--- the lemma has the number 3, the chain 4
-abbrev pub behind_a_lemma : List Step
-behind_a_lemma = some_lemma ∷ first_learned ∷ []
 
 -- over the problem with {1} behind its own clauses: chains that name it, a clause of the problem, and the step before, and a lemma
 abbrev pub made : List Step
 made = chain (pos 1 ∷ []) (3 ∷ []) ∷ chain (pos 1 ∷ []) (1 ∷ []) ∷ chain (pos 1 ∷ []) (5 ∷ []) ∷ some_lemma ∷ []
 
--- the same steps on a board of two steps, of which the second was taken
+-- the steps of `made` as they join a board of two steps, of which the second was taken
 abbrev pub on_the_board : List Step
 on_the_board = chain (pos 1 ∷ []) (4 ∷ []) ∷ chain (pos 1 ∷ []) (1 ∷ []) ∷ chain (pos 1 ∷ []) (6 ∷ []) ∷ some_lemma ∷ []
 
@@ -51,21 +33,27 @@ team board workers = record { problem = two_clauses; board = board; workers = wo
 
 -- worker 0 took the chain and made nothing, worker 1 took nothing and made a chain
 abbrev pub two_workers : TeamView
-two_workers = team behind_a_lemma (worker (4 ∷ []) [] ∷ worker [] learned ∷ [])
+two_workers = team learned_behind_a_lemma (worker (4 ∷ []) [] ∷ worker [] first_learned ∷ [])
 
 -- a slice, given and taken, and refusals
 abbrev pub events : List Event
-events = event.Run 0 1 ∷ event.Give 0 ∷ event.Take 1 3 ∷ event.Take 1 3 ∷ event.Run 5 1 ∷ event.Run 0 0 ∷ event.Give 0 ∷ event.Take 0 1 ∷ event.Take 0 4 ∷ []
+events =
+    event.Run 0 1 ∷ event.Give 0 ∷ event.Take 1 3 ∷ event.Take 1 3 ∷ event.Run 5 1 ∷ event.Run 0 0 ∷ event.Give 0
+    ∷ event.Take 0 1 ∷ event.Take 0 4 ∷ []
 
 abbrev pub replies : List Reply
-replies = reply.Slice ∷ reply.Given 1 ∷ reply.Taken ∷ reply.AlreadyTaken ∷ reply.NoWorker ∷ reply.ZeroSlice ∷ reply.NothingMade ∷ reply.NoStep ∷ reply.NoStep ∷ []
+replies =
+    reply.Slice ∷ reply.Given 1 ∷ reply.Taken ∷ reply.AlreadyTaken ∷ reply.NoWorker ∷ reply.ZeroSlice ∷ reply.NothingMade
+    ∷ reply.NoStep ∷ reply.NoStep ∷ []
 
 abbrev pub at_end : TeamView
-at_end = team learned (worker [] [] ∷ worker (3 ∷ []) [] ∷ [])
+at_end = team first_learned (worker [] [] ∷ worker (3 ∷ []) [] ∷ [])
 
 -- {1} follows from these, by {1, 2} and {1, -2}
 abbrev pub four_clauses : Instance
-four_clauses = clauses_over 3 ((pos 1 ∷ pos 2 ∷ pos 3 ∷ []) ∷ (pos 1 ∷ pos 2 ∷ minus 3 ∷ []) ∷ (pos 1 ∷ minus 2 ∷ pos 3 ∷ []) ∷ (pos 1 ∷ minus 2 ∷ minus 3 ∷ []) ∷ [])
+four_clauses = clauses_over 3 (
+    (pos 1 ∷ pos 2 ∷ pos 3 ∷ []) ∷ (pos 1 ∷ pos 2 ∷ minus 3 ∷ [])
+    ∷ (pos 1 ∷ minus 2 ∷ pos 3 ∷ []) ∷ (pos 1 ∷ minus 2 ∷ minus 3 ∷ []) ∷ [])
 
 -- {1, 2}, which has the number 5 on an empty board; and {1}, which names it
 abbrev pub given_first : Step

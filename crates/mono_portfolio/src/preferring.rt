@@ -3,7 +3,7 @@
 //! Workers over the same problem are apart by these alone, until they have taken different clauses: a search decides
 //! first by a sign that it saved.
 
-ghost use Rattle.std.specs.Prelude.{◌≡◌, ◌≤◌, pos, All, IfOk};
+ghost use Rattle.std.specs.Prelude.{◌≡◌, ◌≤◌, All, IfOk};
 ghost use Rattle.mono_base.specs.declared.limits.TheConstants.{MAX_VARS};
 ghost use Rattle.mono_base.specs.Literal.{IsLitWithin};
 ghost use Rattle.mono_portfolio.specs.Preferred.{prefers as prefers_it, preferred as preferred_of};
@@ -18,14 +18,6 @@ fn prefers(worker: u32, var: u32) -> bool
     worker >= 1 && u64::from(var) % (u64::from(worker) + 1) == 0
 }
 
-fn positive(var: u32) -> Lit
-    requires low { 1 ≤ var }
-    requires high { var ≤ MAX_VARS }
-    ensures { result ≡ pos var }
-{
-    Lit::of(var, true)
-}
-
 /// The variables of these that the worker prefers to be true, each as a literal.
 pub(crate) fn preferred(alloc: Global, worker: u32, vars: u32) -> Result<Vec<Lit>, AllocError>
     requires vars { vars ≤ MAX_VARS }
@@ -35,7 +27,7 @@ pub(crate) fn preferred(alloc: Global, worker: u32, vars: u32) -> Result<Vec<Lit
     let mut lits = Vec::new(alloc);
     for var in 0..vars {
         if prefers(worker, var + 1) {
-            lits.push(positive(var + 1))?;
+            lits.push(Lit::of(var + 1, true))?;
         }
     }
     Ok(lits)

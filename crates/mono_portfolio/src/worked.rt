@@ -12,29 +12,30 @@ ghost use Rattle.mono_portfolio.specs.Moved.{moved_number, moved};
 ghost use Rattle.mono_portfolio.specs.Preferred.{preferred};
 ghost use Rattle.mono_portfolio.specs.Refusals.{lacks_worker, has_taken, is_full, refusal};
 ghost use Rattle.mono_portfolio.specs.TeamView.{TeamView, worker_at, over, after_give, with_made};
-ghost use Rattle.mono_portfolio.specs.Worked.{two_clauses, learned, behind_a_lemma, made, on_the_board, worker, team, two_workers};
+ghost use Rattle.mono_search.specs.Worked.{two_clauses, first_learned, learned_behind_a_lemma};
+ghost use Rattle.mono_portfolio.specs.Worked.{made, on_the_board, worker, team, two_workers};
 
 /// Clauses are numbered through the problem and the board.
 pub fn clauses_by_number()
-    ensures own { board_clause two_clauses learned 2 ≡ pos 1 ∷ minus 2 ∷ [] }
-    ensures given { board_clause two_clauses learned 3 ≡ pos 1 ∷ [] }
-    ensures none { board_clause two_clauses learned 4 ≡ [] }
+    ensures own { board_clause two_clauses first_learned 2 ≡ pos 1 ∷ minus 2 ∷ [] }
+    ensures given { board_clause two_clauses first_learned 3 ≡ pos 1 ∷ [] }
+    ensures none { board_clause two_clauses first_learned 4 ≡ [] }
 {}
 
 /// Chains of the board have numbers that can be taken: no lemma, no clause of the problem, and no number behind the board.
 pub fn chains_by_number()
-    ensures chain { has_chain two_clauses behind_a_lemma 4 ≡ true }
-    ensures lemma { has_chain two_clauses behind_a_lemma 3 ≡ false }
-    ensures own { has_chain two_clauses behind_a_lemma 2 ≡ false }
-    ensures zero { has_chain two_clauses behind_a_lemma 0 ≡ false }
-    ensures past { has_chain two_clauses behind_a_lemma 5 ≡ false }
+    ensures chain { has_chain two_clauses learned_behind_a_lemma 4 ≡ true }
+    ensures lemma { has_chain two_clauses learned_behind_a_lemma 3 ≡ false }
+    ensures own { has_chain two_clauses learned_behind_a_lemma 2 ≡ false }
+    ensures zero { has_chain two_clauses learned_behind_a_lemma 0 ≡ false }
+    ensures past { has_chain two_clauses learned_behind_a_lemma 5 ≡ false }
 {}
 
 /// Taken clauses stand behind the problem's own, in the order in which they were taken.
 pub fn extended_problems()
-    ensures order { extended two_clauses behind_a_lemma (4 ∷ 3 ∷ [])
+    ensures order { extended two_clauses learned_behind_a_lemma (4 ∷ 3 ∷ [])
         ≡ clauses_over 2 ((pos 1 ∷ pos 2 ∷ []) ∷ (pos 1 ∷ minus 2 ∷ []) ∷ (pos 1 ∷ []) ∷ (pos 2 ∷ []) ∷ []) }
-    ensures none { extended two_clauses learned [] ≡ two_clauses }
+    ensures none { extended two_clauses first_learned [] ≡ two_clauses }
 {}
 
 /// A problem passes the limits with one clause or one literal more than an input may have.
@@ -51,8 +52,8 @@ pub fn moved_numbers()
     ensures first_taken { moved_number 2 (7 ∷ 4 ∷ []) 6 3 ≡ 7 }
     ensures last_taken { moved_number 2 (7 ∷ 4 ∷ []) 6 4 ≡ 4 }
     ensures step { moved_number 2 (7 ∷ 4 ∷ []) 6 5 ≡ 9 }
-    ensures steps { moved two_clauses made (4 ∷ []) behind_a_lemma ≡ on_the_board }
-    ensures bare { moved two_clauses behind_a_lemma [] [] ≡ behind_a_lemma }
+    ensures steps { moved two_clauses made (4 ∷ []) learned_behind_a_lemma ≡ on_the_board }
+    ensures bare { moved two_clauses learned_behind_a_lemma [] [] ≡ learned_behind_a_lemma }
 {}
 
 /// The first worker prefers no variable to be true, the second each second one, the third each third one.
@@ -64,10 +65,10 @@ pub fn preferred_literals()
 
 /// A worker's problem has what that worker took, and giving adds its steps, renumbered, behind the board.
 pub fn states_of_teams()
-    ensures took { over two_workers 0 ≡ extended two_clauses behind_a_lemma (4 ∷ []) }
+    ensures took { over two_workers 0 ≡ extended two_clauses learned_behind_a_lemma (4 ∷ []) }
     ensures took_nothing { over two_workers 1 ≡ two_clauses }
-    ensures made { with_made two_workers 0 learned ≡ team behind_a_lemma (worker (4 ∷ []) learned ∷ worker [] learned ∷ []) }
-    ensures gave { after_give two_workers 1 ≡ team (behind_a_lemma ++ learned) (worker (4 ∷ []) [] ∷ worker [] [] ∷ []) }
+    ensures made { with_made two_workers 0 first_learned ≡ team learned_behind_a_lemma (worker (4 ∷ []) first_learned ∷ worker [] first_learned ∷ []) }
+    ensures gave { after_give two_workers 1 ≡ team (learned_behind_a_lemma ++ first_learned) (worker (4 ∷ []) [] ∷ worker [] [] ∷ []) }
 {}
 
 /// A worker that isn't there is told before a slice of nothing.

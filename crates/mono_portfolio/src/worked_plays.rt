@@ -11,7 +11,8 @@ ghost use Rattle.mono_portfolio.specs.Extended.{extended, passes_limits};
 ghost use Rattle.mono_portfolio.specs.TeamView.{WorkerView, TeamView, start, IsWorker, IsTeam};
 ghost use Rattle.mono_portfolio.specs.Plays.{Answers, Plays};
 ghost use Rattle.mono_portfolio.specs.Soundness.{given, refuted_last, IsSound, IsPlay};
-ghost use Rattle.mono_portfolio.specs.Worked.{two_clauses, two_units, first_learned, learned, some_lemma, behind_a_lemma, made};
+ghost use Rattle.mono_search.specs.Worked.{two_clauses, both_signs, learned_clause, first_learned, learned_behind_a_lemma};
+ghost use Rattle.mono_portfolio.specs.Worked.{some_lemma, made};
 ghost use Rattle.mono_portfolio.specs.Worked.{on_the_board, worker, team, two_workers, events, replies, at_end};
 
 use crate::laws::every_play_is_sound;
@@ -31,30 +32,32 @@ pub fn plays_with_other_replies()
 
 /// A slice has as many chains as were asked for, and fewer than 3 to the number of variables.
 pub fn answers_to_runs()
-    ensures fewer_chains { Answers (start two_clauses 2) (event.Run 0 2) reply.Slice (team [] (worker [] learned ∷ worker [] [] ∷ [])) → ⊥ }
+    ensures fewer_chains { Answers (start two_clauses 2) (event.Run 0 2) reply.Slice (team [] (worker [] first_learned ∷ worker [] [] ∷ [])) → ⊥ }
     ensures beyond { (t : TeamView) → Answers (start two_clauses 2) (event.Run 0 9) reply.Slice t → ⊥ }
-    ensures no_refutation { Answers (start two_clauses 2) (event.Run 0 1) reply.Unsat (team [] (worker [] learned ∷ worker [] [] ∷ [])) → ⊥ }
+    ensures no_refutation { Answers (start two_clauses 2) (event.Run 0 1) reply.Unsat (team [] (worker [] first_learned ∷ worker [] [] ∷ [])) → ⊥ }
     ensures false_clause { (t : TeamView) → Answers (start two_clauses 2) (event.Run 0 1) (reply.Model (false ∷ true ∷ [])) t → ⊥ }
     ensures model_keeps_made { Answers two_workers (event.Run 1 1) (reply.Model (true ∷ false ∷ [])) two_workers → ⊥ }
-    ensures other_worker { Answers (start two_clauses 2) (event.Run 0 1) reply.Slice (team [] (worker [] [] ∷ worker [] learned ∷ [])) → ⊥ }
+    ensures other_worker { Answers (start two_clauses 2) (event.Run 0 1) reply.Slice (team [] (worker [] [] ∷ worker [] first_learned ∷ [])) → ⊥ }
 {}
 
 /// All that the worker made joins the board, and is the worker's no more.
 pub fn answers_to_gifts()
-    ensures with_lemmas { Answers (team behind_a_lemma (worker (4 ∷ []) made ∷ [])) (event.Give 0) (reply.Given 4)
-        (team (behind_a_lemma ++ on_the_board) (worker (4 ∷ []) [] ∷ [])) }
+    ensures with_lemmas { Answers (team learned_behind_a_lemma (worker (4 ∷ []) made ∷ [])) (event.Give 0) (reply.Given 4)
+        (team (learned_behind_a_lemma ++ on_the_board) (worker (4 ∷ []) [] ∷ [])) }
     ensures count { (t : TeamView) → Answers two_workers (event.Give 1) (reply.Given 2) t → ⊥ }
     ensures kept { Answers two_workers (event.Give 1) (reply.Given 1)
-        (team (some_lemma ∷ first_learned ∷ first_learned ∷ []) (worker (4 ∷ []) [] ∷ worker [] learned ∷ [])) → ⊥ }
-    ensures not_joined { Answers two_workers (event.Give 1) (reply.Given 1) (team behind_a_lemma (worker (4 ∷ []) [] ∷ worker [] [] ∷ [])) → ⊥ }
+        (team (some_lemma ∷ learned_clause ∷ learned_clause ∷ []) (worker (4 ∷ []) [] ∷ worker [] first_learned ∷ [])) → ⊥ }
+    ensures not_joined { Answers two_workers (event.Give 1) (reply.Given 1) (team learned_behind_a_lemma (worker (4 ∷ []) [] ∷ worker [] [] ∷ [])) → ⊥ }
 {}
 
 /// What is taken stands last, and what the worker made before is gone. The other worker's list stays.
 pub fn answers_to_takings()
-    ensures taken { Answers two_workers (event.Take 1 4) reply.Taken (team behind_a_lemma (worker (4 ∷ []) [] ∷ worker (4 ∷ []) [] ∷ [])) }
-    ensures kept { Answers two_workers (event.Take 1 4) reply.Taken (team behind_a_lemma (worker (4 ∷ []) [] ∷ worker (4 ∷ []) learned ∷ [])) → ⊥ }
-    ensures not_taken { Answers two_workers (event.Take 1 4) reply.Taken (team behind_a_lemma (worker (4 ∷ []) [] ∷ worker [] [] ∷ [])) → ⊥ }
-    ensures by_the_other { Answers two_workers (event.Take 1 4) reply.Taken (team behind_a_lemma (worker (4 ∷ 4 ∷ []) [] ∷ worker [] learned ∷ [])) → ⊥ }
+    ensures taken { Answers two_workers (event.Take 1 4) reply.Taken (team learned_behind_a_lemma (worker (4 ∷ []) [] ∷ worker (4 ∷ []) [] ∷ [])) }
+    ensures kept { Answers two_workers (event.Take 1 4) reply.Taken
+        (team learned_behind_a_lemma (worker (4 ∷ []) [] ∷ worker (4 ∷ []) first_learned ∷ [])) → ⊥ }
+    ensures not_taken { Answers two_workers (event.Take 1 4) reply.Taken (team learned_behind_a_lemma (worker (4 ∷ []) [] ∷ worker [] [] ∷ [])) → ⊥ }
+    ensures by_the_other { Answers two_workers (event.Take 1 4) reply.Taken
+        (team learned_behind_a_lemma (worker (4 ∷ 4 ∷ []) [] ∷ worker [] first_learned ∷ [])) → ⊥ }
 {}
 
 /// A worker's last reply is Unsat until it is asked again. What others are asked changes nothing.
@@ -67,7 +70,7 @@ pub fn last_replies()
 
 /// The small play is sound, as each one is.
 pub fn small_play_is_sound()
-    ensures { IsSound two_clauses events replies learned }
+    ensures { IsSound two_clauses events replies first_learned }
 {
     every_play_is_sound();
     small_play();
@@ -79,7 +82,7 @@ pub fn states_of_plays()
     ensures reached { IsTeam at_end }
     ensures no_problem { IsTeam (record { problem = clauses_over 0 ((pos 1 ∷ []) ∷ []); board = []; workers = [] }) → ⊥ }
     ensures board { IsTeam two_workers → ⊥ }
-    ensures no_chain { IsTeam (team learned (worker (2 ∷ []) [] ∷ [])) → ⊥ }
+    ensures no_chain { IsTeam (team first_learned (worker (2 ∷ []) [] ∷ [])) → ⊥ }
     ensures no_room { (p : Instance) (board : List Step) (x : WorkerView) → passes_limits (extended p board x.taken) ≡ true → IsWorker p board x → ⊥ }
     ensures made { IsTeam (team [] (worker [] (chain [] (1 ∷ 2 ∷ []) ∷ []) ∷ [])) → ⊥ }
 {
@@ -88,8 +91,8 @@ pub fn states_of_plays()
 
 /// The small play is one of two workers, with the board that it leaves.
 pub fn whole_plays()
-    ensures small { IsPlay two_clauses 2 events replies learned }
-    ensures other_board { IsPlay two_clauses 2 [] [] learned → ⊥ }
+    ensures small { IsPlay two_clauses 2 events replies first_learned }
+    ensures other_board { IsPlay two_clauses 2 [] [] first_learned → ⊥ }
     ensures other_replies { IsPlay two_clauses 2 [] (reply.Taken ∷ []) [] → ⊥ }
 {
     small_play();
@@ -97,7 +100,7 @@ pub fn whole_plays()
 
 /// A worker gives what it made with its reply Unsat: the board is a refutation then.
 pub fn refuted_play_is_sound()
-    ensures { IsSound two_units (event.Run 0 1 ∷ event.Give 0 ∷ []) (reply.Unsat ∷ reply.Given 1 ∷ []) (chain [] (1 ∷ 2 ∷ []) ∷ []) }
+    ensures { IsSound both_signs (event.Run 0 1 ∷ event.Give 0 ∷ []) (reply.Unsat ∷ reply.Given 1 ∷ []) (chain [] (1 ∷ 2 ∷ []) ∷ []) }
 {}
 
 /// No board with an unjustified step, no model that leaves a clause false, no two answers, and no gift of a refutation
@@ -106,5 +109,5 @@ pub fn unsound_plays()
     ensures board { IsSound two_clauses [] [] (chain [] (1 ∷ 2 ∷ []) ∷ []) → ⊥ }
     ensures model { IsSound two_clauses (event.Run 0 1 ∷ []) (reply.Model (false ∷ true ∷ []) ∷ []) [] → ⊥ }
     ensures both { IsSound two_clauses (event.Run 0 1 ∷ event.Run 1 1 ∷ []) (reply.Model (true ∷ true ∷ []) ∷ reply.Unsat ∷ []) [] → ⊥ }
-    ensures refutation { IsSound two_clauses (event.Run 0 1 ∷ event.Give 0 ∷ []) (reply.Unsat ∷ reply.Given 1 ∷ []) learned → ⊥ }
+    ensures refutation { IsSound two_clauses (event.Run 0 1 ∷ event.Give 0 ∷ []) (reply.Unsat ∷ reply.Given 1 ∷ []) first_learned → ⊥ }
 {}

@@ -8,7 +8,7 @@ ghost use Rattle.mono_portfolio.specs.Rounds.{short_chains, taking, IsRound, Are
 ghost use Rattle.mono_steps.specs.WorkedLemmas.{chain};
 ghost use Rattle.mono_portfolio.specs.declared.rounds.TeamOutcome.TheVariants as outcome;
 ghost use Rattle.mono_portfolio.specs.Outcomes.{IsTeamOutcome};
-ghost use Rattle.mono_portfolio.specs.Worked.{two_clauses, two_units, first_learned, learned, behind_a_lemma};
+ghost use Rattle.mono_search.specs.Worked.{two_clauses, both_signs, learned_clause, first_learned, learned_behind_a_lemma};
 ghost use Rattle.mono_portfolio.specs.Worked.{long_and_short, four_clauses, given_first, given_next};
 
 /// Chains of at most 8 literals are taken by all, the empty one too. No lemma is.
@@ -19,16 +19,16 @@ pub fn short_ones()
 
 /// They are taken in order, behind what was taken before. One that finds no room is passed over.
 pub fn taken_by_all()
-    ensures behind { taking two_clauses behind_a_lemma (4 ∷ []) (3 ∷ 4 ∷ []) ≡ 4 ∷ 3 ∷ 4 ∷ [] }
+    ensures behind { taking two_clauses learned_behind_a_lemma (4 ∷ []) (3 ∷ 4 ∷ []) ≡ 4 ∷ 3 ∷ 4 ∷ [] }
     ensures no_room { (p : Instance) (board : List Step) (n : ℕ) → passes_limits (extended p board (n ∷ [])) ≡ true → taking p board [] (n ∷ []) ≡ [] }
     ensures room { (p : Instance) (board : List Step) (n : ℕ) → passes_limits (extended p board (n ∷ [])) ≡ false → taking p board [] (n ∷ []) ≡ n ∷ [] }
 {}
 
 /// In one round two workers that each learn one clause add two pieces, the second behind the first.
 pub fn small_round()
-    ensures two { AreRounds 1 two_clauses 2 1 [] [] (first_learned ∷ first_learned ∷ []) }
-    ensures one_piece { AreRounds 1 two_clauses 2 1 [] [] learned → ⊥ }
-    ensures another_board { AreRounds 1 two_clauses 0 1 [] [] learned → ⊥ }
+    ensures two { AreRounds 1 two_clauses 2 1 [] [] (learned_clause ∷ learned_clause ∷ []) }
+    ensures one_piece { AreRounds 1 two_clauses 2 1 [] [] first_learned → ⊥ }
+    ensures another_board { AreRounds 1 two_clauses 0 1 [] [] first_learned → ⊥ }
 {}
 
 /// What was given in a round is taken behind it: the second chain names it by its number.
@@ -40,8 +40,8 @@ pub fn two_small_rounds()
 pub fn ends_of_teams()
     ensures model { IsTeamOutcome two_clauses 2 1 (outcome.Model (true ∷ false ∷ [])) }
     ensures false_clause { IsTeamOutcome two_clauses 2 1 (outcome.Model (false ∷ true ∷ [])) → ⊥ }
-    ensures refutation { IsTeamOutcome two_units 2 1 (outcome.Refutation (chain [] (1 ∷ 2 ∷ []) ∷ [])) }
-    ensures no_refutation { IsTeamOutcome two_clauses 2 1 (outcome.Refutation learned) → ⊥ }
+    ensures refutation { IsTeamOutcome both_signs 2 1 (outcome.Refutation (chain [] (1 ∷ 2 ∷ []) ∷ [])) }
+    ensures no_refutation { IsTeamOutcome two_clauses 2 1 (outcome.Refutation first_learned) → ⊥ }
     ensures few_variables { (board : List Step) → IsTeamOutcome two_clauses 2 1 (outcome.Board board) → ⊥ }
 {}
 
@@ -49,7 +49,7 @@ pub fn ends_of_teams()
 pub fn played_rounds()
     ensures thousand { (p : Instance) (board : List Step) (workers rounds : ℕ) → Rounds p board workers rounds → AreRounds 1000 p workers rounds [] [] board }
     ensures none { Rounds two_clauses [] 2 0 }
-    ensures none_more { Rounds two_clauses learned 2 0 → ⊥ }
-    ensures nobody { IsRound 1000 two_clauses 0 [] learned learned }
+    ensures none_more { Rounds two_clauses first_learned 2 0 → ⊥ }
+    ensures nobody { IsRound 1000 two_clauses 0 [] first_learned first_learned }
     ensures one { (board : List Step) → Rounds two_clauses board 1 1 → ⊥ }
 {}

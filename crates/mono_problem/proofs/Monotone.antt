@@ -4,7 +4,7 @@ use Rattle.std.specs.Prelude.{IsTrue}
 use Rattle.mono_graph.proofs.RisingRanks.{acyclic-smaller}
 use Rattle.std.proofs.lemmas.Bool.{and_parts, and_from}
 use Rattle.mono_graph.specs.Digraph.{Digraph, IsSubpart}
-use Rattle.mono_graph.specs.Walks.{Free, Steps, Weight}
+use Rattle.mono_graph.specs.declared.limit.Limit.TheVariants as limit
 use Rattle.mono_graph.specs.Flows.{is_flow, value_of}
 use Rattle.mono_graph.proofs.Subparts.{is_path-larger, is_flow-larger, is_tree-larger}
 use Rattle.mono_problem.specs.declared.atom.Predicate.{Predicate}
@@ -14,9 +14,9 @@ use Rattle.mono_problem.specs.Holds.{Holds, falls}
 
 -- one that rises
 pub Holds-larger : (g : Digraph) (P Q : List Bool) → IsSubpart P Q → (q : Predicate) → falls q ≡ false → Holds g P q → Holds g Q q
-Holds-larger g P Q s (kind.Reach u v) rises (ks, h) = (ks, is_path-larger g P Q s u v Free ks h)
-Holds-larger g P Q s (kind.Steps u v most) rises (ks, h) = (ks, is_path-larger g P Q s u v (Steps most) ks h)
-Holds-larger g P Q s (kind.Distance u v most) rises (ks, h) = (ks, is_path-larger g P Q s u v (Weight most) ks h)
+Holds-larger g P Q s (kind.Reach u v) rises (ks, h) = (ks, is_path-larger g P Q s u v limit.Free ks h)
+Holds-larger g P Q s (kind.Steps u v most) rises (ks, h) = (ks, is_path-larger g P Q s u v (limit.Steps most) ks h)
+Holds-larger g P Q s (kind.Distance u v most) rises (ks, h) = (ks, is_path-larger g P Q s u v (limit.Weight most) ks h)
 Holds-larger g P Q s (kind.Flow a b least) rises (f, h) =
     let p = and_parts (is_flow g P a b f) (int_le least (value_of g a f)) h in
     (f, and_from (is_flow g Q a b f) (int_le least (value_of g a f)) (is_flow-larger g P Q s a b f p.0) p.1)

@@ -5,7 +5,8 @@ use Rattle.std.proofs.lemmas.Bool.{and_parts}
 use Rattle.mono_graph.specs.declared.label.Label.{Label}
 use Rattle.mono_graph.specs.Digraph.{Digraph, HasEnds}
 use Rattle.mono_graph.specs.Worked.{pipe}
-use Rattle.mono_graph.specs.Walks.{is_walk, is_cut, is_light, is_labelling, Free, Steps, Weight}
+use Rattle.mono_graph.specs.Walks.{is_walk, is_cut, is_light, is_labelling}
+use Rattle.mono_graph.specs.declared.limit.Limit.TheVariants as limit
 use Rattle.mono_graph.specs.Flows.{is_flow_cut}
 use Rattle.mono_graph.specs.Trees.{is_split, is_least}
 use Rattle.mono_graph.proofs.CutsBoundWalks.{cut_excludes, labelling_excludes}
@@ -16,13 +17,13 @@ use Rattle.mono_problem.specs.declared.atom.Predicate.TheVariants as kind
 use Rattle.mono_problem.specs.Holds.{Holds}
 
 pub cut_fails : (g : Digraph) (P : List Bool) (u v : ℕ) (set : List ℕ) → IsTrue (is_cut g P u v set) → Holds g P (kind.Reach u v) → ⊥
-cut_fails g P u v set cut h = cut_excludes g P u v set h.0 cut (and_parts (is_walk g P u v h.0) (is_light Free g h.0) h.1).0
+cut_fails g P u v set cut h = cut_excludes g P u v set h.0 cut (and_parts (is_walk g P u v h.0) (is_light limit.Free g h.0) h.1).0
 
-pub steps_fail : (g : Digraph) (P : List Bool) (u v : ℕ) (most : ℤ) (ls : List Label) → IsTrue (is_labelling g P u v (Steps most) ls) → Holds g P (kind.Steps u v most) → ⊥
-steps_fail g P u v most ls passes h = labelling_excludes g P u v (Steps most) ls h.0 (λ e. cc) passes h.1
+pub steps_fail : (g : Digraph) (P : List Bool) (u v : ℕ) (most : ℤ) (ls : List Label) → IsTrue (is_labelling g P u v (limit.Steps most) ls) → Holds g P (kind.Steps u v most) → ⊥
+steps_fail g P u v most ls passes h = labelling_excludes g P u v (limit.Steps most) ls h.0 (λ e. cc) passes h.1
 
-pub distance_fails : (g : Digraph) (P : List Bool) (u v : ℕ) (most : ℤ) (ls : List Label) → IsTrue (is_labelling g P u v (Weight most) ls) → Holds g P (kind.Distance u v most) → ⊥
-distance_fails g P u v most ls passes h = labelling_excludes g P u v (Weight most) ls h.0 (λ e. cc) passes h.1
+pub distance_fails : (g : Digraph) (P : List Bool) (u v : ℕ) (most : ℤ) (ls : List Label) → IsTrue (is_labelling g P u v (limit.Weight most) ls) → Holds g P (kind.Distance u v most) → ⊥
+distance_fails g P u v most ls passes h = labelling_excludes g P u v (limit.Weight most) ls h.0 (λ e. cc) passes h.1
 
 pub flow_fails : (g : Digraph) (P : List Bool) (s t : ℕ) (least : ℤ) (set : List ℕ) → HasEnds g → s < g.nodes → IsTrue (is_flow_cut g P s t least set) → Holds g P (kind.Flow s t least) → ⊥
 flow_fails g P s t least set ends within cut h = flow_cut_excludes g P s t least h.0 set ends within cut h.1

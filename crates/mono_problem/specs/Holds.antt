@@ -2,7 +2,8 @@
 use Rattle.std.specs.Prelude.{ℕ, Bool, true, false, ◌&&◌, int_le, ◌↔◌, List, IsTrue, All}
 use Rattle.mono_base.specs.Literal.{all_true}
 use Rattle.mono_graph.specs.Digraph.{Digraph, enabled}
-use Rattle.mono_graph.specs.Walks.{is_path, Free, Steps, Weight}
+use Rattle.mono_graph.specs.Walks.{is_path}
+use Rattle.mono_graph.specs.declared.limit.Limit.TheVariants as limit
 use Rattle.mono_graph.specs.Flows.{is_flow, value_of}
 use Rattle.mono_graph.specs.Trees.{is_tree}
 use Rattle.mono_graph.specs.Cycles.{IsAcyclic}
@@ -14,9 +15,9 @@ use Rattle.mono_problem.specs.Instance.{Instance, graph_at}
 -- the predicate holds in the part: there is a walk within the limit, a flow of at least the value, a spanning tree of at most the weight,
 -- or no cycle
 abbrev pub Holds : Digraph → List Bool → Predicate → Type 0
-Holds g P (kind.Reach u v) = (walk : List ℕ) × IsTrue (is_path g P u v Free walk)
-Holds g P (kind.Steps u v most) = (walk : List ℕ) × IsTrue (is_path g P u v (Steps most) walk)
-Holds g P (kind.Distance u v most) = (walk : List ℕ) × IsTrue (is_path g P u v (Weight most) walk)
+Holds g P (kind.Reach u v) = (walk : List ℕ) × IsTrue (is_path g P u v limit.Free walk)
+Holds g P (kind.Steps u v most) = (walk : List ℕ) × IsTrue (is_path g P u v (limit.Steps most) walk)
+Holds g P (kind.Distance u v most) = (walk : List ℕ) × IsTrue (is_path g P u v (limit.Weight most) walk)
 Holds g P (kind.Flow s t least) = (flow : ℕ → ℕ) × IsTrue (is_flow g P s t flow && int_le least (value_of g s flow))
 Holds g P (kind.Tree most) = (tree : List ℕ) × IsTrue (is_tree g P most tree)
 Holds g P kind.Acyclic = IsAcyclic g P

@@ -23,7 +23,9 @@ part_to_fail q g t = if falls q then under g t else over g t
 
 -- the atom forces the literal: its variable, where the predicate holds whatever comes, or its negation, where it fails whatever comes
 abbrev pub Forces : Digraph → Atom → List ℤ → ℤ → Type 0
-Forces g x t l = ((l ≡ pos x.var) × Holds g (part_to_hold x.predicate g t) x.predicate) ⊎ ((l ≡ neg_ℤ (pos x.var)) × ¬ Holds g (part_to_fail x.predicate g t) x.predicate)
+Forces g x t l =
+    ((l ≡ pos x.var) × Holds g (part_to_hold x.predicate g t) x.predicate)
+    ⊎ ((l ≡ neg_ℤ (pos x.var)) × ¬ Holds g (part_to_fail x.predicate g t) x.predicate)
 
 -- each literal that the atom forces is true in the list
 abbrev pub HasForcedTrue : Digraph → List ℤ → Atom → Type 0
@@ -32,11 +34,16 @@ HasForcedTrue g t x = (l : ℤ) → Forces g x t l → IsTrue (is_true_in t l)
 -- the atom forces nothing that the list doesn't say: its variable is true in the list where its predicate holds whatever comes, and
 -- where its variable isn't false its predicate holds with the edges with which it would fail whatever comes
 abbrev pub IsQuietAtom : Digraph → List ℤ → Atom → Type 0
-IsQuietAtom g t x = (Holds g (part_to_hold x.predicate g t) x.predicate → IsTrue (is_true_in t (pos x.var))) × (is_false_in t (pos x.var) ≡ false → Holds g (part_to_fail x.predicate g t) x.predicate)
+IsQuietAtom g t x =
+    (Holds g (part_to_hold x.predicate g t) x.predicate → IsTrue (is_true_in t (pos x.var)))
+    × (is_false_in t (pos x.var) ≡ false → Holds g (part_to_fail x.predicate g t) x.predicate)
 
--- the same, where of the predicate with those edges no more is said than that it doesn't fail
+-- the atom forces nothing that the list doesn't say, where of its predicate with the edges with which it would fail whatever
+-- comes no more is said than that it doesn't fail
 abbrev pub IsNearlyQuiet : Digraph → List ℤ → Atom → Type 0
-IsNearlyQuiet g t x = (Holds g (part_to_hold x.predicate g t) x.predicate → IsTrue (is_true_in t (pos x.var))) × (is_false_in t (pos x.var) ≡ false → ¬ ¬ Holds g (part_to_fail x.predicate g t) x.predicate)
+IsNearlyQuiet g t x =
+    (Holds g (part_to_hold x.predicate g t) x.predicate → IsTrue (is_true_in t (pos x.var)))
+    × (is_false_in t (pos x.var) ≡ false → ¬ ¬ Holds g (part_to_fail x.predicate g t) x.predicate)
 
 -- no atom forces anything that the list doesn't say
 abbrev pub TheoryQuiet : Digraph → List Atom → List ℤ → Type 0

@@ -41,7 +41,7 @@ is_edge_use k j (use_of.Atom n) = false
 abbrev pub has_edge_use : ℕ → ℕ → List Use → Bool
 has_edge_use k j us = list_any (is_edge_use k j) us
 
--- the same of two lists side by side, the variables and their uses
+-- the uses of x, where the variables and their uses are two lists side by side
 abbrev pub chosen : ℕ → List ℕ → List Use → List Use
 chosen x [] us = []
 chosen x (v ∷ vs) [] = []

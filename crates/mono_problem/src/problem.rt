@@ -13,7 +13,7 @@ use crate::uses::UseTable;
 use crate::{Atom, Use};
 use indexmap::IndexMap;
 use mono_base::Lit;
-use mono_graph::Graph;
+use mono_graph::{Graph, value_of};
 use std::alloc::AllocError;
 use std::marker::Model;
 
@@ -53,7 +53,7 @@ fn lit_is_true(lit: Lit, model: &[bool]) -> bool
     requires high { nat_abs lit ≤ length model.now }
     ensures { result ≡ lit_true (value_in model.now) lit }
 {
-    let value = model[lit.var() as usize - 1];
+    let value = value_of(model, lit.var());
     if lit.is_positive() { value } else { !value }
 }
 

@@ -1,12 +1,11 @@
 -- What is kept of the nodes that are reached along the surely present edges stays right, and decides each predicate.
-use Rattle.std.proofs.Common.{◌≡◌, ℕ, ◌+◌, ◌<◌, ◌≤◌, Bool, true, false, List, [], ◌∷◌, ◌++◌, length, map, take, get_or, refl, sym, ap, subst, ◌∙◌, inl, inr, arith, ℤ, take-take}
+use Rattle.std.proofs.Common.{◌≡◌, ℕ, ◌+◌, ◌<◌, ◌≤◌, Bool, true, false, List, length, map, take, get_or, refl, sym, ap, subst, ◌∙◌, inl, inr, arith, ℤ, take-take}
 use Rattle.std.specs.Prelude.{IsTrue, nat_le, slice_index, All, Option, Some, None}
 use Rattle.std.specs.Option.{is_some}
-use Rattle.std.proofs.lemmas.Bool.{cases_lt, both_ways, and_from, and_parts, le-leb, leb-true}
+use Rattle.std.proofs.lemmas.Bool.{both_ways, and_from, and_parts, le-leb, leb-true}
 use Rattle.std.specs.List.{AllZip}
-use Rattle.std.proofs.lemmas.List.{get_or_append_left, get_or_default, get_or-map, length-append, length-map, length-take-le}
+use Rattle.std.proofs.lemmas.List.{get_or_default, get_or-map, length-map, length-take-le}
 use Rattle.std.proofs.lemmas.List.Elements.{length_all_zip, AllZip-get_or}
-use Rattle.std.proofs.Math.Seq.{get_or-append_seam}
 use Rattle.mono_graph.specs.Digraph.{Digraph, IsGraph, has}
 use Rattle.mono_graph.specs.Walks.{is_walk}
 use Rattle.mono_graph.proofs.Subparts.{is_walk-larger}
@@ -28,12 +27,15 @@ use Rattle.mono_theory.proofs.KeptEvidenceDecides.{shown_rising}
 use Rattle.mono_theory.specs.DueAtoms.{PutsDue}
 use Rattle.mono_theory.specs.DueNodes.{PutsRows}
 use Rattle.mono_theory.proofs.DueNodes.{none_new}
+use Rattle.mono_theory.proofs.DueStay.{due_none}
+use Rattle.mono_theory.specs.Asked.{AreOfAtoms, HasFirst, HasLast}
 use Rattle.mono_theory.specs.Supports.{atom_at}
 use Rattle.mono_theory.specs.Theories.{Facts, cut_to}
 use Rattle.mono_theory.specs.Walked.{walk_evidence}
 use Rattle.mono_theory.specs.SureParts.{sure_parts}
-use Rattle.mono_theory.proofs.SureEdges.{none_sure, sure_larger, sure_within, walk_places}
-use Rattle.mono_reach.specs.Marks.{SureMarks, AreMarks, AreNodesOf, HaveRows, IsRowFrom, first_node, last_node, shows_last, under_mark, row_of_atom}
+use Rattle.mono_theory.specs.SureRows.{HaveLooked}
+use Rattle.mono_theory.proofs.SureEdges.{none_sure, still_until, sure_larger, sure_within, walk_places}
+use Rattle.mono_reach.specs.Marks.{SureMarks, AreMarks, HaveRows, IsRowFrom, first_node, last_node, shows_last, under_mark, row_of_atom}
 use Rattle.mono_reach.specs.Reaches.{is_reach}
 use Rattle.mono_reach.proofs.WalksAndCuts.{reach_rises, walk_shows}
 
@@ -68,7 +70,7 @@ marks_back {f = f} {s = s} {r = r} n kept le is own_rows own_lasts h = record {
   rows = all_undone kept s.rows r.rows is f.graph (sure_parts f) n le h.rows;
   sized = λ i lt. (let old : i < length s.rows = omega (arith, lt, len) in ap (λ (x : Reached). x.nodes) (at i old) ∙ h.sized i old);
   row_of_len = ap length own_rows ∙ h.row_of_len;
-  lasts = subst (λ (vs : List ℕ). AreNodesOf last_node f.atoms (length f.atoms) vs) (sym own_lasts) h.lasts;
+  lasts = subst (λ (vs : List ℕ). AreOfAtoms HasLast f.atoms (length f.atoms) vs) (sym own_lasts) h.lasts;
   each = λ a lt. (
       let own = h.each a lt in
       subst (λ (i : ℕ). IsRowFrom r.rows i (first_node (atom_at f.atoms a).predicate)) (ap (λ (is : List ℕ). get_or is a 0) (sym own_rows)) (row_from len (ap (λ (x : Reached). x.source) (at (row_of_atom s a) own.held)) own));
@@ -81,9 +83,9 @@ marks_back {f = f} {s = s} {r = r} n kept le is own_rows own_lasts h = record {
     at i lt = AllZip-get_or (λ old new. new ≡ back_to kept old) s.rows r.rows i no_row no_row is lt
 
 -- the next literal is positive, and the rows have grown by its edges
-pub marks_grown : {f : Facts} {s : SureMarks} (n : ℕ) (l : ℤ) (ks : List ℕ) (P : List Bool) (rows : List Reached) → GrowsAfter (sure_parts f) n (n + 1) P ks → AllZip (IsGrownRow f.graph P ks (n + 1)) s.rows rows → AreMarks f n s
+pub marks_grown : {f : Facts} {s : SureMarks} (n : ℕ) (ks : List ℕ) (P : List Bool) (rows : List Reached) → GrowsAfter (sure_parts f) n (n + 1) P ks → AllZip (IsGrownRow f.graph P ks (n + 1)) s.rows rows → AreMarks f n s
     → AreMarks f (n + 1) (record { rows = rows; row_of = s.row_of; lasts = s.lasts })
-marks_grown {f = f} {s = s} n l ks P rows grows grown h = record {
+marks_grown {f = f} {s = s} n ks P rows grows grown h = record {
   rows = all_grown f.graph P ks (n + 1) s.rows rows grown (sure_parts f) n h.rows grows;
   sized = λ i inside. (let old : i < length s.rows = omega (arith, inside, len) in (one i old).nodes ∙ h.sized i old);
   row_of_len = h.row_of_len;
@@ -104,19 +106,21 @@ rows_known {f = f} {s = s} n h = λ i d lt. subst (IsRow f.graph.nodes n) (get_o
 pub marks_passed : {f : Facts} {s : SureMarks} (n : ℕ) → sure_parts f (n + 1) ≡ sure_parts f n → AreMarks f n s → AreMarks f (n + 1) s
 marks_passed {f = f} {s = s} n same h = record {
   rows = record {
-    each = λ i inside. along_still f.graph (sure_parts f) n (n + 1) (row_at s.rows i).source (row_at s.rows i).arrivals (omega arith) still (h.rows.each i inside);
+    each = λ i inside. along_still f.graph (sure_parts f) n (n + 1) (row_at s.rows i).source (row_at s.rows i).arrivals (omega arith) (still_until f n same) (h.rows.each i inside);
   };
   sized = h.sized;
   row_of_len = h.row_of_len;
   lasts = h.lasts;
   each = h.each;
 }
-  where
-    still : (m : ℕ) → n ≤ m → m ≤ n + 1 → sure_parts f m ≡ sure_parts f n
-    still m low high = elim (cases_lt n m) [
-      | inl more ↦ ap (sure_parts f) (omega (arith, more, high)) ∙ same
-      | inr le ↦ ap (sure_parts f) (omega (arith, low, le))
-    ]
+
+-- what is kept of the next literal
+abbrev pub Looks : Facts → ℕ → SureMarks → SureMarks → List Bool → List Bool → Type 0
+Looks = HaveLooked (λ g P ks n. IsGrownRow g P ks (n + 1)) (λ n r. reached (after n r.arrivals))
+
+pub marks_looked : {f : Facts} {s r : SureMarks} {before later : List Bool} (n : ℕ) → Looks f n s r before later → AreMarks f n s → AreMarks f (n + 1) r
+marks_looked {f = f} n (inl stays) h = subst (AreMarks f (n + 1)) (sym stays.rows) (marks_passed n stays.parts h)
+marks_looked {f = f} {r = r} n (inr more) h = subst (AreMarks f (n + 1)) (sym more.same) (marks_grown n more.places more.part r.rows more.grows more.grown h)
 
 -- ---- what marks tell
 
@@ -163,12 +167,12 @@ marks_decide {f = f} {s = s} n a lt r h =
     (λ on. reach_holds f.graph (sure_parts f n) q r (exact.0 on))
     (λ off holds. both_ways (under_mark s a (last_node q)) off (exact.1 (holds_reach f.graph (sure_parts f n) q r holds)))
 
--- so is what is shown of it
+-- what is shown of an atom is whether its predicate holds
 pub shown_decides : {f : Facts} {s : SureMarks} (n a : ℕ) → a < length f.atoms → IsTrue (is_reach (atom_at f.atoms a).predicate) → AreMarks f n s
     → Decides f.graph (sure_parts f n) (atom_at f.atoms a).predicate (shown_by (atom_at f.atoms a).predicate (shows_last s a))
 shown_decides {f = f} {s = s} n a lt r h =
     let q = (atom_at f.atoms a).predicate in
-    subst (Decides f.graph (sure_parts f n) q) (sym (shown_rising q (shows_last s a) (reach_rises q r) ∙ ap (under_mark s a) (h.lasts.each a lt))) (marks_decide n a lt r h)
+    subst (Decides f.graph (sure_parts f n) q) (sym (shown_rising q (shows_last s a) (reach_rises q r) ∙ ap (under_mark s a) (h.lasts.each a 0 lt))) (marks_decide n a lt r h)
 
 -- a marked node is reached under all later literals too
 pub marked_walk : {f : Facts} {s : SureMarks} (n a v : ℕ) → n ≤ length f.seen → a < length f.atoms → AreMarks f n s → IsTrue (under_mark s a v) → (ks : List ℕ) × IsTrue (is_walk f.graph (under f.graph f.seen) (first_node (atom_at f.atoms a).predicate) v ks)
@@ -179,7 +183,7 @@ marked_walk {f = f} {s = s} n a v fits lt h m =
 
 -- ---- at first
 
-pub marks_start : (f : Facts) (sources row_of lasts : List ℕ) → HaveRows f.atoms (length f.atoms) row_of sources → AreNodesOf last_node f.atoms (length f.atoms) lasts → AreMarks f 0 (record { rows = map (alone f.graph.nodes) sources; row_of = row_of; lasts = lasts })
+pub marks_start : (f : Facts) (sources row_of lasts : List ℕ) → HaveRows f.atoms (length f.atoms) row_of sources → AreOfAtoms HasLast f.atoms (length f.atoms) lasts → AreMarks f 0 (record { rows = map (alone f.graph.nodes) sources; row_of = row_of; lasts = lasts })
 marks_start f sources row_of lasts have ends = record {
   rows = record {
     each = λ i lt. subst (λ (r : Reached). AreReachedAlong f.graph (sure_parts f) 0 r.source r.arrivals) (sym (at i (few i lt))) (along_first f.graph (sure_parts f) (get_or sources i 0) (none_sure f));
@@ -199,25 +203,11 @@ marks_start f sources row_of lasts have ends = record {
     at : (i : ℕ) → i < length sources → row_at (map (alone f.graph.nodes) sources) i ≡ alone f.graph.nodes (get_or sources i 0)
     at i lt = get_or-map (alone f.graph.nodes) sources i 0 no_row lt
 
--- ---- the nodes of atoms
-
-pub nodes_more : {end : Predicate → ℕ} {atoms : List Atom} {n : ℕ} {nodes : List ℕ} (u : ℕ) → u ≡ end (atom_at atoms n).predicate → AreNodesOf end atoms n nodes → AreNodesOf end atoms (n + 1) (nodes ++ u ∷ [])
-nodes_more {end = end} {atoms = atoms} {n = n} {nodes = nodes} u is h = record {
-  len = (let len = h.len in omega (arith, len, length-append nodes (u ∷ [])));
-  each = λ a low. elim (cases_lt a n) [
-    | inl before ↦ (let len = h.len in get_or_append_left nodes (u ∷ []) 0 a (omega (arith, before, len)) ∙ h.each a before)
-    | inr past ↦
-        let len = h.len in
-        let last : a ≡ length nodes = omega (arith, low, past, len) in
-        ap (λ (k : ℕ). get_or (nodes ++ u ∷ []) k 0) last ∙ (get_or-append_seam nodes u [] 0 ∙ (is ∙ ap (λ (k : ℕ). end (atom_at atoms k).predicate) (sym (last ∙ len))))
-  ];
-}
-
 -- the rows of their first nodes
-pub rows_of_firsts : {atoms : List Atom} {firsts row_of rows : List ℕ} → AreNodesOf first_node atoms (length atoms) firsts → AreServed (λ u. u) (λ u. 0) firsts (length firsts) row_of rows → HaveRows atoms (length atoms) row_of rows
+pub rows_of_firsts : {atoms : List Atom} {firsts row_of rows : List ℕ} → AreOfAtoms HasFirst atoms (length atoms) firsts → AreServed (λ u. u) (λ u. 0) firsts (length firsts) row_of rows → HaveRows atoms (length atoms) row_of rows
 rows_of_firsts {atoms = atoms} {firsts = firsts} h served = record {
   len = served.len ∙ h.len;
-  each = λ a lt. (let one = served.each a 0 (let len = h.len in omega (arith, lt, len)) in (one.held, one.slot_is 0 ∙ h.each a lt));
+  each = λ a lt. (let one = served.each a 0 (let len = h.len in omega (arith, lt, len)) in (one.held, one.slot_is 0 ∙ h.each a 0 lt));
 }
 
 -- ---- what is due
@@ -234,7 +224,7 @@ reached_last {f = f} {s = s} r n a P ks lt h own_rows grown v none on =
 
 -- an atom whose last node is newly reached is due
 pub marks_put_due : {f : Facts} {s r : SureMarks} {before later : List Bool} (n : ℕ) (P : List Bool) (ks : List ℕ) → AreMarks f n s → r ≡ record { rows = r.rows; row_of = s.row_of; lasts = s.lasts } → AllZip (IsGrownRow f.graph P ks (n + 1)) s.rows r.rows
-    → PutsRows r.lasts (λ i. reached (after n (row_at r.rows i).arrivals)) (length r.rows) before later → PutsDue (length f.atoms) (shows_last s) (shows_last r) before later
+    → PutsRows r.lasts (λ (x : Reached). reached (after n x.arrivals)) r.rows (length r.rows) before later → PutsDue (length f.atoms) (shows_last s) (shows_last r) before later
 marks_put_due {f = f} {s = s} {r = r} {before = before} {later = later} n P ks h is grown puts = record {
   size = puts.size;
   stay = puts.stay;
@@ -243,7 +233,7 @@ marks_put_due {f = f} {s = s} {r = r} {before = before} {later = later} n P ks h
       let held = own.held in
       let len : length s.rows ≡ length r.rows = length_all_zip (IsGrownRow f.graph P ks (n + 1)) s.rows r.rows grown in
       let lasts : length r.lasts ≡ length f.atoms = ap length own_lasts ∙ h.lasts.len in
-      let none = none_new {nodes = λ i. reached (after n (row_at r.rows i).arrivals)} (row_of_atom s a) a puts (omega (arith, held, len)) (omega (arith, lt, lasts)) off in
+      let none = none_new {nodes = λ (x : Reached). reached (after n x.arrivals)} (row_of_atom s a) a no_row puts (omega (arith, held, len)) (omega (arith, lt, lasts)) off in
       let last = ap (λ (vs : List ℕ). slice_index vs a) own_lasts in
       subst (λ (v : ℕ). IsTrue (under_mark s a v)) last (reached_last r n a P ks lt h own_rows grown (slice_index r.lasts a) none on);
 }
@@ -253,6 +243,12 @@ marks_put_due {f = f} {s = s} {r = r} {before = before} {later = later} n P ks h
 
     own_lasts : r.lasts ≡ s.lasts
     own_lasts = ap (λ (m : SureMarks). m.lasts) is
+
+pub looked_due : {f : Facts} {s r : SureMarks} {before later : List Bool} (n : ℕ) → Looks f n s r before later → AreMarks f n s → PutsDue (length f.atoms) (shows_last s) (shows_last r) before later
+looked_due {f = f} {s = s} {r = r} {before = before} n (inl stays) h =
+    subst (λ (due : List Bool). PutsDue (length f.atoms) (shows_last s) (shows_last r) before due) (sym stays.due)
+    (subst (λ (m : SureMarks). PutsDue (length f.atoms) (shows_last s) (shows_last m) before before) (sym stays.rows) (due_none (length f.atoms) (shows_last s) before))
+looked_due n (inr more) h = marks_put_due n more.part more.places h more.same more.grown more.due
 
 -- what was shown stays where it goes back
 pub back_shows : {f : Facts} {s : SureMarks} (r : SureMarks) (n kept a : ℕ) → a < length f.atoms → AreMarks f n s → r.row_of ≡ s.row_of → r.lasts ≡ s.lasts → AllZip (λ old new. new ≡ back_to kept old) s.rows r.rows → shows_last r a ≡ true → shows_last s a ≡ true
@@ -285,7 +281,7 @@ kept_walk {f = f} {s = s} n a v stamp kept ks lt le by walk h =
     is_walk-larger f.graph (sure_parts f stamp) (sure_parts f kept) (sure_larger f.graph f.seen stamp kept le) (first_node (atom_at f.atoms a).predicate) v ks
     (subst (λ (u : ℕ). IsTrue (is_walk f.graph (sure_parts f stamp) u v ks)) own.source first)
 
--- so does a walk that is kept
+-- a walk to the last node is evidence that the predicate holds
 pub walk_shows_it : (g : Digraph) (P : List Bool) (q : Predicate) (ks : List ℕ) → IsGraph g → IsTrue (is_reach q) → IsTrue (is_walk g P (first_node q) (last_node q) ks) → IsEvidence g P q (walk_evidence g ks)
 walk_shows_it g P (kind.Reach u v) ks graph r w = walk_shows g P u v ks graph (walk_places g P u v ks w) (and_from (is_walk g P u v ks) true w refl)
 walk_shows_it g P (kind.Steps u v most) ks graph r w = absurd cc

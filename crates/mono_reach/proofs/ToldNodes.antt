@@ -183,7 +183,7 @@ possible_stays f l (either.Searches s) (either.Searches r) q a v kept =
 possible_stays f l (either.Rows s) (either.Searches r) q a v kept = absurd kept
 possible_stays f l (either.Searches s) (either.Rows r) q a v kept = absurd kept
 
--- so no mark changes
+-- one more literal changes no mark
 pub marks_stay : (l : ℤ) (s r : ReachView) (a v : ℕ) → r.atoms ≡ s.atoms → IsEitherKept (facts_in s) l s.surely r.surely → IsEitherKept (facts_in s) l s.possibly r.possibly → marks_at r a v ≡ marks_at s a v
 marks_stay l s r a v atoms surely possibly =
     let q = (atom_at s.atoms a).predicate in

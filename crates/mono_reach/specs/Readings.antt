@@ -5,13 +5,13 @@ use Rattle.mono_problem.specs.declared.atom.Predicate.{Predicate}
 use Rattle.mono_theory.specs.declared.either_side.EitherSide.{EitherSide}
 use Rattle.mono_theory.specs.declared.either_side.EitherSide.TheVariants as either
 use Rattle.mono_theory.specs.EitherSides.{IsEitherDecided}
+use Rattle.mono_theory.specs.RowSides.{AlwaysStand}
 use Rattle.mono_steps.specs.declared.lemma.Witness.{Witness}
 use Rattle.mono_steps.specs.declared.lemma.Witness.TheVariants as by
 use Rattle.mono_theory.specs.declared.evidence.Evidence.{Evidence}
 use Rattle.mono_theory.specs.Sound.{evidence_at}
 use Rattle.mono_theory.specs.Stages.{shows, stage_at}
 use Rattle.mono_theory.specs.Supports.{GraphTheoryView, SideView, atom_at, facts_in}
-use Rattle.mono_theory.specs.Theories.{Facts}
 use Rattle.mono_reach.specs.Marks.{SureMarks, last_node, under_mark}
 use Rattle.mono_theory.specs.PossibleRows.{PossibleView, RowsStand, is_cut_off}
 use Rattle.mono_reach.specs.declared.marks.Marks.{Marks}
@@ -55,11 +55,7 @@ ReachView = GraphTheoryView (EitherSide SureMarks) (EitherSide PossibleView)
 abbrev pub marks_at : ReachView → ℕ → ℕ → Marks
 marks_at s a v = record { under = sure_mark s.surely (atom_at s.atoms a).predicate a v; over = possible_mark s.possibly (atom_at s.atoms a).predicate a v }
 
--- rows of the surely present edges are always up to date
-abbrev pub SureRowsStand : SureMarks → Facts → Type 0
-SureRowsStand s f = Unit {0}
-
 -- what is kept decides each predicate with the surely present edges, and with the possibly present ones
 pub record AreBothDecided (s : ReachView) : Type 0 where
-  pub surely : IsEitherDecided SureRowsStand (facts_in s) s.surely
+  pub surely : IsEitherDecided AlwaysStand (facts_in s) s.surely
   pub possibly : IsEitherDecided RowsStand (facts_in s) s.possibly

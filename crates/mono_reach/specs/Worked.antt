@@ -21,7 +21,14 @@ use Rattle.mono_reach.specs.Readings.{ReachView}
 -- on this side, the only atom is at this stage, and this was shown of it
 abbrev pub showing : Bool → Stage → Option Witness → SideView
 showing possible at None = record { possible = possible; supports = None ∷ []; shown = None ∷ []; watchers = [] ∷ []; stages = at ∷ []; thorough = true }
-showing possible at (Some w) = record { possible = possible; supports = None ∷ []; shown = Some (record { witness = w; edges = [] }) ∷ []; watchers = [] ∷ []; stages = at ∷ []; thorough = true }
+showing possible at (Some w) = record {
+  possible = possible;
+  supports = None ∷ [];
+  shown = Some (record { witness = w; edges = [] }) ∷ [];
+  watchers = [] ∷ [];
+  stages = at ∷ [];
+  thorough = true;
+}
 
 -- predicates of atoms whose variables have values aren't decided
 abbrev pub lazily : SideView → SideView
@@ -31,7 +38,7 @@ lazily s = record s { thorough = false }
 abbrev pub searched : Stage → EitherSide SureMarks
 searched at = side.Searches (showing false at None)
 
--- and those along the possibly present edges left it there, and showed this
+-- searches along the possibly present edges left the atom at this stage, and showed this
 abbrev pub cut_off : Stage → Option Witness → EitherSide PossibleView
 cut_off at w = side.Searches (showing true at w)
 

@@ -4,8 +4,9 @@ ghost use Rattle.std.specs.Prelude.{◌≡◌, ◌<◌, All, IfOk, IsTrue, lengt
 ghost use Rattle.mono_graph.specs.Digraph.{Digraph};
 ghost use Rattle.mono_problem.specs.WellFormed.{IsOver};
 ghost use Rattle.mono_dynamic.specs.Rows.{IsSource};
+ghost use Rattle.mono_theory.specs.Asked.{AreOfAtoms, HasFirst};
 ghost use Rattle.mono_theory.specs.Supports.{AreCovered};
-ghost use Rattle.mono_reach.specs.Marks.{first_node, last_node, AreNodesOf, HaveRows};
+ghost use Rattle.mono_reach.specs.Marks.{first_node, last_node, HaveRows};
 ghost use Rattle.mono_reach.specs.Reaches.{is_reach};
 
 use mono_dynamic::Sources;
@@ -29,7 +30,7 @@ pub(crate) fn ends_of(predicate: Predicate) -> (u32, u32)
 /// The first nodes of the atoms of a frame, by place.
 fn first_nodes(alloc: Global, frame: &Frame) -> Result<Vec<u32>, AllocError>
     requires { AreCovered is_reach frame.now.atoms }
-    ensures nodes { IfOk result (λ v. AreNodesOf first_node frame.now.atoms (length frame.now.atoms) v.items) }
+    ensures nodes { IfOk result (λ v. AreOfAtoms HasFirst frame.now.atoms (length frame.now.atoms) v.items) }
     ensures known { IfOk result (λ v. All (IsSource frame.now.graph.nodes) v.items) }
 {
     let _ = frame.graph().nodes();
@@ -38,20 +39,6 @@ fn first_nodes(alloc: Global, frame: &Frame) -> Result<Vec<u32>, AllocError>
         let atom = frame.atom_at(place);
         let (from, _) = ends_of(atom.predicate);
         nodes.push(from)?;
-    }
-    Ok(nodes)
-}
-
-/// The last nodes of the atoms of a frame, by place.
-pub(crate) fn last_nodes(alloc: Global, frame: &Frame) -> Result<Vec<u32>, AllocError>
-    requires { AreCovered is_reach frame.now.atoms }
-    ensures { IfOk result (λ v. AreNodesOf last_node frame.now.atoms (length frame.now.atoms) v.items) }
-{
-    let mut nodes = Vec::new(alloc);
-    for place in 0..frame.atom_count() {
-        let atom = frame.atom_at(place);
-        let (_, to) = ends_of(atom.predicate);
-        nodes.push(to)?;
     }
     Ok(nodes)
 }

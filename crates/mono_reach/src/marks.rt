@@ -4,13 +4,13 @@ ghost use Rattle.std.specs.Prelude.{◌≡◌, ◌<◌, ℕ, List, true, false, 
 ghost use Rattle.mono_graph.specs.Walks.{is_walk};
 ghost use Rattle.mono_problem.specs.Quiet.{under, over};
 ghost use Rattle.mono_theory.specs.EitherSides.{IsEitherDecided, IsEitherRight};
-ghost use Rattle.mono_theory.specs.RowSides.{AreRowsFor, AreUpToDate};
+ghost use Rattle.mono_theory.specs.RowSides.{AlwaysStand, AreRowsFor, AreUpToDate};
 ghost use Rattle.mono_theory.specs.Evidences.{Decides};
 ghost use Rattle.mono_theory.specs.Stages.{NoneWaits};
 ghost use Rattle.mono_theory.specs.Supports.{AreCovered, IsSide, atom_at};
 ghost use Rattle.mono_reach.specs.Marks.{AreMarksOf, first_node, last_node, shows_last, under_mark};
 ghost use Rattle.mono_theory.specs.PossibleRows.{AreTargetsOf, RowsStand, is_cut_off};
-ghost use Rattle.mono_reach.specs.Readings.{SureRowsStand, cut_mark, found_mark, in_cut, over_mark, possible_mark, sure_mark};
+ghost use Rattle.mono_reach.specs.Readings.{cut_mark, found_mark, in_cut, over_mark, possible_mark, sure_mark};
 ghost use Rattle.mono_reach.specs.Reaches.{is_reach};
 
 use crate::ends::ends_of;
@@ -77,7 +77,7 @@ fn is_in_row(side: &RowsSide<ReachedRows>, frame: &Frame, place: u32, node: u32)
     ensures value { result ≡ under_mark side.now.rows place node }
     ensures reached { IsTrue result → (walk : List ℕ)
         × IsTrue (is_walk frame.now.graph (under frame.now.graph frame.now.seen) (first_node (atom_at frame.now.atoms place).predicate) node walk) }
-    ensures decides { AreUpToDate SureRowsStand frame.now side.now → node ≡ last_node (atom_at frame.now.atoms place).predicate
+    ensures decides { AreUpToDate AlwaysStand frame.now side.now → node ≡ last_node (atom_at frame.now.atoms place).predicate
         → Decides frame.now.graph (under frame.now.graph frame.now.seen) (atom_at frame.now.atoms place).predicate result }
 {
     let _ = frame.seen();
@@ -116,7 +116,7 @@ fn is_reached(side: &EitherSide<ReachedRows>, frame: &Frame, place: u32, node: u
     ensures value { result ≡ sure_mark side.now (atom_at frame.now.atoms place).predicate place node }
     ensures reached { IsTrue result → (walk : List ℕ)
         × IsTrue (is_walk frame.now.graph (under frame.now.graph frame.now.seen) (first_node (atom_at frame.now.atoms place).predicate) node walk) }
-    ensures decides { IsEitherDecided SureRowsStand frame.now side.now → node ≡ last_node (atom_at frame.now.atoms place).predicate
+    ensures decides { IsEitherDecided AlwaysStand frame.now side.now → node ≡ last_node (atom_at frame.now.atoms place).predicate
         → Decides frame.now.graph (under frame.now.graph frame.now.seen) (atom_at frame.now.atoms place).predicate result }
 {
     match side {

@@ -1,5 +1,5 @@
 -- The table of the theories that each variable concerns, and what handing on and counting by it come to.
-use Rattle.std.proofs.Common.{◌≡◌, ℕ, zero, suc, ◌+◌, ◌-◌, ◌<◌, ◌≤◌, Bool, true, false, cond, ◌||◌, List, [], ◌∷◌, ◌++◌, map, filter, take, drop, get_or, set, eqb, length, replicate, All, refl, sym, ap, subst, ◌∙◌, inl, inr, ℤ, arith, length-append}
+use Rattle.std.proofs.Common.{◌≡◌, ℕ, zero, suc, ◌+◌, ◌-◌, ◌<◌, ◌≤◌, Bool, true, false, cond, ◌||◌, List, [], ◌∷◌, ◌++◌, map, take, drop, get_or, set, eqb, length, replicate, All, refl, sym, ap, subst, ◌∙◌, inl, inr, ℤ, arith, length-append}
 use Rattle.std.specs.Prelude.{IsTrue}
 use Rattle.std.specs.List.Sorted.{IsStrictlyIncreasing}
 use Rattle.std.proofs.lemmas.Bool.{or_right, eq-eqb, ne_eqb, cases_eq}
@@ -8,6 +8,8 @@ use Rattle.std.proofs.lemmas.List.Folds.{list_any_more, list_any_none}
 use Rattle.std.proofs.lemmas.List.Kept.{AllPairs-from_increasing}
 use Rattle.mono_graph.specs.Digraph.{has}
 use Rattle.std.proofs.lemmas.List.Elements.{filter-append, All-nil, All-cons}
+use Rattle.std.proofs.Math.Bool.{or-false}
+use Rattle.std.proofs.lemmas.List.Sums.{length-filter, count_by-le-length}
 use Rattle.mono_base.specs.Literal.{var_of, IsLitWithin}
 use Rattle.mono_base.specs.Partial.{is_open_in}
 use Rattle.mono_theory.specs.Theories.{Facts, concerns_of}
@@ -58,10 +60,6 @@ table_more vars k fs f old new t lt at len a =
     }
 
 -- ---- how one theory joins it
-
-or-false : (b : Bool) → (b || false) ≡ b
-or-false true = refl
-or-false false = refl
 
 has_more : (vs : List ℕ) (i v x : ℕ) → i < length vs → x ≡ get_or vs i x → has (take (i + 1) vs) v ≡ (has (take i vs) v || eqb x v)
 has_more vs i v x lt at = list_any_more (λ y. eqb y v) vs i x lt ∙ ap (λ y. has (take i vs) v || eqb y v) (sym at)
@@ -167,16 +165,10 @@ may_hand l fs fresh = subst (CanUpdate (MaySee l) (seeing l) (concerned_from 0 f
 
 -- ---- literals are counted
 
-filter-le : (p : ℤ → Bool) (xs : List ℤ) → length (filter p xs) ≤ length xs
-filter-le p [] = omega arith
-filter-le p (x ∷ xs) = by (p x) (filter-le p xs)
-  where
-    by : (b : Bool) → length (filter p xs) ≤ length xs → length (cond b (x ∷ filter p xs) (filter p xs)) ≤ length (x ∷ xs)
-    by true ih = omega (arith, ih)
-    by false ih = omega (arith, ih)
-
 pub count-le : (t : List ℤ) (f : Facts) → length (concerning f t) ≤ length t
-count-le t f = filter-le (λ l. concerns_of f.graph f.atoms (var_of l)) t
+count-le t f =
+    let concerns = λ (l : ℤ). concerns_of f.graph f.atoms (var_of l) in
+    omega (arith, length-filter concerns t, count_by-le-length concerns t)
 
 pub zero_counts : (fs : List Facts) → map (λ f. length (concerning f [])) fs ≡ replicate (length fs) 0
 zero_counts [] = refl

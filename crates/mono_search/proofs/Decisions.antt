@@ -7,6 +7,8 @@ use Rattle.std.specs.List.{list_all}
 use Rattle.std.proofs.lemmas.Bool.{or_cases, both_ways, false_from_ne_true, and_parts, cases_eq, not_from_false, cases_Bool, and_from}
 use Rattle.std.proofs.lemmas.List.{take_more, take-append-drop}
 use Rattle.std.proofs.lemmas.List.Folds.{list_all-append}
+use Rattle.mono_learn.proofs.LitSets.{has-append_left}
+use Rattle.mono_learn.proofs.PlacesOfLits.{has_stands}
 use Rattle.mono_base.specs.Literal.{var_of, has_lit, value_in, lit_true, IsLitWithin, lit_at}
 use Rattle.mono_base.specs.Partial.{is_true_in, is_open_in, Extends, HasNoOpen, has_no_open, unit_quiet, value_by}
 use Rattle.mono_base.proofs.Truth.{from_each}
@@ -23,13 +25,14 @@ use Rattle.mono_trail.specs.Moves.{IsVar, joined}
 use Rattle.mono_clauses.specs.Store.{StoreView}
 use Rattle.mono_steps.specs.Journals.{known_clauses, chain_clauses}
 use Rattle.mono_steps.specs.Switching.{literal_of}
+use Rattle.mono_steps.proofs.LeftOpen.{has_at}
 use Rattle.mono_trail.specs.Order.{OrderView, AllOpenWait, Leaves, NoneOpen}
 use Rattle.mono_search.specs.Theories.{TheoriesView}
 use Rattle.mono_search.specs.State.{QuietAt}
 use Rattle.mono_search.specs.Runs.{IsQuietState, HasAdvanced, DecidesBySign, IsComplete, Releases, saved}
 use Rattle.mono_search.specs.Outcomes.{HasModel}
-use Rattle.mono_search.proofs.Lists.{has_there, has_left, found_at, open_parts, open_from, open-neg, open-neg_back, open-fewer}
-use Rattle.mono_base.proofs.Partials.{one_sign, true_from_yes, yes_from_true}
+use Rattle.mono_search.proofs.Lists.{open_parts, open_from, open-neg, open-neg_back, open-fewer}
+use Rattle.mono_base.proofs.Partials.{one_sign, true_from_yes, yes_from_true, var-neg}
 use Rattle.mono_search.proofs.Growing.{kept_from, supported_from, kept-joined, in_range}
 use Rattle.mono_clauses.proofs.FollowsKept.{follows_decide}
 use Rattle.mono_search.proofs.Propagating.{state}
@@ -65,8 +68,8 @@ decided_moved b t u s steps o r l v q leaves var e sound = subst (λ (w : TrailV
   where
     wait : (w : ℕ) → IsVar (length r.waits) w → IsTrue (is_open_in (t.lits ++ l ∷ []) (pos w)) → IsTrue (value_in r.waits w)
     wait w is open_now =
-        let before = open-fewer (t.lits ++ l ∷ []) t.lits (pos w) (λ m h. has_left t.lits (l ∷ []) m h) open_now in
-        let there : IsTrue (has_lit (t.lits ++ l ∷ []) l) = subst (λ (m : ℤ). IsTrue (has_lit (t.lits ++ l ∷ []) m)) (get_or_seam t.lits l) (has_there (t.lits ++ l ∷ []) (length t.lits) (omega (arith, length-append t.lits (l ∷ [])))) in
+        let before = open-fewer (t.lits ++ l ∷ []) t.lits (pos w) (λ m h. has-append_left t.lits (l ∷ []) m h) open_now in
+        let there : IsTrue (has_lit (t.lits ++ l ∷ []) l) = subst (λ (m : ℤ). IsTrue (has_lit (t.lits ++ l ∷ []) m)) (get_or_seam t.lits l) (has_at (t.lits ++ l ∷ []) (length t.lits) (omega (arith, length-append t.lits (l ∷ [])))) in
         let other : w ≢ v = λ same. not_open (t.lits ++ l ∷ []) l there (subst (λ (x : ℕ). IsTrue (is_open_in (t.lits ++ l ∷ []) (pos x))) (same ∙ sym var) open_now) in
         leaves.stay w other before (q.ready.whole.order.wait.at w (is.0, omega (arith, is.1, leaves.as_many)) before)
       where
@@ -147,7 +150,7 @@ released_more o r q t i l h lt at low high e signs =
     first (suc k) lt = absurd (omega arith)
 
     one_of : {m : ℤ} → IsTrue (has_lit (l ∷ []) m) → m ≡ l
-    one_of {m} h = let f = found_at (l ∷ []) m h in sym f.there ∙ first f.place f.inside
+    one_of {m} h = let f = has_stands (l ∷ []) m h in sym f.there ∙ first f.place f.within
 
 -- who is open once literals were dropped was open before or is one of them
 pub wait-lowered : (o r : OrderView) (t : List ℤ) (n : ℕ) → AllOpenWait o t → Releases o r (drop n t) → AllOpenWait r (take n t)
@@ -164,17 +167,13 @@ wait-lowered o r t n w h = record {
       | inr rest ↦ rest
     ]
 
-    var-neg : (v : ℕ) → var_of (neg_ℤ (pos v)) ≡ v
-    var-neg zero = refl
-    var-neg (suc v) = refl
-
     back : (v : ℕ) → IsTrue (is_open_in (take n t) (pos v)) → is_open_in t (pos v) ≡ false → IsTrue (value_in r.waits v)
     back v open_in dropped =
         let p = open_parts (take n t) (pos v) open_in in
         elim (cases_Bool (has_lit t (pos v))) [
           | inl on ↦ h.back (pos v) (here (pos v) on p.0)
           | inr off ↦ elim (cases_Bool (has_lit t (neg_ℤ (pos v)))) [
-            | inl on ↦ subst (λ (w : ℕ). IsTrue (value_in r.waits w)) (var-neg v) (h.back (neg_ℤ (pos v)) (here (neg_ℤ (pos v)) on p.1))
+            | inl on ↦ subst (λ (w : ℕ). IsTrue (value_in r.waits w)) (var-neg (pos v)) (h.back (neg_ℤ (pos v)) (here (neg_ℤ (pos v)) on p.1))
             | inr none ↦ absurd (both_ways (is_open_in t (pos v)) dropped (open_from t (pos v) off none))
           ]
         ]
@@ -187,7 +186,7 @@ module _ (p : Instance) (t : TrailView) (cs : List (List ℤ)) (model : List Boo
   each_true l h = by l h (in_range t.vars t.lits l sound.within h) (upper l h)
     where
       upper : (l : ℤ) → IsTrue (has_lit t.lits l) → nat_abs l ≤ t.vars
-      upper l h = let i = found_at t.lits l h in subst (λ (m : ℤ). nat_abs m ≤ t.vars) i.there (sound.within i.place (pos 0) i.inside).1
+      upper l h = let i = has_stands t.lits l h in subst (λ (m : ℤ). nat_abs m ≤ t.vars) i.there (sound.within i.place (pos 0) i.within).1
 
       by : (l : ℤ) → IsTrue (has_lit t.lits l) → 0 < nat_abs l → nat_abs l ≤ t.vars → IsTrue (lit_true (value_in model) l)
       by (pos zero) h low high = absurd (omega arith)

@@ -1,12 +1,12 @@
 -- What a propagation by the clauses keeps of a state, and why a false clause is a conflict.
-use Rattle.std.proofs.Common.{◌≡◌, ℕ, zero, suc, ◌-◌, ◌<◌, ◌≤◌, Bool, true, false, List, [], ◌∷◌, ◌++◌, take, filter, get_or, length, All, refl, sym, ap, subst, ◌∙◌, inl, inr, ℤ, pos, neg_ℤ, nat_abs, Some, arith, length-append}
+use Rattle.std.proofs.Common.{◌≡◌, ℕ, zero, suc, ◌-◌, ◌<◌, ◌≤◌, Bool, false, List, [], ◌∷◌, ◌++◌, take, filter, get_or, length, All, refl, sym, ap, subst, ◌∙◌, inl, inr, ℤ, pos, neg_ℤ, nat_abs, Some, arith, length-append}
 use Rattle.std.specs.Prelude.{IsTrue}
 use Rattle.std.specs.List.{list_all, list_any}
 use Rattle.std.specs.Ordering.{int_eq}
 use Rattle.std.proofs.Math.Seq.{get_or-append_seam, take-append_seam}
 use Rattle.std.proofs.lemmas.List.{take-append-le, length-take, get_or-take, get_or-map, length-map}
 use Rattle.std.proofs.lemmas.Bool.{cases_lt, and_parts, or_cases, or_left, or_right, both_ways}
-use Rattle.mono_base.proofs.Truth.{same_lit, lit_itself}
+use Rattle.mono_base.proofs.Truth.{lit_itself}
 use Rattle.mono_base.specs.Literal.{has_lit, IsLitWithin, lit_at}
 use Rattle.mono_base.specs.Partial.{is_true_in, is_false_in, is_open_in, is_quiet, unit_quiet, has_two, is_partial, others_false, is_false_clause}
 use Rattle.mono_problem.specs.Instance.{Instance, numbered}
@@ -15,6 +15,7 @@ use Rattle.mono_trail.specs.declared.reason.Mark.{Mark}
 use Rattle.mono_trail.specs.declared.reason.Reason.{Reason}
 use Rattle.mono_trail.specs.declared.reason.Reason.TheVariants.{Decided, Clause}
 use Rattle.mono_trail.specs.TrailView.{TrailView, IsSound, count_to, next_level, StandsAt}
+use Rattle.mono_trail.proofs.Levels.{at_most, up_to_level}
 use Rattle.mono_trail.specs.Places.{level_at}
 use Rattle.mono_trail.specs.Moves.{joined, gave}
 use Rattle.mono_clauses.specs.Store.{Held, no_clause, StoreView, lists_of}
@@ -23,15 +24,19 @@ use Rattle.mono_clauses.specs.declared.found.Found.{Found}
 use Rattle.mono_clauses.specs.declared.found.Found.TheVariants as found
 use Rattle.mono_steps.specs.Steps.{clauses_after}
 use Rattle.mono_steps.specs.Journals.{known_clauses}
+use Rattle.mono_steps.proofs.LeftOpen.{has_at}
 use Rattle.mono_search.specs.Stored.{held_after}
 use Rattle.mono_trail.specs.Order.{OrderView, AllOpenWait}
 use Rattle.mono_learn.specs.Reasons.{WasUnit, IsFalseClause, IsConflict}
+use Rattle.mono_learn.proofs.LitSets.{has-append_left}
+use Rattle.mono_learn.proofs.ChainEnds.{filter_has}
+use Rattle.mono_learn.proofs.PlacesOfLits.{has_stands}
 use Rattle.mono_search.specs.Theories.{TheoriesView, HaveSeen}
 use Rattle.mono_search.specs.State.{KeepsReason, KeepsReasons, QuietAt, QuietBelow, IsSupported, OrderHasOpen, IsConsistent, IsReady}
 use Rattle.mono_search.specs.Runs.{HasGrown, ClausesQuiet, ClauseFalse, ClausesPropagatedAs}
-use Rattle.mono_search.proofs.Lists.{has_there, found_at, has_left, has_before, open_parts, open-fewer, all_or_one, false_in_clause}
+use Rattle.mono_search.proofs.Lists.{has_before, open_parts, open-fewer, all_or_one, false_in_clause}
 use Rattle.mono_base.proofs.Partials.{one_sign, is_partial-take}
-use Rattle.mono_search.proofs.Trails.{before_low, at_most_top, top_begins}
+use Rattle.mono_search.proofs.Trails.{top_begins}
 use Rattle.mono_search.proofs.Journals.{held_named, lists-held}
 use Rattle.mono_search.proofs.Reasons.{reasons-joined, below-joined}
 
@@ -102,7 +107,7 @@ kept-grows b steps t u (implies s v n x g unit e) k =
       kept = kept-joined b s steps x (Clause n) l.kept (unit_joined b.problem steps s.lits n x unit) (not_decided n (QuietAt b.problem (known_clauses b.problem steps) s.lits));
       vars = l.vars;
       more = omega (arith, l.more, length-append s.lits (x ∷ []));
-      has = λ m h. has_left s.lits (x ∷ []) m (l.has m h);
+      has = λ m h. has-append_left s.lits (x ∷ []) m (l.has m h);
     })
 kept-grows b steps t u (gives s v g more e) k =
     let l = kept-grows b steps t s g k in
@@ -123,26 +128,15 @@ pub present_lit : (t : TrailView) (c : List ℤ) → IsSound t → 1 ≤ t.level
 present_lit t c s one false_now not_before = elim (all_or_one (is_false_in (take (count_to (t.level - 1) t.marks) t.lits)) c) [
   | inl all ↦ absurd (not_before all)
   | inr f ↦
-      let i = found_at t.lits (neg_ℤ f.lit) (false_in_clause t.lits c f.lit false_now f.has) in
-      record { lit = f.lit; has = f.has; stands = record { place = i.place; within = i.inside; there = i.there; at = level i.place i.inside (λ low. both_ways (has_lit (take (count_to (t.level - 1) t.marks) t.lits) (neg_ℤ f.lit)) f.fails (subst (λ (l : ℤ). IsTrue (has_lit (take (count_to (t.level - 1) t.marks) t.lits) l)) i.there (has_before t.lits i.place (count_to (t.level - 1) t.marks) low i.inside))) } }
+      let i = has_stands t.lits (neg_ℤ f.lit) (false_in_clause t.lits c f.lit false_now f.has) in
+      record { lit = f.lit; has = f.has; stands = record { place = i.place; within = i.within; there = i.there; at = level i.place i.within (λ low. both_ways (has_lit (take (count_to (t.level - 1) t.marks) t.lits) (neg_ℤ f.lit)) f.fails (subst (λ (l : ℤ). IsTrue (has_lit (take (count_to (t.level - 1) t.marks) t.lits) l)) i.there (has_before t.lits i.place (count_to (t.level - 1) t.marks) low i.within))) } }
 ]
   where
     level : (j : ℕ) → j < length t.lits → (j < count_to (t.level - 1) t.marks → ⊥) → level_at t.marks j ≡ t.level
     level j lt high = elim (cases_lt (level_at t.marks j) t.level) [
-      | inl low ↦ absurd (high (before_low 0 t.marks t.level (t.level - 1) j s.climbs (omega (arith, lt, s.as_many)) (omega (arith, low))))
-      | inr ge ↦ omega (arith, ge, at_most_top 0 t.marks t.level j s.climbs (omega (arith, lt, s.as_many)))
+      | inl low ↦ absurd (high ((up_to_level 0 t.marks t.level (t.level - 1) j s.climbs (omega (arith, lt, s.as_many))).1 (omega (arith, low))))
+      | inr ge ↦ omega (arith, ge, at_most 0 t.marks t.level j s.climbs (omega (arith, lt, s.as_many)))
     ]
-
-pub filtered : (p : ℤ → Bool) (c : List ℤ) (l : ℤ) → IsTrue (has_lit (filter p c) l) → IsTrue (has_lit c l) × IsTrue (p l)
-filtered p [] l h = absurd cc
-filtered p (x ∷ c) l h = by (p x) refl (λ k. filtered p c l k)
-  where
-    by : (b : Bool) → p x ≡ b → (IsTrue (has_lit (filter p c) l) → IsTrue (has_lit c l) × IsTrue (p l)) → IsTrue (has_lit (x ∷ c) l) × IsTrue (p l)
-    by true e ih = elim (or_cases (int_eq l x) (has_lit (filter p c) l) (rw e at h)) [
-      | inl a ↦ (or_left (int_eq l x) (has_lit c l) a, subst (λ (m : ℤ). IsTrue (p m)) (sym (same_lit l x a)) e)
-      | inr b ↦ let i = ih b in (or_right (int_eq l x) (has_lit c l) i.0, i.1)
-    ]
-    by false e ih = let i = ih (rw e at h) in (or_right (int_eq l x) (has_lit c l) i.0, i.1)
 
 pub some_one : (p : ℤ → Bool) (c : List ℤ) → IsTrue (list_any p c) → (l : ℤ) × IsTrue (has_lit c l) × IsTrue (p l)
 some_one p [] h = absurd cc
@@ -153,15 +147,15 @@ some_one p (x ∷ c) h = elim (or_cases (p x) (list_any p c) h) [
 
 -- a clause that is quiet isn't false
 pub some_open : (t c : List ℤ) → IsTrue (has_two (filter (is_open_in t) c)) → (l : ℤ) × IsTrue (has_lit c l) × IsTrue (is_open_in t l)
-some_open t c h = by (filter (is_open_in t) c) h (λ l k. filtered (is_open_in t) c l k)
+some_open t c h = by (filter (is_open_in t) c) h (λ l k. filter_has (is_open_in t) c l k)
   where
     by : (xs : List ℤ) → IsTrue (has_two xs) → ((l : ℤ) → IsTrue (has_lit xs l) → IsTrue (has_lit c l) × IsTrue (is_open_in t l)) → (l : ℤ) × IsTrue (has_lit c l) × IsTrue (is_open_in t l)
     by [] h f = absurd cc
-    by (x ∷ xs) h f = let g = f x (has_there (x ∷ xs) 0 (omega arith)) in (x, g.0, g.1)
+    by (x ∷ xs) h f = let g = f x (has_at (x ∷ xs) 0 (omega arith)) in (x, g.0, g.1)
 
 -- a literal of a list over some variables isn't 0
 pub in_range : (vars : ℕ) (t : List ℤ) (l : ℤ) → All (IsLitWithin vars) t → IsTrue (has_lit t l) → 0 < nat_abs l
-in_range vars t l w h = let i = found_at t l h in subst (λ (m : ℤ). 0 < nat_abs m) i.there (w i.place (pos 0) i.inside).0
+in_range vars t l w h = let i = has_stands t l h in subst (λ (m : ℤ). 0 < nat_abs m) i.there (w i.place (pos 0) i.within).0
 
 pub quiet_not_false : (t c : List ℤ) → IsTrue (is_partial t) → IsTrue (is_quiet t c) → IsTrue (is_false_clause t c) → ⊥
 quiet_not_false t c d quiet all = elim (or_cases (list_any (is_true_in t) c) (has_two (filter (is_open_in t) c)) quiet) [

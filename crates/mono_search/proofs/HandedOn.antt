@@ -9,6 +9,7 @@ use Rattle.std.proofs.lemmas.List.Folds.{Any-from_list_any}
 use Rattle.std.proofs.lemmas.Bool.{or_cases, and_from, le-leb}
 use Rattle.std.proofs.lemmas.Option.{get_or_from_slice_get}
 use Rattle.mono_base.specs.Literal.{var_of}
+use Rattle.mono_base.proofs.Truth.{from_each}
 use Rattle.mono_graph.specs.Digraph.{Digraph}
 use Rattle.mono_graph.specs.declared.edge.Edge.{Edge}
 use Rattle.mono_problem.specs.declared.atom.Atom.{Atom}
@@ -21,11 +22,10 @@ use Rattle.mono_steps.specs.Witnesses.{justifies_by, is_shown}
 use Rattle.mono_theory.specs.Theories.{Facts, concerns_of, owns_of, IsLemmaOf}
 use Rattle.mono_search.specs.TheoryLists.{seen_of, IsCurrent, OthersAreQuiet, AreOwners, IsOwnedAt, with_seen, handed_on, IsLemmaBy}
 use Rattle.mono_learn.specs.Explain.{AtomForces, IsExplanation}
+use Rattle.mono_learn.proofs.PlacesOfLits.{has_stands}
 use Rattle.mono_theory.specs.Owners.{OwnsEach}
 use Rattle.mono_search.specs.Theories.{TheoriesView, HaveSeen, having_seen, IsKept}
 use Rattle.mono_search.proofs.Owners.{owns_kept, current-at, handed-at, at_current, owns_atom, numbered_in}
-use Rattle.mono_steps.proofs.Sets.{all_lits}
-use Rattle.mono_search.proofs.Lists.{found_at}
 
 pub record IsHandedOn (b0 now : TheoriesView) (lits : List ℤ) (new : List Facts) : Type 0 where
   pub shown : HaveSeen (record { problem = now.problem; facts = new; handed = now.handed + 1 }) lits
@@ -113,9 +113,9 @@ atom_var p own v ok exact h =
     (omega (arith, same, b.0), omega (arith, same, b.1))
 
 names_concerned : (p : Instance) (f : Facts) (k : ℕ) (c : List ℤ) → IsInstance p → k < length p.graphs → f.graph ≡ graph_at p k → All (λ x. numbered p.atoms x.number ≡ Some x) f.atoms → All (λ l. IsTrue (concerns_of f.graph f.atoms (var_of l))) c → IsTrue (names_vars p c)
-names_concerned p f k c ok lt g exact concerned = all_lits (λ l. nat_le 1 (var_of l) && nat_le (var_of l) p.vars) c (λ l h.
-    let i = found_at c l h in
-    let here : IsTrue (concerns_of f.graph f.atoms (var_of l)) = subst (λ (m : ℤ). IsTrue (concerns_of f.graph f.atoms (var_of m))) i.there (concerned i.place (pos 0) i.inside) in
+names_concerned p f k c ok lt g exact concerned = from_each (λ l. nat_le 1 (var_of l) && nat_le (var_of l) p.vars) c (λ l h.
+    let i = has_stands c l h in
+    let here : IsTrue (concerns_of f.graph f.atoms (var_of l)) = subst (λ (m : ℤ). IsTrue (concerns_of f.graph f.atoms (var_of m))) i.there (concerned i.place (pos 0) i.within) in
     let both : (1 ≤ var_of l) × (var_of l ≤ p.vars) = elim (or_cases (list_any (λ (e : Edge). eqb e.var (var_of l)) f.graph.edges) (list_any (λ (x : Atom). eqb x.var (var_of l)) f.atoms) here) [
       | inl e ↦ edge_var p k (var_of l) ok lt (subst (λ (d : Digraph). IsTrue (list_any (λ (e : Edge). eqb e.var (var_of l)) d.edges)) g e)
       | inr x ↦ atom_var p f.atoms (var_of l) ok exact x

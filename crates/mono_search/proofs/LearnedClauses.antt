@@ -19,6 +19,7 @@ use Rattle.mono_learn.specs.declared.learn.Learnt.{Learnt}
 use Rattle.mono_trail.specs.TrailView.{TrailView, IsSound, count_to, StandsAt}
 use Rattle.mono_trail.specs.Places.{level_at, reason_at, no_mark}
 use Rattle.mono_trail.specs.Moves.{lowered}
+use Rattle.mono_trail.proofs.Levels.{count_within, kept_low, up_to_level}
 use Rattle.mono_clauses.specs.Store.{StoreView, Held, Follows, FollowsBelow, AddsClause}
 use Rattle.mono_steps.specs.Journals.{known_clauses, has_no_empty, chain_clauses, chain_count, lemma_steps, AddsLemmas}
 use Rattle.mono_search.specs.Stored.{held_after}
@@ -34,7 +35,7 @@ use Rattle.mono_steps.proofs.FewNew.{enough}
 use Rattle.mono_search.specs.State.{StateView, QuietBelow, KeepsReasons, IsJournal, IsOpenJournal, HoldsKnown, IsConsistent, IsReady, IsInConflict}
 use Rattle.mono_search.specs.Runs.{Releases, GoesBack, IsEnd}
 use Rattle.mono_search.proofs.Lists.{has_before, open_before, open-neg_back, quiet_by_two, others_false_by, same_or_not}
-use Rattle.mono_search.proofs.Trails.{count-le, low_before, before_low, not_before, decision_rises}
+use Rattle.mono_search.proofs.Trails.{not_before, decision_rises}
 use Rattle.mono_steps.proofs.NewSteps.{fresh-lemmas, fresh-chain}
 use Rattle.mono_steps.proofs.JournalSteps.{known-lemmas, known-chain, chains-lemmas, chain_clauses-append, after-append, no_empty-append, no_empty-lemmas, ends-last}
 use Rattle.mono_search.proofs.Journals.{held-lemmas, held-chain, held_below}
@@ -53,7 +54,7 @@ pub lowered_shown : (b : TheoriesView) (t : TrailView) (level : ℕ) → IsSound
 lowered_shown b t level sound =
     let n = count_to level t.marks in
     let h = min b.handed n in
-    let few : n ≤ length t.lits = omega (arith, count-le level t.marks, sound.as_many) in
+    let few : n ≤ length t.lits = omega (arith, count_within level t.marks, sound.as_many) in
     let front : take h (take n t.lits) ≡ take h t.lits = take-take h n t.lits (omega arith) in
     record {
       within = rw length-take (omega (arith, few));
@@ -95,128 +96,140 @@ some_lit : (c : List ℤ) (l : ℤ) → IsTrue (has_lit c l) → not (length c =
 some_lit [] l h = absurd cc
 some_lit (x ∷ c) l h = not_from_false (length (x ∷ c) == 0) (ne_eqb (length (x ∷ c)) 0 (λ e. omega (arith, e)))
 
-module _ (b : TheoriesView) (t u : TrailView) (s : StoreView) (steps new : List Step) (o : OrderView) (n : ℕ) (r : Learnt) (conflict : IsInConflict (state b t s steps o) n) (one : 1 ≤ t.level)
-    (learns : Learns b.problem t steps new r) (settles : Settles (clauses_after b.problem new) t u) (just : IsTrue (are_justified b.problem new)) (sound : IsSound u) where
-  p : Instance
-  p = b.problem
+-- the analysis of the conflict n above level 0: what was so before it, and the lemmas and the learned clause that joined the
+-- steps, while the trail differs in settled reasons alone
+pub record IsAnalysed (b : TheoriesView) (t u : TrailView) (s : StoreView) (steps new : List Step) (o : OrderView) (n : ℕ) (r : Learnt) : Type 0 where
+  pub conflict : IsInConflict (state b t s steps o) n
+  pub one : 1 ≤ t.level
+  pub learns : Learns b.problem t steps new r
+  pub settles : Settles (clauses_after b.problem new) t u
+  pub justified : IsTrue (are_justified b.problem new)
+  pub sound : IsSound u
 
-  mid : List Step
-  mid = steps ++ lemma_steps learns.lemmas
+-- so it is where the analysis was made of the problem that the theories have
+pub analysed : {b : TheoriesView} {t u : TrailView} {s : StoreView} {steps new : List Step} {o : OrderView} {n : ℕ} {r : Learnt} {v : StateView} {p : Instance} → state b t s steps o ≡ v → IsInConflict v n → 1 ≤ v.trail.level → p ≡ b.problem
+    → Learns p t steps new r → Settles (clauses_after p new) t u → (IsTrue (are_justified p steps) → IsTrue (are_justified p new)) → IsSound u → IsAnalysed b t u s steps new o n r
+analysed {b} {t} {u} {s} {steps} {new} {o} {n} {r} {v} {p} view conflict one same learns settles keeps sound =
+    let before : IsInConflict (state b t s steps o) n = subst (λ (w : StateView). IsInConflict w n) (sym view) conflict in
+    let held : IsTrue (are_justified p steps) = subst (λ (q : Instance). IsTrue (are_justified q steps)) (sym same) before.whole.journal.journal.justified in
+    record {
+      conflict = before;
+      one = subst (λ (w : StateView). 1 ≤ w.trail.level) (sym view) one;
+      learns = subst (λ (q : Instance). Learns q t steps new r) same learns;
+      settles = subst (λ (q : Instance). Settles (clauses_after q new) t u) same settles;
+      justified = subst (λ (q : Instance). IsTrue (are_justified q new)) same (keeps held);
+      sound = sound;
+    }
 
-  chain : Chain
-  chain = record { clause = r.clause; used = learns.used }
-
-  start : ℕ
-  start = count_to (t.level - 1) t.marks
-
+module _ {b : TheoriesView} {t u : TrailView} {s : StoreView} {steps new : List Step} {o : OrderView} {n : ℕ} {r : Learnt} (analysis : IsAnalysed b t u s steps new o n r) where
   -- the literal of the present level is open before the decision, and the others are false
-  open_there : IsTrue (is_open_in (take (count_to (t.level - 1) t.marks) t.lits) learns.learnt.lit)
+  open_there : IsTrue (is_open_in (take (count_to (t.level - 1) t.marks) t.lits) analysis.learns.learnt.lit)
   open_there =
-      let i = learns.learnt.present in
+      let i = analysis.learns.learnt.present in
       let late : count_to (t.level - 1) t.marks ≤ i.place = elim (cases_lt i.place (count_to (t.level - 1) t.marks)) [
-        | inl low ↦ absurd (omega (arith, low_before (t.level - 1) t.marks i.place low, i.at, one))
+        | inl low ↦ absurd (omega (arith, kept_low (t.level - 1) t.marks i.place low, i.at, analysis.one))
         | inr high ↦ high
       ] in
-      open-neg_back (take (count_to (t.level - 1) t.marks) t.lits) learns.learnt.lit (subst (λ (l : ℤ). IsTrue (is_open_in (take (count_to (t.level - 1) t.marks) t.lits) l)) i.there (open_before t.lits (count_to (t.level - 1) t.marks) i.place conflict.whole.trail.sound.partial late i.within))
+      open-neg_back (take (count_to (t.level - 1) t.marks) t.lits) analysis.learns.learnt.lit (subst (λ (l : ℤ). IsTrue (is_open_in (take (count_to (t.level - 1) t.marks) t.lits) l)) i.there (open_before t.lits (count_to (t.level - 1) t.marks) i.place analysis.conflict.whole.trail.sound.partial late i.within))
 
-  false_there : (l : ℤ) → IsTrue (has_lit r.clause l) → l ≢ learns.learnt.lit → IsTrue (is_false_in (take (count_to (t.level - 1) t.marks) t.lits) l)
+  false_there : (l : ℤ) → IsTrue (has_lit r.clause l) → l ≢ analysis.learns.learnt.lit → IsTrue (is_false_in (take (count_to (t.level - 1) t.marks) t.lits) l)
   false_there l h d =
-      let i = learns.learnt.others l h d in
-      let low : i.2.place < count_to (t.level - 1) t.marks = before_low 0 t.marks t.level (t.level - 1) i.2.place conflict.whole.trail.sound.climbs (omega (arith, i.2.within, conflict.whole.trail.sound.as_many)) (omega (arith, i.2.at, i.1, learns.learnt.lower)) in
+      let i = analysis.learns.learnt.others l h d in
+      let low : i.2.place < count_to (t.level - 1) t.marks = (up_to_level 0 t.marks t.level (t.level - 1) i.2.place analysis.conflict.whole.trail.sound.climbs (omega (arith, i.2.within, analysis.conflict.whole.trail.sound.as_many))).1 (omega (arith, i.2.at, i.1, analysis.learns.learnt.lower)) in
       subst (λ (m : ℤ). IsTrue (has_lit (take (count_to (t.level - 1) t.marks) t.lits) m)) i.2.there (has_before t.lits i.2.place (count_to (t.level - 1) t.marks) low i.2.within)
 
   in_vars : (l : ℤ) (level : ℕ) → StandsAt t (neg_ℤ l) level → IsLitWithin s.vars l
   in_vars l level i =
-      let w = subst (IsLitWithin t.vars) i.there (conflict.whole.trail.sound.within i.place (pos 0) i.within) in
-      (omega (arith, w.0, abs-neg l), omega (arith, w.1, abs-neg l, conflict.whole.held.vars, conflict.whole.trail.vars))
+      let w = subst (IsLitWithin t.vars) i.there (analysis.conflict.whole.trail.sound.within i.place (pos 0) i.within) in
+      (omega (arith, w.0, abs-neg l), omega (arith, w.1, abs-neg l, analysis.conflict.whole.held.vars, analysis.conflict.whole.trail.vars))
 
-  new_clause : IsNewClause (known_clauses b.problem (steps ++ lemma_steps learns.lemmas)) r.clause
+  new_clause : IsNewClause (known_clauses b.problem (steps ++ lemma_steps analysis.learns.lemmas)) r.clause
   new_clause = record {
     under = take (count_to (t.level - 1) t.marks) t.lits;
-    partial = is_partial-take (count_to (t.level - 1) t.marks) t.lits conflict.whole.trail.sound.partial;
-    quiet = subst (λ (cs : List (List ℤ)). IsTrue (unit_quiet cs (take (count_to (t.level - 1) t.marks) t.lits))) (sym (known-lemmas b.problem steps learns.lemmas)) (quiet_at_start b t steps conflict.whole.trail one).units;
-    lit = learns.learnt.lit;
-    is_literal = le-leb 1 (var_of learns.learnt.lit) (omega (arith, (in_vars learns.learnt.lit t.level learns.learnt.present).0));
-    has = learns.learnt.has;
+    partial = is_partial-take (count_to (t.level - 1) t.marks) t.lits analysis.conflict.whole.trail.sound.partial;
+    quiet = subst (λ (cs : List (List ℤ)). IsTrue (unit_quiet cs (take (count_to (t.level - 1) t.marks) t.lits))) (sym (known-lemmas b.problem steps analysis.learns.lemmas)) (quiet_at_start b t steps analysis.conflict.whole.trail analysis.one).units;
+    lit = analysis.learns.learnt.lit;
+    is_literal = le-leb 1 (var_of analysis.learns.learnt.lit) (omega (arith, (in_vars analysis.learns.learnt.lit t.level analysis.learns.learnt.present).0));
+    has = analysis.learns.learnt.has;
     is_open = open_there;
-    others = others_false_by (take (count_to (t.level - 1) t.marks) t.lits) r.clause learns.learnt.lit false_there;
+    others = others_false_by (take (count_to (t.level - 1) t.marks) t.lits) r.clause analysis.learns.learnt.lit false_there;
   }
 
   pub learned_open : IsOpenJournal b.problem new
   learned_open = record {
     journal = record {
-      justified = just;
-      fresh = subst (HasNewChains b.problem) (sym learns.pushed) (fresh-chain b.problem (steps ++ lemma_steps learns.lemmas) (record { clause = r.clause; used = learns.used }) (fresh-lemmas b.problem steps learns.lemmas conflict.whole.journal.journal.fresh) (λ full. record { exact = learns.exact; new = new_clause }));
+      justified = analysis.justified;
+      fresh = subst (HasNewChains b.problem) (sym analysis.learns.pushed) (fresh-chain b.problem (steps ++ lemma_steps analysis.learns.lemmas) (record { clause = r.clause; used = analysis.learns.used }) (fresh-lemmas b.problem steps analysis.learns.lemmas analysis.conflict.whole.journal.journal.fresh) (λ full. record { exact = analysis.learns.exact; new = new_clause }));
     };
-    none_empty = subst (λ (ss : List Step). IsTrue (has_no_empty ss)) (sym learns.pushed)
-        (no_empty-append (steps ++ lemma_steps learns.lemmas) (step.Chain (record { clause = r.clause; used = learns.used }) ∷ []) (no_empty-append steps (lemma_steps learns.lemmas) conflict.whole.journal.none_empty (no_empty-lemmas learns.lemmas))
-        (and_from (not (length r.clause == 0)) true (some_lit r.clause learns.learnt.lit learns.learnt.has) refl));
+    none_empty = subst (λ (ss : List Step). IsTrue (has_no_empty ss)) (sym analysis.learns.pushed)
+        (no_empty-append (steps ++ lemma_steps analysis.learns.lemmas) (step.Chain (record { clause = r.clause; used = analysis.learns.used }) ∷ []) (no_empty-append steps (lemma_steps analysis.learns.lemmas) analysis.conflict.whole.journal.none_empty (no_empty-lemmas analysis.learns.lemmas))
+        (and_from (not (length r.clause == 0)) true (some_lit r.clause analysis.learns.learnt.lit analysis.learns.learnt.has) refl));
   }
 
   pub learned_chains : chain_count new ≡ chain_count steps + 1
-  learned_chains = ap chain_count learns.pushed ∙ ap length (chain_clauses-append (steps ++ lemma_steps learns.lemmas) (step.Chain (record { clause = r.clause; used = learns.used }) ∷ []))
-      ∙ length-append (chain_clauses (steps ++ lemma_steps learns.lemmas)) (r.clause ∷ []) ∙ ap (λ (k : ℕ). k + 1) (ap length (chains-lemmas steps learns.lemmas))
+  learned_chains = ap chain_count analysis.learns.pushed ∙ ap length (chain_clauses-append (steps ++ lemma_steps analysis.learns.lemmas) (step.Chain (record { clause = r.clause; used = analysis.learns.used }) ∷ []))
+      ∙ length-append (chain_clauses (steps ++ lemma_steps analysis.learns.lemmas)) (r.clause ∷ []) ∙ ap (λ (k : ℕ). k + 1) (ap length (chains-lemmas steps analysis.learns.lemmas))
 
-  number_is : r.number ≡ suc (length (clauses_after b.problem (steps ++ lemma_steps learns.lemmas)))
-  number_is = learns.number ∙ ap (λ (ss : List Step). length (clauses_after b.problem ss)) learns.pushed
-      ∙ ap length (after-append b.problem (steps ++ lemma_steps learns.lemmas) (step.Chain (record { clause = r.clause; used = learns.used }) ∷ []))
-      ∙ length-append (clauses_after b.problem (steps ++ lemma_steps learns.lemmas)) (r.clause ∷ []) ∙ add-one (length (clauses_after b.problem (steps ++ lemma_steps learns.lemmas)))
+  number_is : r.number ≡ suc (length (clauses_after b.problem (steps ++ lemma_steps analysis.learns.lemmas)))
+  number_is = analysis.learns.number ∙ ap (λ (ss : List Step). length (clauses_after b.problem ss)) analysis.learns.pushed
+      ∙ ap length (after-append b.problem (steps ++ lemma_steps analysis.learns.lemmas) (step.Chain (record { clause = r.clause; used = analysis.learns.used }) ∷ []))
+      ∙ length-append (clauses_after b.problem (steps ++ lemma_steps analysis.learns.lemmas)) (r.clause ∷ []) ∙ add-one (length (clauses_after b.problem (steps ++ lemma_steps analysis.learns.lemmas)))
 
   more_clauses : length (clauses_after b.problem steps) < r.number
-  more_clauses = omega (arith, number_is, length_clauses b.problem steps, length_clauses b.problem (steps ++ lemma_steps learns.lemmas), length-append steps (lemma_steps learns.lemmas))
+  more_clauses = omega (arith, number_is, length_clauses b.problem steps, length_clauses b.problem (steps ++ lemma_steps analysis.learns.lemmas), length-append steps (lemma_steps analysis.learns.lemmas))
 
   pub learned_rising : All (λ h. h.number < r.number) s.clauses
-  learned_rising = subst (λ (hs : List Held). All (λ (h : Held). h.number < r.number) hs) (sym conflict.whole.held.clauses) (held_below b.problem steps r.number more_clauses)
+  learned_rising = subst (λ (hs : List Held). All (λ (h : Held). h.number < r.number) hs) (sym analysis.conflict.whole.held.clauses) (held_below b.problem steps r.number more_clauses)
 
   pub learned_within : All (IsLitWithin s.vars) r.clause
   learned_within = λ k d lt.
       let l = get_or r.clause k d in
       let h : IsTrue (has_lit r.clause l) = list_any_at (int_eq l) r.clause k d lt (lit_itself l) in
-      elim (same_or_not l learns.learnt.lit) [
-        | inl e ↦ subst (IsLitWithin s.vars) (sym e) (in_vars learns.learnt.lit t.level learns.learnt.present)
-        | inr d ↦ let i = learns.learnt.others l h d in in_vars l i.0 i.2
+      elim (same_or_not l analysis.learns.learnt.lit) [
+        | inl e ↦ subst (IsLitWithin s.vars) (sym e) (in_vars analysis.learns.learnt.lit t.level analysis.learns.learnt.present)
+        | inr d ↦ let i = analysis.learns.learnt.others l h d in in_vars l i.0 i.2
       ]
 
   pub learned_held : (z : StoreView) → AddsClause s z r.number r.clause → HoldsKnown b.problem new z
   learned_held z a = record {
-    vars = a.vars ∙ conflict.whole.held.vars;
-    clauses = a.clauses ∙ ap (λ (hs : List Held). hs ++ record { number = r.number; lits = r.clause } ∷ []) (conflict.whole.held.clauses ∙ sym (held-lemmas b.problem steps learns.lemmas))
-        ∙ ap (λ (k : ℕ). held_after b.problem (steps ++ lemma_steps learns.lemmas) ++ record { number = k; lits = r.clause } ∷ []) number_is
-        ∙ sym (held-chain b.problem (steps ++ lemma_steps learns.lemmas) (record { clause = r.clause; used = learns.used })) ∙ ap (held_after b.problem) (sym learns.pushed);
+    vars = a.vars ∙ analysis.conflict.whole.held.vars;
+    clauses = a.clauses ∙ ap (λ (hs : List Held). hs ++ record { number = r.number; lits = r.clause } ∷ []) (analysis.conflict.whole.held.clauses ∙ sym (held-lemmas b.problem steps analysis.learns.lemmas))
+        ∙ ap (λ (k : ℕ). held_after b.problem (steps ++ lemma_steps analysis.learns.lemmas) ++ record { number = k; lits = r.clause } ∷ []) number_is
+        ∙ sym (held-chain b.problem (steps ++ lemma_steps analysis.learns.lemmas) (record { clause = r.clause; used = analysis.learns.used })) ∙ ap (held_after b.problem) (sym analysis.learns.pushed);
   }
 
   known_now : known_clauses b.problem new ≡ known_clauses b.problem steps ++ r.clause ∷ []
-  known_now = ap (known_clauses b.problem) learns.pushed ∙ known-chain b.problem (steps ++ lemma_steps learns.lemmas) (record { clause = r.clause; used = learns.used }) ∙ ap (λ (cs : List (List ℤ)). cs ++ r.clause ∷ []) (known-lemmas b.problem steps learns.lemmas)
+  known_now = ap (known_clauses b.problem) analysis.learns.pushed ∙ known-chain b.problem (steps ++ lemma_steps analysis.learns.lemmas) (record { clause = r.clause; used = analysis.learns.used }) ∙ ap (λ (cs : List (List ℤ)). cs ++ r.clause ∷ []) (known-lemmas b.problem steps analysis.learns.lemmas)
 
   pub learned_follows : (level : ℕ) → level ≤ r.back_to → Follows s (lowered level u)
-  learned_follows level le = follows_below_back s u level sound (omega (arith, le, learns.learnt.lower, settles.level)) (settling_keeps_below (clauses_after b.problem new) s t u settles conflict.follows)
+  learned_follows level le = follows_below_back s u level analysis.sound (omega (arith, le, analysis.learns.learnt.lower, analysis.settles.level)) (settling_keeps_below (clauses_after b.problem new) s t u analysis.settles analysis.conflict.follows)
 
   -- reasons and quiet below, before the trail goes back
   reasons_now : KeepsReasons b (clauses_after b.problem new) u.lits u.marks
-  reasons_now = reasons-settled b (clauses_after b.problem new) t u settles (subst (λ (cs : List (List ℤ)). KeepsReasons b cs t.lits t.marks) (sym after) (reasons-more b (clauses_after b.problem steps) _ t.lits t.marks conflict.whole.trail.reasons))
+  reasons_now = reasons-settled b (clauses_after b.problem new) t u analysis.settles (subst (λ (cs : List (List ℤ)). KeepsReasons b cs t.lits t.marks) (sym after) (reasons-more b (clauses_after b.problem steps) _ t.lits t.marks analysis.conflict.whole.trail.reasons))
     where
-      after : clauses_after b.problem new ≡ clauses_after b.problem steps ++ map clause_of (lemma_steps learns.lemmas ++ step.Chain (record { clause = r.clause; used = learns.used }) ∷ [])
-      after = ap (clauses_after b.problem) (learns.pushed ∙ append_assoc steps (lemma_steps learns.lemmas) (step.Chain (record { clause = r.clause; used = learns.used }) ∷ [])) ∙ after-append b.problem steps (lemma_steps learns.lemmas ++ step.Chain (record { clause = r.clause; used = learns.used }) ∷ [])
+      after : clauses_after b.problem new ≡ clauses_after b.problem steps ++ map clause_of (lemma_steps analysis.learns.lemmas ++ step.Chain (record { clause = r.clause; used = analysis.learns.used }) ∷ [])
+      after = ap (clauses_after b.problem) (analysis.learns.pushed ∙ append_assoc steps (lemma_steps analysis.learns.lemmas) (step.Chain (record { clause = r.clause; used = analysis.learns.used }) ∷ [])) ∙ after-append b.problem steps (lemma_steps analysis.learns.lemmas ++ step.Chain (record { clause = r.clause; used = analysis.learns.used }) ∷ [])
 
   below_now : QuietBelow b.problem (known_clauses b.problem steps) u.lits u.marks
-  below_now = below-settled b.problem (known_clauses b.problem steps) (clauses_after b.problem new) t u settles conflict.whole.trail.below
+  below_now = below-settled b.problem (known_clauses b.problem steps) (clauses_after b.problem new) t u analysis.settles analysis.conflict.whole.trail.below
 
   -- a literal whose negation stands at a level not below that of a decision is open before the decision
   open_before_decision : (l : ℤ) (high k : ℕ) → StandsAt t (neg_ℤ l) high → k < length u.lits → reason_at u.marks k ≡ Decided → level_at u.marks k ≤ high → IsTrue (is_open_in (take k u.lits) l)
   open_before_decision l high k i lt d le =
-      let inside : i.place < length u.lits = subst (λ (ls : List ℤ). i.place < length ls) (sym settles.lits) i.within in
-      let there : lit_at u.lits i.place ≡ neg_ℤ l = ap (λ (ls : List ℤ). lit_at ls i.place) settles.lits ∙ i.there in
-      let after : k ≤ i.place = not_before 0 u.marks u.level k i.place sound.climbs (omega (arith, lt, sound.as_many)) d (omega (arith, le, settles.levels i.place, i.at)) in
-      open-neg_back (take k u.lits) l (subst (λ (m : ℤ). IsTrue (is_open_in (take k u.lits) m)) there (open_before u.lits k i.place sound.partial after inside))
+      let inside : i.place < length u.lits = subst (λ (ls : List ℤ). i.place < length ls) (sym analysis.settles.lits) i.within in
+      let there : lit_at u.lits i.place ≡ neg_ℤ l = ap (λ (ls : List ℤ). lit_at ls i.place) analysis.settles.lits ∙ i.there in
+      let after : k ≤ i.place = not_before 0 u.marks u.level k i.place analysis.sound.climbs (omega (arith, lt, analysis.sound.as_many)) d (omega (arith, le, analysis.settles.levels i.place, i.at)) in
+      open-neg_back (take k u.lits) l (subst (λ (m : ℤ). IsTrue (is_open_in (take k u.lits) m)) there (open_before u.lits k i.place analysis.sound.partial after inside))
 
   quiet_clause : (level : ℕ) → level ≤ r.back_to → (k : ℕ) → k < length u.lits → reason_at u.marks k ≡ Decided → level_at u.marks k ≤ level → IsTrue (is_quiet (take k u.lits) r.clause)
-  quiet_clause level le k lt d low = by learns.learnt.reached
+  quiet_clause level le k lt d low = by analysis.learns.learnt.reached
     where
-      by : (r.back_to ≡ zero) ⊎ ((l : ℤ) × IsTrue (has_lit r.clause l) × (l ≢ learns.learnt.lit) × StandsAt t (neg_ℤ l) r.back_to) → IsTrue (is_quiet (take k u.lits) r.clause)
-      by (inl none) = absurd (omega (arith, none, le, low, decision_rises 0 u.marks u.level k sound.climbs (omega (arith, lt, sound.as_many)) d))
-      by (inr (l, h, other, stands)) = quiet_by_two (take k u.lits) r.clause l learns.learnt.lit h learns.learnt.has other
+      by : (r.back_to ≡ zero) ⊎ ((l : ℤ) × IsTrue (has_lit r.clause l) × (l ≢ analysis.learns.learnt.lit) × StandsAt t (neg_ℤ l) r.back_to) → IsTrue (is_quiet (take k u.lits) r.clause)
+      by (inl none) = absurd (omega (arith, none, le, low, decision_rises 0 u.marks u.level k analysis.sound.climbs (omega (arith, lt, analysis.sound.as_many)) d))
+      by (inr (l, h, other, stands)) = quiet_by_two (take k u.lits) r.clause l analysis.learns.learnt.lit h analysis.learns.learnt.has other
           (open_before_decision l r.back_to k stands lt d (omega (arith, low, le)))
-          (open_before_decision learns.learnt.lit t.level k learns.learnt.present lt d (omega (arith, low, le, learns.learnt.lower)))
+          (open_before_decision analysis.learns.learnt.lit t.level k analysis.learns.learnt.present lt d (omega (arith, low, le, analysis.learns.learnt.lower)))
 
   pub learned_below : (level : ℕ) → level ≤ r.back_to → QuietBelow b.problem (known_clauses b.problem new) (lowered level u).lits (lowered level u).marks
   learned_below level le = record {
@@ -227,7 +240,7 @@ module _ (b : TheoriesView) (t u : TrailView) (s : StoreView) (steps new : List 
         let reason : reason_at u.marks k ≡ Decided = sym (ap (λ (x : Mark). x.reason) (get_or-take m u.marks k no_mark front)) ∙ d in
         let before = (below-lowered b.problem (known_clauses b.problem steps) u.lits u.marks m below_now).at k lt d in
         let cut : take k (take m u.lits) ≡ take k u.lits = take-take k m u.lits (omega (arith, front)) in
-        let here = subst (λ (ls : List ℤ). IsTrue (is_quiet ls r.clause)) (sym cut) (quiet_clause level le k len reason (low_before level u.marks k front)) in
+        let here = subst (λ (ls : List ℤ). IsTrue (is_quiet ls r.clause)) (sym cut) (quiet_clause level le k len reason (kept_low level u.marks k front)) in
         record {
           units = subst (λ (cs : List (List ℤ)). IsTrue (unit_quiet cs (take k (take m u.lits)))) (sym known_now)
               (list_all-append (is_quiet (take k (take m u.lits))) (known_clauses b.problem steps) (r.clause ∷ []) ∙ and_from (unit_quiet (known_clauses b.problem steps) (take k (take m u.lits))) (is_quiet (take k (take m u.lits)) r.clause && true) before.units (and_from (is_quiet (take k (take m u.lits)) r.clause) true here refl));
@@ -243,15 +256,15 @@ module _ (b : TheoriesView) (t u : TrailView) (s : StoreView) (steps new : List 
           journal = learned_open;
           held = learned_held z held;
           trail = record {
-            vars = settles.vars ∙ conflict.whole.trail.vars;
+            vars = analysis.settles.vars ∙ analysis.conflict.whole.trail.vars;
             sound = subst IsSound e ok;
-            shown = lowered_shown b u level sound;
+            shown = lowered_shown b u level analysis.sound;
             reasons = lowered_reasons b u (clauses_after b.problem new) level reasons_now;
             below = learned_below level le;
           };
           order = record {
-            vars = released.as_many ∙ conflict.whole.order.vars;
-            wait = wait-lowered o q u.lits (count_to level u.marks) (subst (AllOpenWait o) (sym settles.lits) conflict.whole.order.wait) released;
+            vars = released.as_many ∙ analysis.conflict.whole.order.vars;
+            wait = wait-lowered o q u.lits (count_to level u.marks) (subst (AllOpenWait o) (sym analysis.settles.lits) analysis.conflict.whole.order.wait) released;
           };
         };
         follows = subst (λ (w : TrailView). Follows z w) e follows;
@@ -262,17 +275,17 @@ module _ (b : TheoriesView) (t u : TrailView) (s : StoreView) (steps new : List 
   added (Ok y) level q v z le ok e released held follows = learned_ready level q v z le ok e released held follows
   added (Err y) level q v z le ok e released held follows = held
 
--- where the search is once the clause was learned
-pub went_back : (b d : TheoriesView) (t u v : TrailView) (s z : StoreView) (steps new : List Step) (o q : OrderView) (r : Learnt) (restarts : Bool) (level : ℕ) → Learns b.problem t steps new r → Settles (clauses_after b.problem new) t u
-    → level ≡ (if restarts then 0 else r.back_to) → v ≡ lowered level u → Releases o q (drop (count_to level u.marks) u.lits) → GoesBack (state b t s steps o) (state d v z new q) restarts
-went_back b d t u v s z steps new o q r restarts level learns settles is e released = record {
-  learnt = r;
-  learns = learns;
-  settled = u;
-  settles = settles;
-  trail = e ∙ ap (λ (n : ℕ). lowered n u) is;
-  order = subst (λ (n : ℕ). Releases o q (drop (count_to n u.marks) u.lits)) is released;
-}
+  -- where the search is once the clause was learned
+  pub went_back : (d : TheoriesView) (v : TrailView) (z : StoreView) (q : OrderView) (restarts : Bool) (level : ℕ) → level ≡ (if restarts then 0 else r.back_to) → v ≡ lowered level u → Releases o q (drop (count_to level u.marks) u.lits)
+      → GoesBack (state b t s steps o) (state d v z new q) restarts
+  went_back d v z q restarts level is e released = record {
+    learnt = r;
+    learns = analysis.learns;
+    settled = u;
+    settles = analysis.settles;
+    trail = e ∙ ap (λ (n : ℕ). lowered n u) is;
+    order = subst (λ (n : ℕ). Releases o q (drop (count_to n u.marks) u.lits)) is released;
+  }
 
 pub on_ok : {U E : Type 0} (x : Result U E) (P : Type 0) → P → OnOk x P
 on_ok (Ok y) P h = h

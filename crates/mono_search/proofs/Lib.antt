@@ -1,4 +1,5 @@
 pub mod Lists
+pub mod ModelSigns
 pub mod Trails
 pub mod Following
 pub mod Journals

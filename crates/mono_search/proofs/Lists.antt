@@ -1,5 +1,5 @@
 -- Lists of literals: what stands in them, and what is open, true or false.
-use Rattle.std.proofs.Common.{◌≡◌, ◌≢◌, ℕ, suc, ◌+◌, ◌-◌, ◌<◌, ◌≤◌, Bool, true, false, not, List, [], ◌∷◌, ◌++◌, take, drop, length, filter, refl, sym, ap, subst, ◌∙◌, inl, inr, ◌⊎◌, ℤ, pos, neg_ℤ, arith}
+use Rattle.std.proofs.Common.{◌≡◌, ◌≢◌, ℕ, ◌+◌, ◌-◌, ◌<◌, ◌≤◌, Bool, true, false, not, List, [], ◌∷◌, ◌++◌, take, drop, length, filter, refl, sym, ap, subst, ◌∙◌, inl, inr, ◌⊎◌, ℤ, pos, neg_ℤ, arith}
 use Rattle.std.specs.Prelude.{IsTrue}
 use Rattle.std.specs.Ordering.{int_eq}
 use Rattle.std.specs.List.{list_any, list_all}
@@ -8,28 +8,16 @@ use Rattle.std.proofs.lemmas.Bool.{and_parts, and_from, or_cases, or_left, or_ri
 use Rattle.std.proofs.lemmas.Bool.Decides.{Decides-int_eq}
 use Rattle.std.proofs.lemmas.List.{take-append-drop, get_or-take, get_or-drop, length-take, length-drop}
 use Rattle.std.proofs.lemmas.List.Folds.{list_any_at}
+use Rattle.mono_learn.proofs.ChainEnds.{filter_keeps}
+use Rattle.mono_learn.proofs.PlacesOfLits.{has_stands}
 use Rattle.mono_base.specs.Literal.{var_of, has_lit, within, without, lit_at}
 use Rattle.mono_base.specs.Partial.{is_true_in, is_false_in, is_open_in, has_two, is_quiet, is_partial, is_false_clause, others_false}
 use Rattle.mono_base.proofs.Truth.{same_lit, lit_itself, at_each, from_each}
 use Rattle.mono_base.proofs.Partials.{has_var_of, later_is_new, new_is_open}
-use Rattle.mono_steps.proofs.Sets.{has-append, has-without, all_lits}
+use Rattle.mono_steps.proofs.Sets.{has-append, has-without}
+use Rattle.mono_steps.proofs.LeftOpen.{has_at}
 
 -- ---- places
-
-pub has_there : (t : List ℤ) (k : ℕ) → k < length t → IsTrue (has_lit t (lit_at t k))
-has_there t k lt = list_any_at (int_eq (lit_at t k)) t k (pos 0) lt (lit_itself (lit_at t k))
-
-pub record IsAt (t : List ℤ) (l : ℤ) : Type 0 where
-  pub place : ℕ
-  pub inside : place < length t
-  pub there : lit_at t place ≡ l
-
-pub found_at : (t : List ℤ) (l : ℤ) → IsTrue (has_lit t l) → IsAt t l
-found_at [] l h = absurd cc
-found_at (x ∷ t) l h = elim (or_cases (int_eq l x) (has_lit t l) h) [
-  | inl e ↦ record { place = 0; inside = omega arith; there = sym (same_lit l x e) }
-  | inr r ↦ let i = found_at t l r in record { place = suc i.place; inside = omega (arith, i.inside); there = i.there }
-]
 
 pub has-take : (t : List ℤ) (k : ℕ) (l : ℤ) → IsTrue (has_lit (take k t) l) → IsTrue (has_lit t l)
 has-take t k l h = subst (λ (u : List ℤ). IsTrue (has_lit u l)) (take-append-drop k t) (has-append (take k t) (drop k t) l ∙ or_left (has_lit (take k t) l) (has_lit (drop k t) l) h)
@@ -39,19 +27,16 @@ pub has_before : (t : List ℤ) (j k : ℕ) → j < k → j < length t → IsTru
 has_before t j k lt len =
     let e : lit_at (take k t) j ≡ lit_at t j = get_or-take k t j (pos 0) lt in
     let inside : j < length (take k t) = rw length-take (omega arith) in
-    subst (λ (l : ℤ). IsTrue (has_lit (take k t) l)) e (has_there (take k t) j inside)
+    subst (λ (l : ℤ). IsTrue (has_lit (take k t) l)) e (has_at (take k t) j inside)
 
 -- a longer list has what a shorter one has
 pub has-shorter : (t : List ℤ) (j k : ℕ) (l : ℤ) → j ≤ k → IsTrue (has_lit (take j t) l) → IsTrue (has_lit (take k t) l)
 has-shorter t j k l le h =
-    let i = found_at (take j t) l h in
-    let low : i.place < j = omega (arith, i.inside, length-take j t) in
-    let len : i.place < length t = omega (arith, i.inside, length-take j t) in
+    let i = has_stands (take j t) l h in
+    let low : i.place < j = omega (arith, i.within, length-take j t) in
+    let len : i.place < length t = omega (arith, i.within, length-take j t) in
     let e : lit_at t i.place ≡ l = sym (get_or-take j t i.place (pos 0) low) ∙ i.there in
     subst (λ (m : ℤ). IsTrue (has_lit (take k t) m)) e (has_before t i.place k (omega arith) len)
-
-pub has_left : (t u : List ℤ) (l : ℤ) → IsTrue (has_lit t l) → IsTrue (has_lit (t ++ u) l)
-has_left t u l h = has-append t u l ∙ or_left (has_lit t l) (has_lit u l) h
 
 -- ---- tests of a clause
 
@@ -87,7 +72,7 @@ false_whole t c x others here = from_each (is_false_in t) c (λ l h. elim (same_
 ])
 
 pub within_by : (c d : List ℤ) → ((l : ℤ) → IsTrue (has_lit c l) → IsTrue (has_lit d l)) → IsTrue (within c d)
-within_by c d f = all_lits (has_lit d) c f
+within_by c d f = from_each (has_lit d) c f
 
 -- a literal that fails a test which not all literals pass
 pub record Fails (p : ℤ → Bool) (c : List ℤ) : Type 0 where
@@ -132,7 +117,7 @@ open_before t k j p le lt =
     let l = lit_at t j in
     let split : take k t ++ drop k t ≡ t = take-append-drop k t in
     let at : lit_at (drop k t) (j - k) ≡ l = get_or-drop k t (j - k) (pos 0) ∙ ap (λ (i : ℕ). lit_at t i) (let e : k + (j - k) ≡ j = omega arith in e) in
-    let later : IsTrue (has_lit (drop k t) l) = subst (λ (m : ℤ). IsTrue (has_lit (drop k t) m)) at (has_there (drop k t) (j - k) (rw length-drop (omega arith))) in
+    let later : IsTrue (has_lit (drop k t) l) = subst (λ (m : ℤ). IsTrue (has_lit (drop k t) m)) at (has_at (drop k t) (j - k) (rw length-drop (omega arith))) in
     new_is_open (take k t) l (later_is_new (take k t) (drop k t) (var_of l) (subst (λ (u : List ℤ). IsTrue (is_partial u)) (sym split) p) (has_var_of (drop k t) l (var_of l) later refl))
 
 -- ---- quiet clauses
@@ -152,19 +137,7 @@ has_two_from (x ∷ c) a b h k n =
     ]
   where
     other : (x : ℤ) (c : List ℤ) (m : ℤ) → IsTrue (has_lit c m) → x ≢ m → IsTrue (list_any (λ l. not (int_eq x l)) c)
-    other x c m h n = let i = found_at c m h in list_any_at (λ l. not (int_eq x l)) c i.place (pos 0) i.inside (not_from_false (int_eq x (lit_at c i.place)) (false_from_ne_true (int_eq x (lit_at c i.place)) (λ e. n (same_lit x (lit_at c i.place) e ∙ i.there))))
-
-pub has-filter : (p : ℤ → Bool) (c : List ℤ) (l : ℤ) → IsTrue (has_lit c l) → IsTrue (p l) → IsTrue (has_lit (filter p c) l)
-has-filter p [] l h q = h
-has-filter p (x ∷ c) l h q =
-    elim (or_cases (int_eq l x) (has_lit c l) h) [
-      | inl e ↦ let here : p x ≡ true = subst (λ (m : ℤ). IsTrue (p m)) (same_lit l x e) q in rw here (or_left (int_eq l x) (has_lit (filter p c) l) e)
-      | inr r ↦ by x (p x) refl (has-filter p c l r q)
-    ]
-  where
-    by : (x : ℤ) (b : Bool) → p x ≡ b → IsTrue (has_lit (filter p c) l) → IsTrue (has_lit (filter p (x ∷ c)) l)
-    by x true e h = rw e (or_right (int_eq l x) (has_lit (filter p c) l) h)
-    by x false e h = rw e h
+    other x c m h n = let i = has_stands c m h in list_any_at (λ l. not (int_eq x l)) c i.place (pos 0) i.within (not_from_false (int_eq x (lit_at c i.place)) (false_from_ne_true (int_eq x (lit_at c i.place)) (λ e. n (same_lit x (lit_at c i.place) e ∙ i.there))))
 
 pub quiet_by_two : (t c : List ℤ) (a b : ℤ) → IsTrue (has_lit c a) → IsTrue (has_lit c b) → a ≢ b → IsTrue (is_open_in t a) → IsTrue (is_open_in t b) → IsTrue (is_quiet t c)
-quiet_by_two t c a b h k n o q = or_right (list_any (is_true_in t) c) (has_two (filter (is_open_in t) c)) (has_two_from (filter (is_open_in t) c) a b (has-filter (is_open_in t) c a h o) (has-filter (is_open_in t) c b k q) n)
+quiet_by_two t c a b h k n o q = or_right (list_any (is_true_in t) c) (has_two (filter (is_open_in t) c)) (has_two_from (filter (is_open_in t) c) a b (filter_keeps (is_open_in t) c a h o) (filter_keeps (is_open_in t) c b k q) n)

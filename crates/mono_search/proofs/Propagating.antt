@@ -20,11 +20,12 @@ use Rattle.mono_steps.specs.Journals.{chain_count, lemma_steps}
 use Rattle.mono_trail.specs.Order.{OrderView}
 use Rattle.mono_search.specs.TheoryLists.{seen_of, shown_of, IsCurrent, IsQuietTheory, IsShort, AnyForces}
 use Rattle.mono_learn.specs.Explain.{AtomForces, IsExplanation}
+use Rattle.mono_learn.proofs.LitSets.{has-append_left}
 use Rattle.mono_theory.specs.Owners.{OwnsEach}
 use Rattle.mono_search.specs.Theories.{TheoriesView, HaveSeen, AtomsQuiet, having_seen}
 use Rattle.mono_search.specs.State.{StateView, WasLate, KeepsReasons, QuietBelow, IsJournal, IsSupported, IsOpenJournal, HoldsKnown, IsConsistent, IsReady, IsInConflict}
 use Rattle.mono_search.specs.Runs.{CanImply, HasAdvanced}
-use Rattle.mono_search.proofs.Lists.{has-take, has_left, others_false-wider, false_whole}
+use Rattle.mono_search.proofs.Lists.{has-take, others_false-wider, false_whole}
 use Rattle.mono_steps.proofs.NewSteps.{fresh-lemmas}
 use Rattle.mono_steps.proofs.JournalSteps.{no_empty-append, no_empty-lemmas, known-lemmas, chains-lemmas, after-append}
 use Rattle.mono_search.proofs.Journals.{held-lemmas, numbered-last}
@@ -112,7 +113,7 @@ implied b t s steps o n k l r f sound =
           journal = r.whole.journal;
           held = r.whole.held;
           trail = supported_from b (joined t l (Late n k)) steps kept sound;
-          order = record { vars = r.whole.order.vars; wait = wait-grown o t.lits (t.lits ++ l ∷ []) (λ m h. has_left t.lits (l ∷ []) m h) r.whole.order.wait };
+          order = record { vars = r.whole.order.vars; wait = wait-grown o t.lits (t.lits ++ l ∷ []) (λ m h. has-append_left t.lits (l ∷ []) m h) r.whole.order.wait };
         };
         follows = follows_imply s t l (Late n k) r.whole.trail.sound (λ e. cc) r.follows;
       };

@@ -1,5 +1,5 @@
 -- Quiet atoms: over the literals that concern a theory and over all, and what they say of lemmas.
-use Rattle.std.proofs.Common.{zero, suc, ◌≡◌, ℕ, ◌<◌, ◌≤◌, eqb, eq-eqb, Bool, true, false, not, ◌&&◌, List, [], ◌∷◌, length, take, filter, arith, refl, sym, ◌∙◌, ap, cond, get_or, subst, inl, inr, ℤ, pos, neg_ℤ, nat_abs, All}
+use Rattle.std.proofs.Common.{zero, suc, ◌≡◌, ℕ, ◌<◌, ◌≤◌, eqb, eq-eqb, Bool, true, false, not, ◌&&◌, List, length, take, arith, refl, sym, ◌∙◌, ap, cond, get_or, subst, inl, inr, ℤ, pos, neg_ℤ, nat_abs, All}
 use Rattle.std.specs.Prelude.{Option, Some, None, MatchOption, IsTrue, slice_get}
 use Rattle.std.specs.List.{list_any}
 use Rattle.std.specs.Ordering.{int_eq}
@@ -35,16 +35,13 @@ use Rattle.mono_search.specs.TheoryLists.{concerning, seen_of, IsCurrent, IsQuie
 use Rattle.mono_learn.specs.Explain.{AtomForces}
 use Rattle.mono_theory.specs.Owners.{OwnsEach}
 use Rattle.mono_search.specs.Theories.{TheoriesView, HaveSeen, AtomsQuiet}
-use Rattle.mono_base.proofs.Partials.{one_sign}
+use Rattle.mono_base.proofs.Partials.{one_sign, var-neg}
 use Rattle.mono_search.proofs.Lists.{false_in_clause}
 use Rattle.mono_search.proofs.Owners.{owns_atom, numbered_in, some_atom, one_owner, is_count, atom_owned}
 use Rattle.mono_search.proofs.HandedOn.{atom_bounds}
+use Rattle.mono_search.proofs.ConcernTables.{count-le}
 
 -- ---- the literals that concern a theory
-
-var-neg : (v : ℕ) → nat_abs (neg_ℤ (pos v)) ≡ v
-var-neg zero = refl
-var-neg (suc v) = refl
 
 pub concerned-same : (f : Facts) (t : List ℤ) (l : ℤ) → IsTrue (concerns_of f.graph f.atoms (var_of l)) → has_lit (concerning f t) l ≡ has_lit t l
 concerned-same f t l c = any-filter_same (int_eq l) (λ m. concerns_of f.graph f.atoms (var_of m)) true (λ k e. subst (λ (m : ℤ). concerns_of f.graph f.atoms (var_of m) ≡ true) (same_lit l k e) c) t
@@ -61,7 +58,7 @@ pub under-same : (f : Facts) (t : List ℤ) → under f.graph (concerning f t) �
 under-same f t = map_same (λ e. is_true_in (concerning f t) (pos e.var)) (λ e. is_true_in t (pos e.var)) f.graph.edges (λ k d lt. concerned-same f t (pos (get_or f.graph.edges k d).var) (edge_concerns f k d lt))
 
 false-same : (f : Facts) (t : List ℤ) (v : ℕ) → IsTrue (concerns_of f.graph f.atoms v) → is_false_in (concerning f t) (pos v) ≡ is_false_in t (pos v)
-false-same f t v c = concerned-same f t (neg_ℤ (pos v)) (subst (λ (w : ℕ). IsTrue (concerns_of f.graph f.atoms w)) (sym (var-neg v)) c)
+false-same f t v c = concerned-same f t (neg_ℤ (pos v)) (subst (λ (w : ℕ). IsTrue (concerns_of f.graph f.atoms w)) (sym (var-neg (pos v))) c)
 
 pub over-same : (f : Facts) (t : List ℤ) → over f.graph (concerning f t) ≡ over f.graph t
 over-same f t = map_same (λ e. not (is_false_in (concerning f t) (pos e.var))) (λ e. not (is_false_in t (pos e.var))) f.graph.edges (λ k d lt. ap not (false-same f t (get_or f.graph.edges k d).var (edge_concerns f k d lt)))
@@ -107,7 +104,7 @@ quiet_atoms p fs t own current quiet = record {
 
 forces_var : (g : Digraph) (x : Atom) (t : List ℤ) (l : ℤ) → Forces g x t l → var_of l ≡ x.var
 forces_var g x t l (inl (is, h)) = ap nat_abs is
-forces_var g x t l (inr (is, h)) = ap nat_abs is ∙ var-neg x.var
+forces_var g x t l (inr (is, h)) = ap nat_abs is ∙ var-neg (pos x.var)
 
 pub record IsForcedBy (p : Instance) (fs : List Facts) (t : List ℤ) (r : Forced) : Type 0 where
   pub kept : r.kept ≡ length (seen_of fs r.atom)
@@ -155,18 +152,10 @@ forced_is p fs t r ok own current any = by (atom_of f.atoms r.atom) refl its.for
 
 -- ---- a theory's literals are few
 
-filter-le : (p : ℤ → Bool) (xs : List ℤ) → length (filter p xs) ≤ length xs
-filter-le p [] = omega arith
-filter-le p (x ∷ xs) = by (p x) refl (filter-le p xs)
-  where
-    by : (b : Bool) → p x ≡ b → length (filter p xs) ≤ length xs → length (filter p (x ∷ xs)) ≤ length (x ∷ xs)
-    by true e ih = rw e (omega (arith, ih))
-    by false e ih = rw e (omega (arith, ih))
-
 pub all_short : (b : TheoriesView) (t : List ℤ) → HaveSeen b t → length t ≤ MAX_VARS → All IsShort b.facts
 all_short b t s few = λ k d lt.
     let now = s.current k d lt in
-    omega (arith, ap length now, filter-le (λ l. concerns_of (get_or b.facts k d).graph (get_or b.facts k d).atoms (var_of l)) (take b.handed t), length-take b.handed t, few)
+    omega (arith, ap length now, count-le (take b.handed t) (get_or b.facts k d), length-take b.handed t, few)
 
 -- ---- the part in which a witness of a sign decides its predicate
 

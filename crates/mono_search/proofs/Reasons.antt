@@ -1,12 +1,11 @@
 -- What each move of the trail keeps: reasons, and quiet below each decision.
-use Rattle.std.proofs.Common.{◌≡◌, ℕ, suc, ◌+◌, ◌<◌, ◌≤◌, Bool, true, false, List, [], ◌∷◌, ◌++◌, take, drop, map, filter, length, All, refl, sym, ap, subst, ◌∙◌, inl, inr, ◌⊎◌, ℤ, pos, arith, length-append, cond}
+use Rattle.std.proofs.Common.{◌≡◌, ℕ, suc, ◌+◌, ◌<◌, ◌≤◌, Bool, true, false, List, [], ◌∷◌, ◌++◌, take, drop, map, length, All, refl, sym, ap, subst, ◌∙◌, inl, inr, ◌⊎◌, ℤ, pos, arith, length-append, cond}
 use Rattle.std.specs.Prelude.{IsTrue}
-use Rattle.std.specs.Ordering.{int_eq}
 use Rattle.std.proofs.Math.ListN.{get_or-append}
 use Rattle.std.proofs.Math.Seq.{get_or-append_seam, take-append_seam}
 use Rattle.std.proofs.lemmas.List.{take-append-drop, take-append-le, take-take, get_or-take, length-take}
 use Rattle.std.proofs.lemmas.List.Elements.{filter-append}
-use Rattle.std.proofs.lemmas.Bool.{cases_lt, or_cases, or_left, or_right}
+use Rattle.std.proofs.lemmas.Bool.{cases_lt}
 use Rattle.mono_base.specs.Literal.{has_lit, var_of, lit_at}
 use Rattle.mono_base.specs.Partial.{others_false}
 use Rattle.mono_problem.specs.Instance.{Instance}
@@ -20,10 +19,11 @@ use Rattle.mono_search.specs.TheoryLists.{concerning, with_seen, shown_of, seen_
 use Rattle.mono_learn.specs.Reasons.{WasUnit, WasForced, ReasonHolds, HasReasons}
 use Rattle.mono_learn.specs.Settled.{SettledReason, Settles}
 use Rattle.mono_learn.specs.Explain.{AtomForces}
+use Rattle.mono_learn.proofs.Settling.{unit_more, decided_was}
+use Rattle.mono_learn.proofs.ChainEnds.{filter_has}
 use Rattle.mono_search.specs.Theories.{TheoriesView, HaveSeen, having_seen}
 use Rattle.mono_search.specs.State.{WasLate, KeepsReason, KeepsReasons, QuietAt, QuietBelow}
 use Rattle.mono_search.proofs.Lists.{has-take, within_by}
-use Rattle.mono_search.proofs.Journals.{numbered-left}
 
 -- ---- one reason
 
@@ -48,12 +48,9 @@ reason-same b cs t u k (Clause n) at front w = unit-same cs t u k n at front w
 reason-same b cs t u k (Late n m) at front w = late-same b t u k n m at front w
 
 -- more clauses
-unit-more : (cs ds : List (List ℤ)) (t : List ℤ) (k n : ℕ) → WasUnit cs t k n → WasUnit (cs ++ ds) t k n
-unit-more cs ds t k n w = record { clause = w.clause; is = numbered-left cs ds n w.clause w.is; has = w.has; others = w.others }
-
 reason-more : (b : TheoriesView) (cs ds : List (List ℤ)) (t : List ℤ) (k : ℕ) (r : Reason) → KeepsReason b cs t k r → KeepsReason b (cs ++ ds) t k r
 reason-more b cs ds t k Decided w = tt
-reason-more b cs ds t k (Clause n) w = unit-more cs ds t k n w
+reason-more b cs ds t k (Clause n) w = unit_more cs ds t k n w
 reason-more b cs ds t k (Late n m) w = w
 
 pub reasons-more : (b : TheoriesView) (cs ds : List (List ℤ)) (lits : List ℤ) (marks : List Mark) → KeepsReasons b cs lits marks → KeepsReasons b (cs ++ ds) lits marks
@@ -139,13 +136,6 @@ settled_keeps b cs t k (Late a m) (Late c n) w s = subst (λ (r : Reason). Keeps
 settled_keeps b cs t k (Clause c) new w s = subst (λ (r : Reason). KeepsReason b cs t k r) (sym s) w
 settled_keeps b cs t k Decided new w s = subst (λ (r : Reason). KeepsReason b cs t k r) (sym s) w
 
-settled_decided : (cs : List (List ℤ)) (t : List ℤ) (k : ℕ) (old new : Reason) → SettledReason cs t k old new → new ≡ Decided → old ≡ Decided
-settled_decided cs t k (Late a m) (Clause n) s e = absurd cc
-settled_decided cs t k (Late a m) Decided s e = absurd cc
-settled_decided cs t k (Late a m) (Late c n) s e = absurd cc
-settled_decided cs t k (Clause c) new s e = sym s ∙ e
-settled_decided cs t k Decided new s e = refl
-
 pub reasons-settled : (b : TheoriesView) (cs : List (List ℤ)) (t u : TrailView) → Settles cs t u → KeepsReasons b cs t.lits t.marks → KeepsReasons b cs u.lits u.marks
 reasons-settled b cs t u s r = record {
   at = λ k lt.
@@ -157,7 +147,7 @@ pub below-settled : (p : Instance) (known cs : List (List ℤ)) (t u : TrailView
 below-settled p known cs t u s q = record {
   at = λ k lt d.
       let len : k < length t.lits = omega (arith, lt, ap length s.lits) in
-      subst (λ (ls : List ℤ). QuietAt p known (take k ls)) (sym s.lits) (q.at k len (settled_decided cs t.lits k (reason_at t.marks k) (reason_at u.marks k) (s.reasons k len) d));
+      subst (λ (ls : List ℤ). QuietAt p known (take k ls)) (sym s.lits) (q.at k len (decided_was cs t.lits k (reason_at t.marks k) (reason_at u.marks k) (s.reasons k len) d));
 }
 
 -- ---- what conflict analysis asks
@@ -172,15 +162,7 @@ concerned-shorter f k h t le n few =
     )
 
 pub concerned-in : (f : Facts) (t : List ℤ) (l : ℤ) → IsTrue (has_lit (concerning f t) l) → IsTrue (has_lit t l)
-concerned-in f t l h = filtered (λ m. concerns_of f.graph f.atoms (var_of m)) t l h
-  where
-    filtered : (p : ℤ → Bool) (t : List ℤ) (l : ℤ) → IsTrue (has_lit (filter p t) l) → IsTrue (has_lit t l)
-    filtered p [] l h = h
-    filtered p (x ∷ t) l h = by (p x) refl (λ k. filtered p t l k)
-      where
-        by : (b : Bool) → p x ≡ b → (IsTrue (has_lit (filter p t) l) → IsTrue (has_lit t l)) → IsTrue (has_lit (x ∷ t) l)
-        by true e ih = elim (or_cases (int_eq l x) (has_lit (filter p t) l) (rw e at h)) [ inl a ↦ or_left (int_eq l x) (has_lit t l) a | inr b ↦ or_right (int_eq l x) (has_lit t l) (ih b) ]
-        by false e ih = or_right (int_eq l x) (has_lit t l) (ih (rw e at h))
+concerned-in f t l h = (filter_has (λ m. concerns_of f.graph f.atoms (var_of m)) t l h).0
 
 seen-current : (fs : List Facts) (t : List ℤ) (n : ℕ) → All (IsCurrent t) fs → seen_of fs n ≡ shown_of fs t n
 seen-current [] t n c = refl

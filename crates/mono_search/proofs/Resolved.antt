@@ -1,45 +1,31 @@
 -- The clauses of justified steps: each is over the problem's variables, and a chain names clauses that are there.
-use Rattle.std.proofs.Common.{◌≡◌, ℕ, zero, suc, ◌+◌, ◌≤◌, false, ◌&&◌, List, [], ◌∷◌, ◌++◌, map, get_or, length, All, sym, subst, ℤ, Some, None, Option, arith, length-append, append_assoc}
+use Rattle.std.proofs.Common.{◌≡◌, ℕ, zero, suc, ◌+◌, ◌≤◌, ◌&&◌, List, [], ◌∷◌, ◌++◌, map, get_or, length, All, sym, subst, ℤ, Some, arith, length-append, append_assoc}
 use Rattle.std.specs.Prelude.{IsTrue, slice_get, nat_le}
 use Rattle.std.proofs.lemmas.Bool.{and_parts, leb-true}
 use Rattle.std.proofs.lemmas.List.{append-nil}
 use Rattle.std.proofs.lemmas.List.Elements.{All-append}
 use Rattle.std.proofs.lemmas.Option.{slice_get_within, get_or_from_slice_get}
-use Rattle.mono_base.specs.Literal.{var_of, IsLitWithin}
-use Rattle.mono_problem.specs.declared.atom.Atom.{Atom}
+use Rattle.mono_base.specs.Literal.{IsLitWithin}
 use Rattle.mono_problem.specs.Instance.{Instance, numbered}
 use Rattle.mono_problem.specs.WellFormed.{IsInstance}
-use Rattle.mono_steps.specs.declared.lemma.Lemma.{Lemma}
 use Rattle.mono_steps.specs.declared.step.Chain.{Chain}
 use Rattle.mono_steps.specs.declared.step.Step.{Step}
 use Rattle.mono_steps.specs.declared.step.Step.TheVariants as step
 use Rattle.mono_steps.specs.Chains.{chain_end}
 use Rattle.mono_steps.specs.ChainSteps.{names_vars, names_clauses, clauses_named, covers}
-use Rattle.mono_steps.specs.Witnesses.{justifies_by, is_shown}
 use Rattle.mono_steps.specs.Steps.{clause_of, clauses_after, is_justified_step, are_justified_after, are_justified}
 use Rattle.mono_steps.proofs.StepLists.{length_clauses}
-use Rattle.mono_problem.specs.Instance.{graph_at}
+use Rattle.mono_steps.proofs.StepVars.{vars_within, step_vars}
 use Rattle.mono_search.proofs.Growing.{all_at}
 use Rattle.mono_search.proofs.Journals.{all_cons}
 
 -- ---- over the problem's variables
 
-vars_within : (p : Instance) (c : List ℤ) → IsTrue (names_vars p c) → All (IsLitWithin p.vars) c
-vars_within p c h = λ k d lt.
-    let l = get_or c k d in
-    let both = and_parts (nat_le 1 (var_of l)) (nat_le (var_of l) p.vars) (all_at (λ m. nat_le 1 (var_of m) && nat_le (var_of m) p.vars) c k d h lt) in
-    (leb-true 1 (var_of l) both.0, leb-true (var_of l) p.vars both.1)
-
-lemma_names : (p : Instance) (l : Lemma) (o : Option Atom) → IsTrue (elim o [ None ↦ false | Some x ↦ justifies_by p x l ]) → IsTrue (names_vars p l.clause)
-lemma_names p l None h = absurd cc
-lemma_names p l (Some x) h = (and_parts (names_vars p l.clause) (is_shown (graph_at p x.graph) x l) h).0
-
 chain_names : (p : Instance) (earlier : List (List ℤ)) (c : Chain) → IsTrue (is_justified_step p earlier (step.Chain c)) → IsTrue (names_vars p c.clause) × IsTrue (names_clauses earlier c.used)
 chain_names p earlier c h = and_parts (names_vars p c.clause) (names_clauses earlier c.used) (and_parts (names_vars p c.clause && names_clauses earlier c.used) (covers c.clause (chain_end (clauses_named earlier c.used))) h).0
 
 step_within : (p : Instance) (earlier : List (List ℤ)) (s : Step) → IsTrue (is_justified_step p earlier s) → All (IsLitWithin p.vars) (clause_of s)
-step_within p earlier (step.Lemma l) h = vars_within p l.clause (lemma_names p l (numbered p.atoms l.atom) h)
-step_within p earlier (step.Chain c) h = vars_within p c.clause (chain_names p earlier c h).0
+step_within p earlier s h = vars_within p (clause_of s) (step_vars p earlier s h)
 
 steps_within : (p : Instance) (earlier : List (List ℤ)) (ss : List Step) → All (All (IsLitWithin p.vars)) earlier → IsTrue (are_justified_after p earlier ss) → All (All (IsLitWithin p.vars)) (earlier ++ map clause_of ss)
 steps_within p earlier [] all h = subst (λ (cs : List (List ℤ)). All (All (IsLitWithin p.vars)) cs) (sym (append-nil earlier)) all

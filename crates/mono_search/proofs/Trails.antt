@@ -1,8 +1,8 @@
 -- Levels of a trail.
-use Rattle.std.proofs.Common.{◌≡◌, ℕ, zero, suc, ◌+◌, ◌-◌, ◌<◌, ◌≤◌, Bool, true, false, cond, List, [], ◌∷◌, length, refl, ap, ◌∙◌, arith, add-one}
+use Rattle.std.proofs.Common.{◌≡◌, ℕ, zero, suc, ◌+◌, ◌-◌, ◌<◌, ◌≤◌, Bool, true, false, List, [], ◌∷◌, length, refl, ap, ◌∙◌, arith, add-one}
 use Rattle.std.specs.Prelude.{nat_le}
-use Rattle.std.proofs.lemmas.Bool.{leb-true, leb-false, le-leb}
-use Rattle.mono_trail.proofs.Levels.{next_at_least, climbs_to}
+use Rattle.std.proofs.lemmas.Bool.{leb-true, leb-false}
+use Rattle.mono_trail.proofs.Levels.{next_at_least}
 use Rattle.mono_trail.specs.declared.reason.Mark.{Mark}
 use Rattle.mono_trail.specs.declared.reason.Reason.{Reason}
 use Rattle.mono_trail.specs.declared.reason.Reason.TheVariants.{Decided, Clause, Late}
@@ -20,16 +20,6 @@ next_decided Decided low e = refl
 next_decided (Clause n) low e = absurd cc
 next_decided (Late a k) low e = absurd cc
 
-pub climbs_from : (low : ℕ) (ms : List Mark) (top k : ℕ) → Climbs low ms top → k < length ms → low ≤ level_at ms k
-climbs_from low [] top k c lt = absurd (omega arith)
-climbs_from low (m ∷ ms) top zero c lt = omega (arith, c.0, next_at_least m.reason low)
-climbs_from low (m ∷ ms) top (suc k) c lt = omega (arith, c.0, next_at_least m.reason low, climbs_from m.level ms top k c.1 (omega arith))
-
-pub at_most_top : (low : ℕ) (ms : List Mark) (top k : ℕ) → Climbs low ms top → k < length ms → level_at ms k ≤ top
-at_most_top low [] top k c lt = absurd (omega arith)
-at_most_top low (m ∷ ms) top zero c lt = climbs_to m.level ms top c.1
-at_most_top low (m ∷ ms) top (suc k) c lt = at_most_top m.level ms top k c.1 (omega arith)
-
 -- a decision has a level above what stands before it
 pub decision_rises : (low : ℕ) (ms : List Mark) (top k : ℕ) → Climbs low ms top → k < length ms → reason_at ms k ≡ Decided → low < level_at ms k
 decision_rises low [] top k c lt d = absurd (omega arith)
@@ -42,41 +32,6 @@ not_before low [] top k j c lt d le = absurd (omega arith)
 not_before low (m ∷ ms) top zero j c lt d le = omega arith
 not_before low (m ∷ ms) top (suc k) zero c lt d le = absurd (omega (arith, le, decision_rises m.level ms top k c.1 (omega arith) d))
 not_before low (m ∷ ms) top (suc k) (suc j) c lt d le = let e = not_before m.level ms top k j c.1 (omega arith) d le in omega (arith, e)
-
--- ---- the literals up to a level
-
-pub count-le : (level : ℕ) (ms : List Mark) → count_to level ms ≤ length ms
-count-le level [] = omega arith
-count-le level (m ∷ ms) = by (nat_le m.level level) (count-le level ms)
-  where
-    by : (b : Bool) → count_to level ms ≤ length ms → cond b (count_to level ms + 1) 0 ≤ length (m ∷ ms)
-    by true ih = omega (arith, ih)
-    by false ih = omega arith
-
-pub low_before : (level : ℕ) (ms : List Mark) (k : ℕ) → k < count_to level ms → level_at ms k ≤ level
-low_before level [] k lt = absurd (omega arith)
-low_before level (m ∷ ms) k lt = by (nat_le m.level level) refl k lt (λ j. low_before level ms j)
-  where
-    by : (b : Bool) → nat_le m.level level ≡ b → (k : ℕ) → k < cond b (count_to level ms + 1) 0 → ((j : ℕ) → j < count_to level ms → level_at ms j ≤ level) → level_at (m ∷ ms) k ≤ level
-    by false e k lt ih = absurd (omega (arith, lt))
-    by true e zero lt ih = leb-true m.level level e
-    by true e (suc k) lt ih = ih k (omega (arith, lt))
-
-pub before_low : (low : ℕ) (ms : List Mark) (top level k : ℕ) → Climbs low ms top → k < length ms → level_at ms k ≤ level → k < count_to level ms
-before_low low [] top level k c lt le = absurd (omega arith)
-before_low low (m ∷ ms) top level k c lt le =
-    let here : m.level ≤ level = first k lt le in
-    let e : nat_le m.level level ≡ true = le-leb m.level level here in
-    let n : count_to level (m ∷ ms) ≡ count_to level ms + 1 = rw e refl in
-    later k lt le n (λ j a b. before_low m.level ms top level j c.1 a b)
-  where
-    first : (k : ℕ) → k < length (m ∷ ms) → level_at (m ∷ ms) k ≤ level → m.level ≤ level
-    first zero lt le = le
-    first (suc k) lt le = omega (arith, le, climbs_from m.level ms top k c.1 (omega arith))
-
-    later : (k : ℕ) → k < length (m ∷ ms) → level_at (m ∷ ms) k ≤ level → count_to level (m ∷ ms) ≡ count_to level ms + 1 → ((j : ℕ) → j < length ms → level_at ms j ≤ level → j < count_to level ms) → k < count_to level (m ∷ ms)
-    later zero lt le n ih = omega (arith, n)
-    later (suc k) lt le n ih = omega (arith, n, ih k (omega arith) le)
 
 -- where the top level begins, a decision stands
 pub record Begins (ms : List Mark) (top : ℕ) : Type 0 where

@@ -6,6 +6,7 @@ pub mod State
 pub mod Outcomes
 pub mod Search
 pub mod Runs
+pub mod Signs
 pub mod Solving
 pub mod Beginnings
 pub mod Restarts

@@ -13,9 +13,10 @@ pub record CountsClause (old new : Counted) (restarts : Bool) : Type 0 where
   pub term : ℕ
   pub luby : Luby (old.restarts + 1) term
   pub due : IsTrue restarts ↔ (100 * term ≤ old.learned + 1)
-  pub counted : new ≡ (if restarts then record { learned = 0; restarts = old.restarts + 1 } else record { learned = old.learned + 1; restarts = old.restarts })
+  pub counted : new
+      ≡ (if restarts then record { learned = 0; restarts = old.restarts + 1 } else record { learned = old.learned + 1; restarts = old.restarts })
 
--- so it is while both counts are below the end of their range, where they stand still
+-- a clause is counted while both counts are below the end of their range, where they stand still
 abbrev pub Counts : Counted → Counted → Bool → Type 0
 Counts old new restarts = old.learned + 2 < 2 ^ 64 → old.restarts + 2 < 2 ^ 64 → CountsClause old new restarts
 

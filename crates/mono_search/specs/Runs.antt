@@ -142,7 +142,7 @@ pub record GoesBack (v w : StateView) (restarts : Bool) : Type 0 where
   pub trail : w.trail ≡ lowered (if restarts then 0 else learnt.back_to) settled
   pub order : Releases v.order w.order (drop (count_to (if restarts then 0 else learnt.back_to) settled.marks) settled.lits)
 
--- and that is counted: whether it restarts is as the counts say
+-- the search went back after one clause more, and counted it: whether it restarts is as the counts say
 pub record CountsAndGoesBack (m n : Counted) (v w : StateView) : Type 0 where
   pub restarts : Bool
   pub counts : Counts m n restarts

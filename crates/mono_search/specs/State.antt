@@ -44,7 +44,7 @@ pub record QuietAt (p : Instance) (cs : List (List ℤ)) (t : List ℤ) : Type 0
   pub units : IsTrue (unit_quiet cs t)
   pub atoms : AtomsQuiet p t
 
--- it is so under the literals before each decision
+-- neither the clauses nor the atoms have anything to do under the literals before each decision
 pub record QuietBelow (p : Instance) (cs : List (List ℤ)) (lits : List ℤ) (marks : List Mark) : Type 0 where
   pub at : (k : ℕ) → k < length lits → reason_at marks k ≡ Decided → QuietAt p cs (take k lits)
 
@@ -55,7 +55,7 @@ pub record IsJournal (p : Instance) (steps : List Step) : Type 0 where
   pub justified : IsTrue (are_justified p steps)
   pub fresh : HasNewChains p steps
 
--- and no chain has the empty clause yet
+-- such a journal in which no chain has the empty clause yet
 pub record IsOpenJournal (p : Instance) (steps : List Step) : Type 0 where
   pub journal : IsJournal p steps
   pub none_empty : IsTrue (has_no_empty steps)

@@ -72,7 +72,8 @@ pub record IsConcernTable (vars : ℕ) (fs : List Facts) (table : List (List ℕ
 -- the theory at a place joins the lists of the variables that concern it
 pub record AddsTheory (vars : ℕ) (f : Facts) (place : ℕ) (old new : List (List ℕ)) : Type 0 where
   pub keys : length new ≡ length old
-  pub at : (v : ℕ) → 1 ≤ v → v ≤ vars → slice_index_or new v [] ≡ slice_index_or old v [] ++ (if concerns_of f.graph f.atoms v then place ∷ [] else [])
+  pub at : (v : ℕ) → 1 ≤ v → v ≤ vars
+      → slice_index_or new v [] ≡ slice_index_or old v [] ++ (if concerns_of f.graph f.atoms v then place ∷ [] else [])
 
 -- the place joins the lists of these variables
 pub record AddsPlace (vars : ℕ) (vs : List ℕ) (place : ℕ) (old new : List (List ℕ)) : Type 0 where

@@ -16,7 +16,7 @@ pub record HasAt {A : Type 0} (P : A → Type 0) (p : ℕ) (xs : List A) : Type 
   pub within : p < length xs
   pub holds : (d : A) → P (slice_index_or xs p d)
 
--- so it is of each item when its turn comes
+-- each item, when its turn comes, is there and has the property
 abbrev pub CanUpdate : {A : Type 0} → (A → Type 0) → (A → A) → List ℕ → List A → Type 0
 CanUpdate P g [] xs = Unit {0}
 CanUpdate P g (p ∷ ps) xs = HasAt P p xs × CanUpdate P g ps (update_at p g xs)

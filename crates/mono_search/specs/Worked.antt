@@ -25,14 +25,14 @@ order waits phases = record { waits = waits; phases = phases }
 abbrev pub two_clauses : Instance
 two_clauses = clauses_over 2 ((pos 1 ∷ pos 2 ∷ []) ∷ (pos 1 ∷ minus 2 ∷ []) ∷ [])
 
--- from which {1} comes
+-- {1} from {1, 2} and {1, -2}
 abbrev pub learned_clause : Step
 learned_clause = chain (pos 1 ∷ []) (1 ∷ 2 ∷ [])
 
 abbrev pub first_learned : List Step
 first_learned = learned_clause ∷ []
 
--- and the same behind a lemma
+-- {1} from both, behind a lemma
 abbrev pub learned_behind_a_lemma : List Step
 learned_behind_a_lemma = step.Lemma (of_1 (pos 2 ∷ []) (by.Path [])) ∷ first_learned
 

@@ -32,6 +32,8 @@ mod restarts;
 mod running;
 /// The search, as its callers see it.
 mod search;
+/// The signs of a model.
+mod signs;
 /// Problems solved by one search.
 mod solving;
 /// What a search works on.
@@ -44,4 +46,5 @@ mod undoing;
 pub mod worked;
 
 pub use search::{Outcome, Search};
+pub use signs::signs_of;
 pub use solving::{Solved, solve, solve_preferring};

@@ -2,7 +2,8 @@
 use Rattle.std.proofs.Common.{◌≡◌, ℕ, zero, suc, ◌+◌, ◌-◌, ◌<◌, ◌≤◌, Bool, true, false, ◌&&◌, ◌==◌, cond, List, [], ◌∷◌, ◌++◌, length, map, get_or, Option, None, Some, refl, sym, ap, subst, ◌∙◌, ◌⊎◌, inl, inr, ℤ, arith, length-append}
 use Rattle.std.specs.Prelude.{IsTrue, slice_get, nat_le}
 use Rattle.std.specs.List.{cons_option}
-use Rattle.std.proofs.lemmas.Bool.{and_parts, and_from, or_left, or_right, eq-eqb, le-leb, leb-true, leb-false}
+use Rattle.std.proofs.lemmas.Bool.{and_parts, and_from, or_left, or_right, cases_lt, eq-eqb, le-leb, leb-true, leb-false}
+use Rattle.std.proofs.lemmas.Option.{slice_get_within}
 use Rattle.mono_graph.specs.Digraph.{Digraph}
 use Rattle.mono_problem.specs.declared.atom.Atom.{Atom}
 use Rattle.mono_problem.specs.Instance.{Instance, numbered, graph_at, no_graph}
@@ -61,14 +62,9 @@ record IsThere (n m : ℕ) : Type 0 where
   low : 1 ≤ n
   high : n ≤ m
 
-get_there : {A : Type 0} (xs : List A) (k : ℕ) (x : A) → slice_get xs k ≡ Some x → k < length xs
-get_there [] k x e = absurd cc
-get_there (y ∷ xs) zero x e = omega arith
-get_there (y ∷ xs) (suc k) x e = let h = get_there xs k x e in omega (arith, h)
-
 is_there : (xs : List (List ℤ)) (n : ℕ) (x : List ℤ) → numbered xs n ≡ Some x → IsThere n (length xs)
 is_there xs zero x e = absurd cc
-is_there xs (suc n) x e = record { low = omega arith; high = let h = get_there xs n x e in omega (arith, h) }
+is_there xs (suc n) x e = record { low = omega arith; high = let h = slice_get_within xs n x e in omega (arith, h) }
 
 -- ---- the clauses so far: the old ones, and the new ones
 
@@ -88,12 +84,8 @@ carries_start old new flags = record {
   steps = λ k lt on. absurd (omega (arith, lt));
 }
 
-before_or_last : (k i : ℕ) → k < i + 1 → (k < i) ⊎ (k ≡ i)
-before_or_last k i lt = by_case (nat_le i k) refl
-  where
-    by_case : (b : Bool) → nat_le i k ≡ b → (k < i) ⊎ (k ≡ i)
-    by_case true e = inr (omega (arith, leb-true i k e, lt))
-    by_case false e = inl (leb-false i k e)
+pub before_or_last : (k i : ℕ) → k < i + 1 → (k < i) ⊎ (k ≡ i)
+before_or_last k i lt = elim (cases_lt k i) [ inl before ↦ inl before | inr from ↦ inr (omega (arith, from, lt)) ]
 
 last_number : (ds : List (List ℤ)) (x : List ℤ) (n : ℕ) → n ≡ length ds + 1 → numbered (ds ++ x ∷ []) n ≡ Some x
 last_number ds x n e = numbered_is (ds ++ x ∷ []) n (length ds) x e (omega (arith, length-append ds (x ∷ []))) ∙ ap Some (get_last ds)

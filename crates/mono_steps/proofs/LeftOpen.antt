@@ -95,7 +95,7 @@ module _ (known : List (List ℤ)) (c : List ℤ) (new : IsNewClause known c) wh
 
 -- ---- what a search learns
 
-has_at : (t : List ℤ) (k : ℕ) → k < length t → IsTrue (has_lit t (lit_at t k))
+pub has_at : (t : List ℤ) (k : ℕ) → k < length t → IsTrue (has_lit t (lit_at t k))
 has_at t k low = list_any_at (int_eq (lit_at t k)) t k (pos 0) low (lit_itself (lit_at t k))
 
 -- what stands from a place on is behind the front up to it
@@ -105,7 +105,8 @@ has_behind t n k behind low =
     let at : get_or (drop n t) (k - n) (pos 0) ≡ lit_at t k = get_or-drop n t (k - n) (pos 0) ∙ ap (λ (i : ℕ). lit_at t i) same in
     subst (λ (l : ℤ). IsTrue (has_lit (drop n t) l)) at (has_at (drop n t) (k - n) (omega (arith, behind, low, length-drop n t)))
 
-is_lit_in : (t : List ℤ) (l : ℤ) → IsTrue (is_partial t) → IsTrue (has_lit t l) → IsTrue (is_lit l)
+-- a literal of a partial assignment is one
+pub is_lit_in : (t : List ℤ) (l : ℤ) → IsTrue (is_partial t) → IsTrue (has_lit t l) → IsTrue (is_lit l)
 is_lit_in [] l p h = absurd cc
 is_lit_in (m ∷ t) l p h =
     let j = joined m t p in

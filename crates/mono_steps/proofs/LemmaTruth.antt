@@ -1,8 +1,9 @@
 -- Justified lemmas are true wherever the predicates agree with their graphs.
-use Rattle.std.proofs.Common.{◌≡◌, ℕ, zero, suc, ◌<◌, ◌≤◌, Bool, true, false, not, ◌&&◌, List, [], ◌∷◌, length, get_or, slice_get, Option, Some, None, refl, sym, subst, ◌∙◌, inl, inr, arith, ℤ, pos, neg_ℤ, nat_abs, ◌↔◌}
+use Rattle.std.proofs.Common.{◌≡◌, ℕ, zero, suc, ◌<◌, ◌≤◌, Bool, true, false, not, ◌&&◌, List, [], ◌∷◌, length, get_or, slice_get, Option, Some, None, refl, sym, subst, ◌∙◌, inl, inr, arith, ℤ, pos, neg_ℤ, ◌↔◌}
 use Rattle.std.specs.Prelude.{IsTrue, if◌then◌else◌, nat_le}
 use Rattle.std.proofs.lemmas.Bool.{and_parts, or_cases, leb-true, both_ways, not_from_false, true_from_ne_false, false_from_ne_true}
 use Rattle.mono_base.specs.Literal.{lit_true, clause_true, has_lit, var_of}
+use Rattle.mono_base.proofs.Partials.{var-neg}
 use Rattle.mono_base.proofs.Truth.{true_by, same_lit, pos_true, neg_true}
 use Rattle.mono_graph.specs.Digraph.{Digraph, IsGraph, IsSubpart, enabled}
 use Rattle.mono_graph.proofs.Parts.{part_by-larger, length-part_by}
@@ -48,17 +49,13 @@ var_low p (m ∷ ms) l n h =
       | inr e ↦ var_low p ms l a.1 e
     ]
 
-nat_abs-neg : (x : ℕ) → nat_abs (neg_ℤ (pos x)) ≡ x
-nat_abs-neg zero = refl
-nat_abs-neg (suc n) = refl
-
 -- a false clause with the literal says what its variable is
 off_by : (p : Instance) (a : ℕ → Bool) (c : List ℤ) (x : ℕ) → IsTrue (names_vars p c) → clause_true a c ≡ false → IsTrue (has_lit c (pos x)) → a x ≡ false
 off_by p a c x names f h = sym (pos_true a x (var_low p c (pos x) names h)) ∙ false_lit a c (pos x) f h
 
 on_by : (p : Instance) (a : ℕ → Bool) (c : List ℤ) (x : ℕ) → IsTrue (names_vars p c) → clause_true a c ≡ false → IsTrue (has_lit c (neg_ℤ (pos x))) → IsTrue (a x)
 on_by p a c x names f h =
-    let positive : 0 < x = subst (λ (n : ℕ). 0 < n) (nat_abs-neg x) (var_low p c (neg_ℤ (pos x)) names h) in
+    let positive : 0 < x = subst (λ (n : ℕ). 0 < n) (var-neg (pos x)) (var_low p c (neg_ℤ (pos x)) names h) in
     let off : not (a x) ≡ false = sym (neg_true a x positive) ∙ false_lit a c (neg_ℤ (pos x)) f h in
     true_from_ne_false (a x) (λ e. both_ways (not (a x)) off (not_from_false (a x) e))
 

@@ -11,6 +11,7 @@ pub mod LemmaTruth
 pub mod StepFaults
 pub mod StepTruth
 pub mod StepLists
+pub mod StepVars
 pub mod Ranks
 pub mod NeededSteps
 pub mod CarriedSteps

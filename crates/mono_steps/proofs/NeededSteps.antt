@@ -1,9 +1,10 @@
 -- How the marks of the needed steps come about.
-use Rattle.std.proofs.Common.{◌≡◌, ◌≢◌, ℕ, zero, suc, ◌+◌, ◌-◌, ◌<◌, ◌≤◌, Bool, true, false, ◌||◌, ◌&&◌, ◌==◌, List, [], ◌∷◌, ◌++◌, length, take, get_or, set, Some, refl, sym, ap, subst, ◌∙◌, ◌⊎◌, inl, inr, ℤ, arith, get_or-set_same, get_or-set_other, length-append}
+use Rattle.std.proofs.Common.{◌≡◌, ◌≢◌, ℕ, zero, suc, ◌+◌, ◌-◌, ◌<◌, ◌≤◌, Bool, true, false, ◌||◌, ◌&&◌, ◌==◌, List, [], ◌∷◌, ◌++◌, length, take, get_or, set, Some, sym, ap, subst, ◌∙◌, ◌⊎◌, inl, inr, ℤ, arith, get_or-set_same, get_or-set_other, length-append}
 use Rattle.std.specs.Prelude.{IsTrue, slice_get, nat_le, All}
 use Rattle.std.specs.List.{list_all, list_any}
-use Rattle.std.proofs.lemmas.Bool.{and_parts, or_left, or_right, or_cases, eqb-true, eq-eqb, ne_eqb, leb-true}
-use Rattle.std.proofs.lemmas.Option.{same_Some}
+use Rattle.std.proofs.Math.Bool.{or-false, or-true, or_assoc}
+use Rattle.std.proofs.lemmas.Bool.{and_parts, or_left, or_right, or_cases, cases_eq, eqb-true, eq-eqb, ne_eqb, leb-true}
+use Rattle.std.proofs.lemmas.Option.{same_Some, slice_get-get_or}
 use Rattle.std.proofs.lemmas.List.{length-set, take_more}
 use Rattle.std.proofs.lemmas.List.Folds.{list_any-append}
 use Rattle.std.proofs.lemmas.List.Elements.{All-nil, All-cons, All-head, All-tail}
@@ -16,17 +17,6 @@ use Rattle.mono_steps.specs.Steps.{clause_of, is_justified_step, are_justified_a
 use Rattle.mono_steps.specs.Renumbering.{has_number, names_step}
 use Rattle.mono_steps.specs.Needed.{is_set, StepNamesHeld, NamesHeld, IsWanted, IsNeeded}
 use Rattle.mono_steps.proofs.Ranks.{set_within, has_more}
-use Rattle.mono_steps.proofs.StepLists.{slice_get_is}
-
-pub same_or_other : (k p : ℕ) → (k ≡ p) ⊎ (k ≢ p)
-same_or_other zero zero = inl refl
-same_or_other zero (suc p) = inr (λ e. omega arith)
-same_or_other (suc k) zero = inr (λ e. omega arith)
-same_or_other (suc k) (suc p) = up (same_or_other k p)
-  where
-    up : (k ≡ p) ⊎ (k ≢ p) → (suc k ≡ suc p) ⊎ (suc k ≢ suc p)
-    up (inl e) = inl (ap suc e)
-    up (inr n) = inr (λ e. n (omega arith))
 
 pub has_all : (P : ℕ → Type 0) (ns : List ℕ) (n : ℕ) → All P ns → IsTrue (has_number ns n) → P n
 has_all P [] n a h = absurd cc
@@ -73,15 +63,11 @@ held_wider c j k (step.Chain d) le h = λ i n lt. omega (arith, h i n lt, le)
 pub named_more : (c : ℕ) (ss : List Step) (i k : ℕ) (s : Step) → i < length ss → s ≡ get_or ss i s → list_any (λ t. names_step c t k) (take (i + 1) ss) ≡ (list_any (λ t. names_step c t k) (take i ss) || names_step c s k)
 named_more c ss i k s lt at =
     ap (λ (ts : List Step). list_any (λ t. names_step c t k) ts) (take_more ss i s lt) ∙ list_any-append (λ t. names_step c t k) (take i ss) (get_or ss i s ∷ [])
-    ∙ ap (λ (b : Bool). list_any (λ t. names_step c t k) (take i ss) || b) (or_false (names_step c (get_or ss i s) k)) ∙ ap (λ (t : Step). list_any (λ t. names_step c t k) (take i ss) || names_step c t k) (sym at)
-  where
-    or_false : (b : Bool) → (b || false) ≡ b
-    or_false true = refl
-    or_false false = refl
+    ∙ ap (λ (b : Bool). list_any (λ t. names_step c t k) (take i ss) || b) (or-false (names_step c (get_or ss i s) k)) ∙ ap (λ (t : Step). list_any (λ t. names_step c t k) (take i ss) || names_step c t k) (sym at)
 
 -- so they name clauses that are there when all steps are
 pub all_named : (c n : ℕ) (ss : List Step) → length ss ≤ n → NamesHeld c ss → All (StepNamesHeld c n) ss
-all_named c n ss le h = λ k d lt. held_wider c k n (get_or ss k d) (omega (arith, le, lt)) (h.at k (get_or ss k d) (slice_get_is ss k d lt))
+all_named c n ss le h = λ k d lt. held_wider c k n (get_or ss k d) (omega (arith, le, lt)) (h.at k (get_or ss k d) (slice_get-get_or ss k d lt))
 
 pub names_below : (c p k : ℕ) (s : Step) → StepNamesHeld c p s → IsTrue (names_step c s k) → k < p
 names_below c p k (step.Lemma l) h n = absurd cc
@@ -90,27 +76,15 @@ names_below c p k (step.Chain d) h n = omega (arith, has_all (λ m. m ≤ c + p)
 -- ---- the marks of one step
 
 mark_at : (seen : List Bool) (q k : ℕ) (b : Bool) → q < length seen → is_set seen k ≡ b → is_set (set seen q true) k ≡ (b || (q == k))
-mark_at seen q k b lt e = by_place (same_or_other k q)
+mark_at seen q k b lt e = by_place (cases_eq k q)
   where
-    or_true : (x : Bool) → (x || true) ≡ true
-    or_true true = refl
-    or_true false = refl
-
-    or_false : (x : Bool) → (x || false) ≡ x
-    or_false true = refl
-    or_false false = refl
-
     by_place : (k ≡ q) ⊎ (k ≢ q) → is_set (set seen q true) k ≡ (b || (q == k))
-    by_place (inl s) = subst (λ (j : ℕ). is_set (set seen q true) j ≡ true) (sym s) (get_or-set_same seen q true false lt) ∙ sym (ap (λ (x : Bool). b || x) (eq-eqb q k (sym s)) ∙ or_true b)
-    by_place (inr n) = get_or-set_other seen q k true false n ∙ e ∙ sym (ap (λ (x : Bool). b || x) (ne_eqb q k (λ s. n (sym s))) ∙ or_false b)
-
-or_assoc : (x y z : Bool) → ((x || y) || z) ≡ (x || (y || z))
-or_assoc true y z = refl
-or_assoc false y z = refl
+    by_place (inl s) = subst (λ (j : ℕ). is_set (set seen q true) j ≡ true) (sym s) (get_or-set_same seen q true false lt) ∙ sym (ap (λ (x : Bool). b || x) (eq-eqb q k (sym s)) ∙ or-true b)
+    by_place (inr n) = get_or-set_other seen q k true false n ∙ e ∙ sym (ap (λ (x : Bool). b || x) (ne_eqb q k (λ s. n (sym s))) ∙ or-false b)
 
 pub marks_more : (seen : List Bool) (old : Bool) (used : List ℕ) (c i n k : ℕ) → i < length used → n ≡ get_or used i n → c < n → n - c - 1 < length seen → is_set seen k ≡ (old || has_number (take i used) (c + 1 + k)) → is_set (set seen (n - c - 1) true) k ≡ (old || has_number (take (i + 1) used) (c + 1 + k))
 marks_more seen old used c i n k lt is low within e =
-    let same : ((n - c - 1) == k) ≡ (get_or used i n == c + 1 + k) = shift (same_or_other (n - c - 1) k) in
+    let same : ((n - c - 1) == k) ≡ (get_or used i n == c + 1 + k) = shift (cases_eq (n - c - 1) k) in
     mark_at seen (n - c - 1) k (old || has_number (take i used) (c + 1 + k)) within e ∙ or_assoc old (has_number (take i used) (c + 1 + k)) ((n - c - 1) == k)
     ∙ ap (λ (b : Bool). old || (has_number (take i used) (c + 1 + k) || b)) same ∙ ap (λ (b : Bool). old || b) (sym (has_more used i (c + 1 + k) n lt))
   where
@@ -121,11 +95,7 @@ marks_more seen old used c i n k lt is low within e =
 pub marks_same : (seen : List Bool) (old : Bool) (used : List ℕ) (c i n k : ℕ) → i < length used → n ≡ get_or used i n → n ≤ c → is_set seen k ≡ (old || has_number (take i used) (c + 1 + k)) → is_set seen k ≡ (old || has_number (take (i + 1) used) (c + 1 + k))
 marks_same seen old used c i n k lt is low e =
     let off : (get_or used i n == c + 1 + k) ≡ false = ne_eqb (get_or used i n) (c + 1 + k) (λ s. omega (arith, is, s, low)) in
-    e ∙ ap (λ (b : Bool). old || b) (sym (has_more used i (c + 1 + k) n lt ∙ ap (λ (b : Bool). has_number (take i used) (c + 1 + k) || b) off ∙ or_false (has_number (take i used) (c + 1 + k))))
-  where
-    or_false : (x : Bool) → (x || false) ≡ x
-    or_false true = refl
-    or_false false = refl
+    e ∙ ap (λ (b : Bool). old || b) (sym (has_more used i (c + 1 + k) n lt ∙ ap (λ (b : Bool). has_number (take i used) (c + 1 + k) || b) off ∙ or-false (has_number (take i used) (c + 1 + k))))
 
 -- ---- the marks of all steps, from the last on
 
@@ -139,7 +109,7 @@ needed_start c steps none some len off =
       as_many = length-set none n true ∙ len;
       last = get_or-set_same none n true false (omega (arith, len, some));
       closed = λ j k s high on at named. absurd (omega (arith, high, set_within (set none n true) j on, length-set none n true, len));
-      wanted = λ k on lt. absurd (only k on lt (same_or_other k n));
+      wanted = λ k on lt. absurd (only k on lt (cases_eq k n));
     }
   where
     only : (k : ℕ) → is_set (set none (length steps - 1) true) k ≡ true → k + 1 < length steps → (k ≡ length steps - 1) ⊎ (k ≢ length steps - 1) → ⊥
@@ -150,7 +120,7 @@ pub needed_skip : (c : ℕ) (steps : List Step) (p : ℕ) (needed : List Bool) �
 needed_skip c steps p needed h off = record {
   as_many = h.as_many;
   last = h.last;
-  closed = λ j k s high on at named. closed j k s high on at named (same_or_other j p);
+  closed = λ j k s high on at named. closed j k s high on at named (cases_eq j p);
   wanted = λ k on lt. let w = h.wanted k on lt in record { later = w.later; high = omega (arith, w.high); after = w.after; set = w.set; step = w.step; is = w.is; names = w.names };
 }
   where
@@ -162,7 +132,7 @@ pub needed_mark : (c : ℕ) (steps : List Step) (p : ℕ) (old new : List Bool) 
 needed_mark c steps p old new s h on is held len marks = record {
   as_many = len ∙ h.as_many;
   last = stays (length steps - 1) h.last;
-  closed = λ j k t high set_j at named. closed j k t high set_j at named (same_or_other j p);
+  closed = λ j k t high set_j at named. closed j k t high set_j at named (cases_eq j p);
   wanted = λ k set_k lt. wanted k lt (was k set_k);
 }
   where

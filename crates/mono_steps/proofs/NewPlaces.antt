@@ -16,7 +16,7 @@ use Rattle.mono_steps.proofs.LeftOpen.{not_empty}
 abbrev pub AreNewByPlace : List (List ℤ) → List (List ℤ) → List Step → Type 0
 AreNewByPlace all known ss = (k : ℕ) (c : Chain) → slice_get ss k ≡ Some (step.Chain c) → IsNewChain (all ++ map clause_of (take k ss)) (known ++ chain_clauses (take k ss)) c
 
--- the same before nothing, and before one step more
+-- being new where nothing stands before the place
 before_none : (all known : List (List ℤ)) (c : Chain) → IsNewChain all known c → IsNewChain (all ++ []) (known ++ []) c
 before_none all known c h = subst (λ (cs : List (List ℤ)). IsNewChain (all ++ []) cs c) (sym (append-nil known)) (subst (λ (cs : List (List ℤ)). IsNewChain cs known c) (sym (append-nil all)) h)
 

@@ -1,6 +1,7 @@
 -- Picked items and their places.
 use Rattle.std.proofs.Common.{◌≡◌, ℕ, zero, suc, ◌+◌, ◌-◌, ◌<◌, ◌≤◌, Bool, true, false, ◌||◌, ◌==◌, cond, List, [], ◌∷◌, ◌++◌, length, map, take, drop, get_or, Some, refl, sym, ap, subst, ◌∙◌, inl, inr, arith, append_assoc}
 use Rattle.std.specs.Prelude.{IsTrue, slice_get, nat_le}
+use Rattle.std.proofs.Math.Bool.{or-false}
 use Rattle.std.proofs.lemmas.Bool.{or_left, or_right, or_cases, eqb-true, eq-eqb, le-leb, leb-true, leb-false}
 use Rattle.std.proofs.lemmas.List.{take_more, get_or_append_left}
 use Rattle.std.proofs.lemmas.List.Folds.{list_any-append}
@@ -96,11 +97,7 @@ has_mapped f (m ∷ ns) n h = elim (or_cases (m == n) (has_number ns n) h) [
 
 pub has_more : (ns : List ℕ) (i n : ℕ) (d : ℕ) → i < length ns → has_number (take (i + 1) ns) n ≡ (has_number (take i ns) n || (get_or ns i d == n))
 has_more ns i n d lt =
-    ap (λ (xs : List ℕ). has_number xs n) (take_more ns i d lt) ∙ list_any-append (λ m. m == n) (take i ns) (get_or ns i d ∷ []) ∙ ap (λ (b : Bool). has_number (take i ns) n || b) (or_false (get_or ns i d == n))
-  where
-    or_false : (b : Bool) → (b || false) ≡ b
-    or_false true = refl
-    or_false false = refl
+    ap (λ (xs : List ℕ). has_number xs n) (take_more ns i d lt) ∙ list_any-append (λ m. m == n) (take i ns) (get_or ns i d ∷ []) ∙ ap (λ (b : Bool). has_number (take i ns) n || b) (or-false (get_or ns i d == n))
 
 -- new numbers
 pub above : (a b : ℕ) → b < a → nat_le a b ≡ false

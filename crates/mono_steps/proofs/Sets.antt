@@ -3,13 +3,13 @@ use Rattle.std.proofs.Common.{◌≡◌, ℕ, ◌+◌, ◌<◌, Bool, true, fals
 use Rattle.std.specs.Prelude.{IsTrue, ◌==◌}
 use Rattle.std.specs.Ordering.{int_eq}
 use Rattle.std.specs.List.{list_all}
-use Rattle.std.proofs.lemmas.Bool.{and_parts, and_from, or_cases, or_left, or_right, ne_eqb}
+use Rattle.std.proofs.lemmas.Bool.{and_parts, or_cases, or_left, ne_eqb}
 use Rattle.std.proofs.lemmas.Bool.Decides.{Decides-int_eq}
 use Rattle.std.proofs.lemmas.List.{take_more}
 use Rattle.std.proofs.lemmas.List.Folds.{list_any-append}
 use Rattle.std.proofs.lemmas.Map.Views.{any-filter_same}
 use Rattle.mono_base.specs.Literal.{has_lit, within, without}
-use Rattle.mono_base.proofs.Truth.{same_lit, lit_itself}
+use Rattle.mono_base.proofs.Truth.{same_lit, lit_itself, from_each}
 
 pub int_eq-sym : (l m : ℤ) → int_eq l m ≡ int_eq m l
 int_eq-sym l m = both (int_eq l m) (int_eq m l) (λ e. (Decides-int_eq m l).1 (sym (same_lit l m e))) (λ e. (Decides-int_eq l m).1 (sym (same_lit m l e)))
@@ -41,14 +41,9 @@ has-take_more c i x l low at =
     ap (λ (d : List ℤ). has_lit d l) (take_more c i x low) ∙ has-append (take i c) (get_or c i x ∷ []) l
     ∙ ap (λ (m : ℤ). has_lit (take i c) l || (int_eq l m || false)) at
 
--- a test that each literal of a list passes
-pub all_lits : (p : ℤ → Bool) (c : List ℤ) → ((l : ℤ) → IsTrue (has_lit c l) → IsTrue (p l)) → IsTrue (list_all p c)
-all_lits p [] h = refl
-all_lits p (m ∷ c) h = and_from (p m) (list_all p c) (h m (or_left (int_eq m m) (has_lit c m) (lit_itself m))) (all_lits p c (λ l k. h l (or_right (int_eq l m) (has_lit c l) k)))
-
 -- what is left of a list without the literals of another one is nothing, exactly where the first is within the second
 pub none_left : (s old c : List ℤ) → ((l : ℤ) → has_lit s l ≡ (has_lit old l && not (has_lit c l))) → (length s == 0) ≡ within old c
-none_left [] old c h = sym (all_lits (has_lit c) old (λ l k. inside (has_lit old l) (has_lit c l) k (h l)))
+none_left [] old c h = sym (from_each (has_lit c) old (λ l k. inside (has_lit old l) (has_lit c l) k (h l)))
   where
     inside : (b d : Bool) → IsTrue b → false ≡ (b && not d) → IsTrue d
     inside true true k e = refl
@@ -87,7 +82,7 @@ within-has (m ∷ ms) c l w h =
 
 -- two lists with the same literals are within the same lists
 pub within-same : (s e c : List ℤ) → ((l : ℤ) → has_lit s l ≡ has_lit e l) → within s c ≡ within e c
-within-same s e c is = both (within s c) (within e c) (λ w. all_lits (has_lit c) e (λ l k. within-has s c l w (is l ∙ k))) (λ w. all_lits (has_lit c) s (λ l k. within-has e c l w (sym (is l) ∙ k)))
+within-same s e c is = both (within s c) (within e c) (λ w. from_each (has_lit c) e (λ l k. within-has s c l w (is l ∙ k))) (λ w. from_each (has_lit c) s (λ l k. within-has e c l w (sym (is l) ∙ k)))
   where
     both : (b d : Bool) → (b ≡ true → d ≡ true) → (d ≡ true → b ≡ true) → b ≡ d
     both true d f g = sym (f refl)

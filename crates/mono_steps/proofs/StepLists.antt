@@ -2,34 +2,26 @@
 use Rattle.std.proofs.Common.{◌≡◌, ℕ, zero, suc, ◌+◌, ◌-◌, ◌<◌, ◌≤◌, true, List, [], ◌∷◌, ◌++◌, length, map, get_or, Some, refl, sym, ap, subst, ◌∙◌, arith, append_assoc, length-append, ℤ}
 use Rattle.std.specs.Prelude.{IsTrue, slice_get}
 use Rattle.std.proofs.lemmas.Bool.{and_parts, and_from}
-use Rattle.std.proofs.lemmas.List.{get_or_append_left, get_or-append_right, length-map}
+use Rattle.std.proofs.lemmas.List.{append-nil, get_or_append_left, get_or-append_right, length-map}
+use Rattle.std.proofs.lemmas.Option.{slice_get-get_or}
 use Rattle.mono_problem.specs.Instance.{Instance, numbered}
 use Rattle.mono_steps.specs.declared.step.Step.{Step}
 use Rattle.mono_steps.specs.Steps.{clause_of, clauses_after, is_justified_step, are_justified_after}
 
-pub append_nil : {A : Type 0} (xs : List A) → xs ++ [] ≡ xs
-append_nil [] = refl
-append_nil {A} (x ∷ xs) = ap (λ (ys : List A). x ∷ ys) (append_nil xs)
-
 -- a step that is justified after justified steps
 pub justified_more : (p : Instance) (earlier : List (List ℤ)) (ss : List Step) (s : Step) → IsTrue (is_justified_step p (earlier ++ map clause_of ss) s) → IsTrue (are_justified_after p earlier ss) → IsTrue (are_justified_after p earlier (ss ++ s ∷ []))
-justified_more p earlier [] s h all = and_from (is_justified_step p earlier s) true (subst (λ (cs : List (List ℤ)). IsTrue (is_justified_step p cs s)) (append_nil earlier) h) refl
+justified_more p earlier [] s h all = and_from (is_justified_step p earlier s) true (subst (λ (cs : List (List ℤ)). IsTrue (is_justified_step p cs s)) (append-nil earlier) h) refl
 justified_more p earlier (r ∷ ss) s h all =
     let a = and_parts (is_justified_step p earlier r) (are_justified_after p (earlier ++ clause_of r ∷ []) ss) all in
     and_from (is_justified_step p earlier r) (are_justified_after p (earlier ++ clause_of r ∷ []) (ss ++ s ∷ [])) a.0
     (justified_more p (earlier ++ clause_of r ∷ []) ss s (subst (λ (cs : List (List ℤ)). IsTrue (is_justified_step p cs s)) (sym (append_assoc earlier (clause_of r ∷ []) (map clause_of ss))) h) a.1)
 
-pub slice_get_is : {A : Type 0} (xs : List A) (k : ℕ) (d : A) → k < length xs → slice_get xs k ≡ Some (get_or xs k d)
-slice_get_is [] k d h = absurd (omega arith)
-slice_get_is (x ∷ xs) zero d h = refl
-slice_get_is (x ∷ xs) (suc k) d h = slice_get_is xs k d (omega arith)
-
 pub slice_get_read : {A : Type 0} (xs : List A) (k : ℕ) (x : A) → k < length xs → x ≡ get_or xs k x → slice_get xs k ≡ Some x
-slice_get_read {A} xs k x h e = slice_get_is xs k x h ∙ ap Some (sym e)
+slice_get_read {A} xs k x h e = slice_get-get_or xs k x h ∙ ap Some (sym e)
 
 pub numbered_is : {A : Type 0} (xs : List A) (n k : ℕ) (d : A) → n ≡ k + 1 → k < length xs → numbered xs n ≡ Some (get_or xs k d)
 numbered_is xs zero k d e h = absurd (omega arith)
-numbered_is {A} xs (suc n) k d e h = let same : n ≡ k = omega arith in subst (λ (j : ℕ). slice_get xs j ≡ Some (get_or xs k d)) (sym same) (slice_get_is xs k d h)
+numbered_is {A} xs (suc n) k d e h = let same : n ≡ k = omega arith in subst (λ (j : ℕ). slice_get xs j ≡ Some (get_or xs k d)) (sym same) (slice_get-get_or xs k d h)
 
 pub length_clauses : (p : Instance) (ss : List Step) → length (clauses_after p ss) ≡ length p.clauses + length ss
 length_clauses p ss = length-append p.clauses (map clause_of ss) ∙ ap (λ (m : ℕ). length p.clauses + m) (length-map ss clause_of)

@@ -3,7 +3,7 @@ use Rattle.std.proofs.Common.{◌≡◌, ℕ, zero, suc, ◌+◌, ◌<◌, Bool,
 use Rattle.std.specs.Prelude.{IsTrue, int_lt}
 use Rattle.std.specs.Ordering.{int_eq}
 use Rattle.std.specs.List.{list_any}
-use Rattle.std.proofs.Math.Bool.{beq}
+use Rattle.std.proofs.Math.Bool.{beq, or-false}
 use Rattle.std.proofs.lemmas.Bool.{eq-eqb, eqb-true, ne_eqb, le-leb, or_left, or_right, false_from_ne_true}
 use Rattle.mono_base.specs.Literal.{has_lit}
 use Rattle.mono_base.proofs.Truth.{same_lit, lit_itself}
@@ -83,8 +83,4 @@ pub switched_same : (c : List ℤ) (i : ℕ) (l : ℤ) (sign on old now : Bool) 
 switched_same c i l sign on old now x low at some apart before =
     before ∙ ap (λ (b : Bool). cond b on old) (sym (has-take_more c i l (literal_of sign x) low at
     ∙ ap (λ (b : Bool). has_lit (take i c) (literal_of sign x) || (b || false)) (literal_same sign x l some ∙ ap (λ (b : Bool). b && (x == nat_abs l)) apart)
-    ∙ or_false (has_lit (take i c) (literal_of sign x))))
-  where
-    or_false : (b : Bool) → (b || false) ≡ b
-    or_false true = refl
-    or_false false = refl
+    ∙ or-false (has_lit (take i c) (literal_of sign x))))

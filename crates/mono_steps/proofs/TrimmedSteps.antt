@@ -1,22 +1,19 @@
 -- The needed steps of a refutation, renumbered, are a refutation.
-use Rattle.std.proofs.Common.{◌≡◌, ℕ, zero, suc, ◌+◌, ◌-◌, ◌<◌, Bool, false, ◌&&◌, List, [], ◌∷◌, ◌++◌, length, map, None, Some, refl, sym, ap, subst, ◌∙◌, ℤ, arith}
-use Rattle.std.specs.Prelude.{IsTrue, slice_get, option_map}
+use Rattle.std.proofs.Common.{◌≡◌, ℕ, ◌+◌, ◌-◌, ◌<◌, Bool, List, length, map, refl, sym, ap, subst, ◌∙◌, arith}
+use Rattle.std.specs.Prelude.{IsTrue, option_map}
 use Rattle.std.proofs.lemmas.Bool.{and_parts}
-use Rattle.std.proofs.lemmas.Option.{same_Some, slice_get-map}
+use Rattle.std.proofs.lemmas.Option.{slice_get-map}
 use Rattle.std.proofs.lemmas.List.{length-map}
-use Rattle.mono_problem.specs.Instance.{Instance, numbered, graph_at}
-use Rattle.mono_steps.specs.ChainSteps.{names_vars, names_clauses, clauses_named, covers}
-use Rattle.mono_steps.specs.Chains.{chain_end}
+use Rattle.mono_problem.specs.Instance.{Instance, numbered}
 use Rattle.mono_steps.specs.declared.lemma.Lemma.{Lemma}
 use Rattle.mono_steps.specs.declared.step.Step.{Step}
 use Rattle.mono_steps.specs.declared.step.Step.TheVariants as step
 use Rattle.mono_steps.specs.Needed.{IsNeeded, AreNumbers}
 use Rattle.mono_steps.specs.Renumbering.{pick, rank, has_number, names_step, IsTable, MayBeCarried}
-use Rattle.mono_steps.specs.Steps.{clause_of, is_justified_step, are_justified_after, are_justified, ends_empty, is_refutation}
+use Rattle.mono_steps.specs.Steps.{are_justified, ends_empty, is_refutation}
 use Rattle.mono_steps.specs.Trimmed.{renumbered, renumber_step, trimmed_steps, IsNamedLater, IsTrimRefutation, IsTrimmed}
-use Rattle.mono_steps.specs.Witnesses.{is_shown, justifies_by}
-use Rattle.mono_problem.specs.declared.atom.Atom.{Atom}
 use Rattle.mono_steps.proofs.CarriedSteps.{carried_refutes}
+use Rattle.mono_steps.proofs.StepVars.{vars_after}
 use Rattle.mono_steps.proofs.Ranks.{rank_step, rank_less, length_pick, pick_get, picked, has_mapped, renumbered_low, renumbered_high}
 
 -- ---- the table of new numbers
@@ -29,29 +26,6 @@ is_table c needed numbers h = record {
       let at : n ≡ c + 1 + k = omega (arith, lt) in
       h.at k (omega (arith, lt, within)) ∙ sym (ap (renumbered c needed) at ∙ renumbered_high c needed k);
 }
-
--- ---- the clauses of justified steps are over the problem's variables
-
-lemma_vars : (p : Instance) (l : Lemma) (x : Atom) → IsTrue (justifies_by p x l) → IsTrue (names_vars p l.clause)
-lemma_vars p l x h = (and_parts (names_vars p l.clause) (is_shown (graph_at p x.graph) x l) h).0
-
-step_vars : (p : Instance) (earlier : List (List ℤ)) (s : Step) → IsTrue (is_justified_step p earlier s) → IsTrue (names_vars p (clause_of s))
-step_vars p earlier (step.Lemma l) h = (elim (numbered p.atoms l.atom) as (λ o. IsTrue (elim o [ None ↦ false | Some x ↦ justifies_by p x l ]) → IsTrue (names_vars p l.clause)) [
-  | None ↦ λ no. absurd cc
-  | Some x ↦ λ yes. lemma_vars p l x yes
-]) h
-step_vars p earlier (step.Chain d) h =
-    let a = and_parts (names_vars p d.clause && names_clauses earlier d.used) (covers d.clause (chain_end (clauses_named earlier d.used))) h in
-    (and_parts (names_vars p d.clause) (names_clauses earlier d.used) a.0).0
-
-pub vars_after : (p : Instance) (earlier : List (List ℤ)) (ss : List Step) (k : ℕ) (s : Step) → IsTrue (are_justified_after p earlier ss) → slice_get ss k ≡ Some s → IsTrue (names_vars p (clause_of s))
-vars_after p earlier [] k s h at = absurd cc
-vars_after p earlier (r ∷ ss) zero s h at =
-    let a = and_parts (is_justified_step p earlier r) (are_justified_after p (earlier ++ clause_of r ∷ []) ss) h in
-    subst (λ (t : Step). IsTrue (names_vars p (clause_of t))) (same_Some r s at) (step_vars p earlier r a.0)
-vars_after p earlier (r ∷ ss) (suc k) s h at =
-    let a = and_parts (is_justified_step p earlier r) (are_justified_after p (earlier ++ clause_of r ∷ []) ss) h in
-    vars_after p (earlier ++ clause_of r ∷ []) ss k s a.1 at
 
 -- ---- the needed steps
 

@@ -30,7 +30,8 @@ pub record IsWanted (c : ℕ) (steps : List Step) (from : ℕ) (needed : List Bo
 pub record IsNeeded (c : ℕ) (steps : List Step) (from : ℕ) (needed : List Bool) : Type 0 where
   pub as_many : length needed ≡ length steps
   pub last : is_set needed (length steps - 1) ≡ true
-  pub closed : (j k : ℕ) (s : Step) → from ≤ j → is_set needed j ≡ true → slice_get steps j ≡ Some s → IsTrue (names_step c s k) → is_set needed k ≡ true
+  pub closed : (j k : ℕ) (s : Step) → from ≤ j → is_set needed j ≡ true → slice_get steps j ≡ Some s → IsTrue (names_step c s k)
+      → is_set needed k ≡ true
   pub wanted : (k : ℕ) → is_set needed k ≡ true → k + 1 < length steps → IsWanted c steps from needed k
 
 -- the new number of each step

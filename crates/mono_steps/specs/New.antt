@@ -41,7 +41,8 @@ pub record IsNewChain (all known : List (List ℤ)) (c : Chain) : Type 0 where
 abbrev pub HasNewChainsAfter : List (List ℤ) → List (List ℤ) → List Step → Type 0
 HasNewChainsAfter all known [] = Unit {0}
 HasNewChainsAfter all known (step.Lemma l ∷ ss) = HasNewChainsAfter (all ++ l.clause ∷ []) known ss
-HasNewChainsAfter all known (step.Chain c ∷ ss) = (IsTrue (is_full_chain (step.Chain c)) → IsNewChain all known c) × HasNewChainsAfter (all ++ c.clause ∷ []) (known ++ c.clause ∷ []) ss
+HasNewChainsAfter all known (step.Chain c ∷ ss) = (IsTrue (is_full_chain (step.Chain c)) → IsNewChain all known c)
+    × HasNewChainsAfter (all ++ c.clause ∷ []) (known ++ c.clause ∷ []) ss
 
 abbrev pub HasNewChains : Instance → List Step → Type 0
 HasNewChains p steps = HasNewChainsAfter p.clauses p.clauses steps

@@ -34,6 +34,7 @@ pub record IsTrimRefutation (p : Instance) (steps : List Step) : Type 0 where
 pub record IsTrimmed (p : Instance) (old new : List Step) : Type 0 where
   pub needed : List Bool
   pub as_many : length needed ≡ length old
-  pub closed : (j k : ℕ) (s : Step) → IsTrue (slice_index_or needed j false) → slice_get old j ≡ Some s → IsTrue (names_step (length p.clauses) s k) → IsTrue (slice_index_or needed k false)
+  pub closed : (j k : ℕ) (s : Step) → IsTrue (slice_index_or needed j false) → slice_get old j ≡ Some s → IsTrue (names_step (length p.clauses) s k)
+      → IsTrue (slice_index_or needed k false)
   pub is : new ≡ trimmed_steps (length p.clauses) needed old
   pub trim : IsTrimRefutation p new

@@ -1,6 +1,6 @@
 -- Rows of what searches find.
 use Rattle.std.proofs.Common.{ℕ, zero, suc, Bool, false, true, List, [], ◌∷◌, refl, pos, ◌≡◌, ◌≤ℤ◌, arith}
-use Rattle.std.specs.Prelude.{IsTrue, All, ◌==◌}
+use Rattle.std.specs.Prelude.{IsTrue, All}
 use Rattle.std.proofs.lemmas.Bool.{and_parts, ne_eqb}
 use Rattle.std.proofs.lemmas.Int.{ints}
 use Rattle.std.proofs.lemmas.List.Elements.{All-nil, All-cons, All-head, All-tail}

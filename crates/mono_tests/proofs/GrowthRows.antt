@@ -5,6 +5,7 @@ use Rattle.mono_base.specs.Literal.{lit_at}
 use Rattle.mono_trail.specs.Places.{level_at}
 use Rattle.mono_trail.specs.TrailView.{TrailView}
 use Rattle.mono_clauses.specs.Propagation.{Grows, same, implies, gives, FalseFound}
+use Rattle.mono_clauses.proofs.Growth.{Grows-level}
 use Rattle.mono_clauses.specs.Store.{Held, IsTrueBy, Follows, FollowsBelow, watch_at, other}
 use Rattle.mono_steps.specs.WorkedLemmas.{minus}
 use Rattle.mono_tests.specs.TwoClauses.{two_clauses, watching, decided, implied, decided_again}
@@ -85,10 +86,5 @@ few_given cs t u (gives a v g some e) few = subst (λ (w : TrailView). w.given �
 pub not_beyond_the_end : Grows two_clauses (decided 1) (decided 2) → ⊥
 not_beyond_the_end g = let few : 2 ≤ 1 = few_given two_clauses (decided 1) (decided 2) g (omega arith) in omega (arith, few)
 
-level_stays : (cs : List Held) (t u : TrailView) → Grows cs t u → u.level ≡ t.level
-level_stays cs t u (same v e) = ap (λ (w : TrailView). w.level) e
-level_stays cs t u (implies a v n x g unit e) = ap (λ (w : TrailView). w.level) e ∙ level_stays cs t a g
-level_stays cs t u (gives a v g some e) = ap (λ (w : TrailView). w.level) e ∙ level_stays cs t a g
-
 pub not_by_deciding : Grows two_clauses (decided 1) (decided_again (pos 3 ∷ []) 1) → ⊥
-not_by_deciding g = let e : 2 ≡ 1 = level_stays two_clauses (decided 1) (decided_again (pos 3 ∷ []) 1) g in omega (arith, e)
+not_by_deciding g = let e : 2 ≡ 1 = Grows-level two_clauses (decided 1) (decided_again (pos 3 ∷ []) 1) g in omega (arith, e)

@@ -1,28 +1,22 @@
 -- Rows of what a conflict teaches.
 use Rattle.std.proofs.Common.{◌≡◌, ◌≢◌, ℕ, zero, suc, ◌<◌, Bool, ◌&&◌, true, false, List, [], ◌∷◌, refl, sym, ap, subst, ◌∙◌, inl, inr, ℤ, pos, neg_ℤ, arith}
-use Rattle.std.specs.Prelude.{IsTrue, Option, Some, unwrap_or, option_map}
+use Rattle.std.specs.Prelude.{IsTrue, Some}
 use Rattle.std.specs.Ordering.{int_eq}
 use Rattle.std.proofs.lemmas.Bool.{or_cases}
 use Rattle.mono_base.specs.Literal.{has_lit, within, without, lit_at}
-use Rattle.mono_base.specs.Partial.{is_partial}
 use Rattle.mono_base.proofs.Truth.{same_lit, at_each}
 use Rattle.mono_problem.specs.Instance.{numbered}
 use Rattle.mono_steps.specs.WorkedLemmas.{minus}
 use Rattle.mono_trail.specs.declared.reason.Reason.TheVariants.{Decided, Clause}
 use Rattle.mono_trail.specs.Places.{level_at, reason_at}
-use Rattle.mono_trail.specs.TrailView.{TrailView, StandsAt}
+use Rattle.mono_trail.specs.TrailView.{StandsAt}
 use Rattle.mono_learn.specs.FirstPoint.{StepsBack, IsRedundant, IsMinimized, IsTaught}
 use Rattle.mono_learn.specs.Learned.{IsLearnt, IsMinimal}
 use Rattle.mono_learn.specs.Resolvents.{FalseBy}
 use Rattle.mono_learn.specs.Levels.{level_by}
 use Rattle.mono_learn.specs.Worked.{worked_clauses, worked_trail}
 use Rattle.mono_learn.proofs.LitSets.{true_false}
-use Rattle.mono_learn.proofs.PlacesOfLits.{place_in_at}
-
--- the level at which a literal stands is that of its variable
-pub stands_level : (t : TrailView) (l : ℤ) (level : ℕ) → IsTrue (is_partial t.lits) → StandsAt t l level → level_by t l ≡ level
-stands_level t l level p w =
-    ap (λ (m : ℤ). level_by t m) (sym w.there) ∙ ap (λ (o : Option ℕ). unwrap_or (option_map (level_at t.marks) o) 0) (place_in_at t.lits w.place p w.within) ∙ w.at
+use Rattle.mono_learn.proofs.WorkedRows.{stands_level}
 
 -- a literal that is another one by its test stands at the level of that one
 stands_as : (l m : ℤ) (level back : ℕ) → IsTrue (int_eq l m) → level_by worked_trail (neg_ℤ m) ≡ level → StandsAt worked_trail (neg_ℤ l) back → back ≡ level

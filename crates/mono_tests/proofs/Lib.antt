@@ -13,3 +13,4 @@ mod VerdictRows
 mod SettledRows
 mod LearntRows
 mod LubyRows
+mod ModelRows

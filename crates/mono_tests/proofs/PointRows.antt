@@ -19,7 +19,7 @@ use Rattle.mono_learn.specs.Worked.{worked_clauses, worked_trail}
 use Rattle.mono_learn.proofs.LitSets.{true_false}
 use Rattle.mono_learn.proofs.PlacesOfLits.{place_in_at}
 use Rattle.mono_tests.specs.SmallTrail.{both_levels}
-use Rattle.mono_tests.proofs.LearnRows.{stands_level}
+use Rattle.mono_learn.proofs.WorkedRows.{stands_level}
 
 -- what holds of the first literal and of each other one holds of each
 pub of_each : (P : ℤ → Type 0) → (a : ℤ) (c : List ℤ) → P a → ((l : ℤ) → IsTrue (has_lit c l) → P l) → (l : ℤ) → IsTrue (has_lit (a ∷ c) l) → P l

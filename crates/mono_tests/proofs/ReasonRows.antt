@@ -13,7 +13,7 @@ use Rattle.mono_learn.specs.Reasons.{HasReasons, IsConflict, IsFalseClause, Reas
 use Rattle.mono_learn.specs.Worked.{worked_clauses, worked_trail}
 use Rattle.mono_learn.proofs.LitSets.{true_false}
 use Rattle.mono_tests.specs.SmallTrail.{both_levels}
-use Rattle.mono_tests.proofs.LearnRows.{stands_level}
+use Rattle.mono_learn.proofs.WorkedRows.{stands_level}
 use Rattle.mono_tests.proofs.PointRows.{of_each, of_none}
 
 same_clause : (c d : List ℤ) → Some c ≡ Some d → d ≡ c

@@ -8,3 +8,4 @@ pub mod Refutations
 pub mod Cyclic
 pub mod AskedLemmas
 pub mod SmallConflict
+pub mod PrintedLemmas

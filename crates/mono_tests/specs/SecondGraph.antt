@@ -6,4 +6,9 @@ use Rattle.mono_problem.specs.Instance.{Instance}
 
 -- ten variables, and one predicate, which is over the second graph
 abbrev pub asks_of_second : Digraph → Digraph → Predicate → ℕ → Instance
-asks_of_second g h q x = record { vars = 10; graphs = (0, g) ∷ (1, h) ∷ []; atoms = record { number = 1; graph = 1; var = x; predicate = q } ∷ []; clauses = [] }
+asks_of_second g h q x = record {
+  vars = 10;
+  graphs = (0, g) ∷ (1, h) ∷ [];
+  atoms = record { number = 1; graph = 1; var = x; predicate = q } ∷ [];
+  clauses = [];
+}

@@ -31,7 +31,7 @@ implied given = record {
   given = given;
 }
 
--- the same, where 3 is decided next
+-- -1 is decided, and one more literal at the next level. So many literals were given
 abbrev pub decided_again : List ℤ → ℕ → TrailView
 decided_again ls given = record {
   vars = 3;

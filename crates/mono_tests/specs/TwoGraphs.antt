@@ -13,7 +13,12 @@ over_second = record { number = 2; graph = 1; var = 6; predicate = kind.Reach 0 
 
 -- the first graph has two edges. The edge of the second one has the number 3 and the variable 4
 abbrev pub two_graphs : Instance
-two_graphs = record { vars = 6; graphs = (8, pipe 3 2) ∷ (5, single (edge_of 3 0 1 4 7)) ∷ []; atoms = reaches_2 ∷ over_second ∷ []; clauses = (pos 1 ∷ minus 6 ∷ []) ∷ [] ∷ [] }
+two_graphs = record {
+  vars = 6;
+  graphs = (8, pipe 3 2) ∷ (5, single (edge_of 3 0 1 4 7)) ∷ [];
+  atoms = reaches_2 ∷ over_second ∷ [];
+  clauses = (pos 1 ∷ minus 6 ∷ []) ∷ [] ∷ [];
+}
 
 -- these graphs alone, and the problem above with this predicate alone, or with these clauses
 abbrev pub of_graphs : List (ℕ × Digraph) → Instance

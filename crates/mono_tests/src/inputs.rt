@@ -1,9 +1,13 @@
-//! Worked rows: which nodes each form of an input may name, words that no other row reads, and clauses that stay open.
+//! Worked rows: which nodes each form of an input may name, words that no other row reads, clauses that stay open, and the
+//! names of faults.
 
-ghost use Rattle.std.specs.Prelude.{◌≡◌, ◌∷◌, [], codes, Some, None, pos};
+ghost use Rattle.std.specs.Prelude.{◌≡◌, ◌∷◌, [], codes, Some, None, pos, Err};
+ghost use Rattle.mono_text.specs.declared.field.FieldRefusal.TheVariants as field;
+ghost use Rattle.mono_text.specs.Fields.{fields_of};
 ghost use Rattle.mono_problem.specs.declared.atom.Predicate.TheVariants as kind;
 ghost use Rattle.mono_gnf.specs.declared.fault.GnfFault.TheVariants as fault;
 ghost use Rattle.mono_gnf.specs.Faults.{first_fault};
+ghost use Rattle.mono_gnf.specs.Names.{fault_name};
 ghost use Rattle.mono_gnf.specs.Prints.{Prints};
 ghost use Rattle.mono_gnf.specs.Stands.{Stands};
 
@@ -69,4 +73,28 @@ pub fn predicates_without_cycles()
     ensures greatest { first_fault (codes "digraph 1 0 4294967295\nacyclic 4294967295 1000000") ≡ None }
     ensures twice { Prints (codes "digraph 2 1 0\nacyclic 0 1\nedge 0 0 1 1\nacyclic 0 1")
         (codes "p gnf 1 0\ndigraph int 2 1 0\nedge 0 0 1 1 1\nacyclic 0 1\nacyclic 0 1\n") }
+{}
+
+/// The name of each fault.
+pub fn names_of_faults()
+    ensures unknown_word { fault_name fault.UnknownWord ≡ codes "UnknownWord" }
+    ensures not_number { fault_name fault.NotNumber ≡ codes "NotNumber" }
+    ensures too_large { fault_name fault.TooLarge ≡ codes "TooLarge" }
+    ensures field_count { fault_name fault.FieldCount ≡ codes "FieldCount" }
+    ensures unknown_graph { fault_name fault.UnknownGraph ≡ codes "UnknownGraph" }
+    ensures duplicate_graph { fault_name fault.DuplicateGraph ≡ codes "DuplicateGraph" }
+    ensures node_out_of_range { fault_name fault.NodeOutOfRange ≡ codes "NodeOutOfRange" }
+    ensures bad_variable { fault_name fault.BadVariable ≡ codes "BadVariable" }
+    ensures weight_word { fault_name fault.WeightWord ≡ codes "WeightWord" }
+    ensures second_header { fault_name fault.SecondHeader ≡ codes "SecondHeader" }
+    ensures open_clause { fault_name fault.OpenClause ≡ codes "OpenClause" }
+    ensures unfinished_clause { fault_name fault.UnfinishedClause ≡ codes "UnfinishedClause" }
+    ensures same_ends { fault_name fault.SameEnds ≡ codes "SameEnds" }
+    ensures too_many { fault_name fault.TooMany ≡ codes "TooMany" }
+{}
+
+/// A field that is refused is named by its place, also behind two others.
+pub fn places_of_fields()
+    ensures third_too_large { fields_of (5 ∷ 9 ∷ 7 ∷ []) (codes "5" ∷ codes "9" ∷ codes "8" ∷ []) ≡ Err (field.TooLarge 2) }
+    ensures third_no_number { fields_of (5 ∷ 9 ∷ 7 ∷ []) (codes "5" ∷ codes "9" ∷ codes "-" ∷ []) ≡ Err (field.NotNumber 2) }
 {}

@@ -27,6 +27,8 @@ pub mod inputs;
 pub mod learn;
 /// Problems of two graphs, and what is added to them.
 pub mod problem;
+/// Texts that are read from a shelf.
+pub mod shelves;
 /// Resolvents, unit propagation, justified steps, new clauses, and lemmas.
 pub mod steps;
 #[cfg(test)]

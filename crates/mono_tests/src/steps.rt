@@ -59,6 +59,8 @@ pub fn justified_chains()
 /// variables.
 pub fn justified_lemmas()
     ensures justified { justifies (asks (round_trip 2 3) (kind.Reach 0 1) 3) (of_1 (minus 1 ∷ pos 3 ∷ []) (by.Path (1 ∷ []))) ≡ true }
+    ensures unjustified_step { are_justified (asks (round_trip 2 3) (kind.Reach 0 1) 3)
+        (step.Lemma (of_1 (pos 3 ∷ []) (by.Path (1 ∷ []))) ∷ []) ≡ false }
     ensures no_predicate { justifies (asks (round_trip 2 3) (kind.Reach 0 1) 3) (record {
       atom = 2;
       clause = minus 1 ∷ pos 3 ∷ [];
@@ -109,6 +111,8 @@ pub fn small_steps()
     ensures amount { is_small_step (step.Lemma (of_1 [] (by.Flow (amount 1 (2 ^ 60 + 1) ∷ amount 2 1 ∷ [])))) ≡ false }
     ensures chain { is_small_step (chain [] (2 ^ 61 ∷ [])) ≡ true }
     ensures lemma_is_no_chain { is_full_chain (step.Lemma (of_1 (pos 1 ∷ []) (by.Path []))) ≡ false }
+    ensures full_chain { is_full_chain (chain (pos 1 ∷ []) (1 ∷ [])) ≡ true }
+    ensures empty_chain_is_not_full { is_full_chain (chain [] (1 ∷ [])) ≡ false }
     ensures one_is_empty { has_no_empty (chain (pos 1 ∷ []) (1 ∷ []) ∷ chain [] (1 ∷ 2 ∷ []) ∷ []) ≡ false }
     ensures none_is_empty { has_no_empty (step.Lemma (of_1 [] (by.Path [])) ∷ chain (pos 1 ∷ []) (1 ∷ []) ∷ []) ≡ true }
 {}

@@ -2,8 +2,9 @@
 
 ghost use Rattle.std.specs.Prelude.{◌≡◌, [], ◌∷◌, true, false};
 ghost use Rattle.mono_steps.specs.Needed.{AreNumbers};
+ghost use Rattle.mono_steps.specs.Renumbering.{rank};
 ghost use Rattle.mono_steps.specs.Trimmed.{IsNamedLater, IsTrimmed, renumbered};
-ghost use Rattle.mono_steps.specs.WorkedLemmas.{barred, with_two_lemmas, with_one_lemma};
+ghost use Rattle.mono_steps.specs.WorkedLemmas.{barred, chain, edge_1_reaches, with_two_lemmas, with_one_lemma};
 ghost use Rattle.mono_tests.specs.Refutations.{with_unnamed_lemma, with_turned_lemma};
 
 /// Of two equal lemmas the chain names the second, so the first one goes and the chain's number with it.
@@ -28,6 +29,7 @@ pub fn steps_named_later()
     ensures second { IsNamedLater 2 with_two_lemmas 1 }
     ensures first { IsNamedLater 2 with_two_lemmas 0 → ⊥ }
     ensures last { IsNamedLater 2 with_one_lemma 1 → ⊥ }
+    ensures by_itself { IsNamedLater 2 (edge_1_reaches ∷ chain [] (4 ∷ []) ∷ []) 1 → ⊥ }
 {}
 
 /// The problem's clauses keep their numbers, and the needed steps are numbered behind them.
@@ -36,6 +38,7 @@ pub fn new_numbers()
     ensures second { renumbered 2 (false ∷ true ∷ true ∷ []) 4 ≡ 3 }
     ensures third { renumbered 2 (false ∷ true ∷ true ∷ []) 5 ≡ 4 }
     ensures all_needed { renumbered 2 (true ∷ true ∷ []) 4 ≡ 4 }
+    ensures of_all_flags { rank (true ∷ false ∷ true ∷ []) 3 ≡ 2 }
 {}
 
 /// The new number of a step that goes is that of the next one that stays.

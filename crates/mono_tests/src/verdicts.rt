@@ -1,4 +1,5 @@
-//! Worked rows: which wrong predicate a verdict names, and in which line, and what a line adds to those before it.
+//! Worked rows: which wrong predicate a verdict names, and in which line, what a line adds to those before it, which
+//! values and steps a text gives, and the names of reasons.
 
 ghost use Rattle.std.specs.Prelude.{◌≡◌, [], ◌∷◌, true, false, pos, codes, Some, None};
 ghost use Rattle.mono_base.specs.Literal.{value_in};
@@ -8,12 +9,14 @@ ghost use Rattle.mono_steps.specs.declared.step.Step.TheVariants as step;
 ghost use Rattle.mono_steps.specs.WorkedLemmas.{chain, minus, of_1};
 ghost use Rattle.mono_answer.specs.declared.item.Item.TheVariants as item;
 ghost use Rattle.mono_answer.specs.declared.kind.Kind.TheVariants as kind;
+ghost use Rattle.mono_check.specs.Answers.{HasModel, HasSteps};
 ghost use Rattle.mono_check.specs.Atoms.{IsWrongAtom};
 ghost use Rattle.mono_check.specs.FromShelf.{IsVerdictFrom};
-ghost use Rattle.mono_check.specs.SoFar.{model_more, no_steps, no_values, steps_more};
+ghost use Rattle.mono_check.specs.Names.{reason_name};
+ghost use Rattle.mono_check.specs.SoFar.{OfModel, model_more, no_steps, no_values, steps_more};
 ghost use Rattle.mono_check.specs.Values.{ends_in};
-ghost use Rattle.mono_check.specs.Worked.{two_edges};
-ghost use Rattle.mono_check.specs.Verdicts.{IsVerdict};
+ghost use Rattle.mono_check.specs.Worked.{alone, left, two_edges};
+ghost use Rattle.mono_check.specs.Verdicts.{Decided, IsVerdict};
 ghost use Rattle.mono_check.specs.declared.reason.Reason.TheVariants as reason;
 ghost use Rattle.mono_check.specs.declared.verdict.Verdict.TheVariants as verdict;
 ghost use Rattle.mono_tests.specs.Cyclic.{two_predicates};
@@ -86,6 +89,13 @@ pub fn line_behind_lines()
     ensures no_steps { no_steps 4 ≡ record { clauses = []; chains = 0; ends_empty = false; last = 4 } }
 {}
 
+/// Behind the ending 0 no number comes, also where it stood in a line before.
+pub fn values_behind_the_end()
+    ensures number { left (OfModel (record { lits = pos 1 ∷ []; end = Some 2; last = 2 })) 2 [] (codes "v 0") ≡ Decided (verdict.Rejected 3 reason.BadLine) }
+    ensures no_number { left (OfModel (record { lits = pos 1 ∷ []; end = Some 2; last = 2 })) 2 [] (codes "v")
+        ≡ Decided (verdict.Rejected 2 (reason.ClauseFalse 2)) }
+{}
+
 /// A verdict from a shelf is the one on the text that was read whole, within the limit.
 pub fn verdicts_from_a_shelf()
     ensures read { IsVerdictFrom (two_edges []) (codes "f") 10 (steady_shelf ((codes "f", codes "s UNKNOWN\n") ∷ []) [] None 0 0)
@@ -96,4 +106,44 @@ pub fn verdicts_from_a_shelf()
         (steady_shelf ((codes "f", codes "s UNKNOWN\n") ∷ []) (codes "f") (Some 9) 1 0) (verdict.Progress 0) → ⊥ }
     ensures other_text { IsVerdictFrom (two_edges []) (codes "f") 10 (steady_shelf ((codes "f", codes "unknown!!\n") ∷ []) [] None 0 0)
         (steady_shelf ((codes "f", codes "unknown!!\n") ∷ []) (codes "f") (Some 10) 1 0) (verdict.Progress 0) → ⊥ }
+{}
+
+/// The values of a text are those that its lines of values say: a literal over each variable, in any order, and the ending 0.
+pub fn values_of_a_text()
+    ensures values { HasModel (alone 2) (codes "s SATISFIABLE\nv -2\nv 1 0\n") (true ∷ false ∷ []) }
+    ensures other_values { HasModel (alone 2) (codes "s SATISFIABLE\nv -2\nv 1 0\n") (true ∷ true ∷ []) → ⊥ }
+    ensures variable_missing { HasModel (alone 2) (codes "s SATISFIABLE\nv 1 0\n") (true ∷ false ∷ []) → ⊥ }
+    ensures variable_twice { HasModel (alone 1) (codes "s SATISFIABLE\nv 1 -1 0\n") (true ∷ []) → ⊥ }
+    ensures variable_beyond { HasModel (alone 1) (codes "s SATISFIABLE\nv 1 2 0\n") (true ∷ []) → ⊥ }
+    ensures no_end { HasModel (alone 1) (codes "s SATISFIABLE\nv 1\n") (true ∷ []) → ⊥ }
+    ensures other_line { HasModel (alone 1) (codes "s SATISFIABLE\nv 1 0\nchain 1 0 1\n") (true ∷ []) → ⊥ }
+    ensures other_kind { HasModel (alone 1) (codes "s UNKNOWN\nv 1 0\n") (true ∷ []) → ⊥ }
+{}
+
+/// The steps of a text are those of its lines behind a status line of that kind, in order and no more.
+pub fn steps_of_a_text()
+    ensures steps { HasSteps 1 kind.Progress (codes "s UNKNOWN\nchain 1 0 1\nchain 1 0 2\n") (chain (pos 1 ∷ []) (1 ∷ [])
+        ∷ chain (pos 1 ∷ []) (2 ∷ []) ∷ []) }
+    ensures other_order { HasSteps 1 kind.Progress (codes "s UNKNOWN\nchain 1 0 1\nchain 1 0 2\n") (chain (pos 1 ∷ []) (2 ∷ [])
+        ∷ chain (pos 1 ∷ []) (1 ∷ []) ∷ []) → ⊥ }
+    ensures first_alone { HasSteps 1 kind.Progress (codes "s UNKNOWN\nchain 1 0 1\nchain 1 0 2\n") (chain (pos 1 ∷ []) (1 ∷ []) ∷ []) → ⊥ }
+    ensures other_kind { HasSteps 1 kind.Refutation (codes "s UNKNOWN\nchain 1 0 1\n") (chain (pos 1 ∷ []) (1 ∷ []) ∷ []) → ⊥ }
+    ensures values { HasSteps 1 kind.Model (codes "s SATISFIABLE\nv 1 0\n") [] → ⊥ }
+{}
+
+/// The name of each reason.
+pub fn names_of_reasons()
+    ensures not_answer { reason_name reason.NotAnswer ≡ codes "NotAnswer" }
+    ensures bad_line { reason_name reason.BadLine ≡ codes "BadLine" }
+    ensures unknown_atom { reason_name reason.UnknownAtom ≡ codes "UnknownAtom" }
+    ensures wrong_kind { reason_name reason.WrongKind ≡ codes "WrongKind" }
+    ensures unknown_number { reason_name reason.UnknownNumber ≡ codes "UnknownNumber" }
+    ensures missing_literal { reason_name reason.MissingLiteral ≡ codes "MissingLiteral" }
+    ensures witness_fails { reason_name reason.WitnessFails ≡ codes "WitnessFails" }
+    ensures chain_stuck { reason_name reason.ChainStuck ≡ codes "ChainStuck" }
+    ensures not_covered { reason_name reason.NotCovered ≡ codes "NotCovered" }
+    ensures no_empty_clause { reason_name reason.NoEmptyClause ≡ codes "NoEmptyClause" }
+    ensures model_variables { reason_name reason.ModelVariables ≡ codes "ModelVariables" }
+    ensures clause_false { reason_name (reason.ClauseFalse 1) ≡ codes "ClauseFalse" }
+    ensures atom_wrong { reason_name (reason.AtomWrong 1) ≡ codes "AtomWrong" }
 {}

@@ -1,5 +1,5 @@
 -- The lines of a text and the tokens of a line, one after the other.
-use Rattle.std.proofs.Common.{◌≡◌, ℕ, ◌+◌, ◌<◌, ◌≤◌, Bool, true, false, cond, not, List, [], ◌∷◌, length, take, drop, refl, sym, ap, ◌∙◌, arith, filter, inl, inr, get_or, Some, None}
+use Rattle.std.proofs.Common.{◌≡◌, ℕ, ◌+◌, ◌<◌, ◌≤◌, Bool, true, false, cond, not, List, [], ◌∷◌, length, take, drop, refl, sym, ap, ◌∙◌, arith, filter, inl, inr, get_or, Some, None, subst}
 use Rattle.std.specs.List.{slice_split, onto_first, position_or_len, before_first, after_first}
 use Rattle.std.proofs.Math.Numerals.{one-add, add-one}
 use Rattle.std.proofs.lemmas.List.Sums.{count_by-le-length, length-filter}
@@ -126,7 +126,7 @@ lines_of-first b s =
       | false ↦ rw (one-add, slice_split-first) (rest_lines b (before_first is_line_feed s) s)
     ])
 
--- the same for a text that has bytes
+-- the first line of a text that has bytes, and those after it
 pub lines_of-some : (s : List ℕ) → 0 < length s → lines_of s ≡ before_first is_line_feed s ∷ lines_of (after_first is_line_feed s)
 lines_of-some [] h = absurd (omega arith)
 lines_of-some (b ∷ s) h = lines_of-first b s
@@ -140,6 +140,15 @@ lines_of-none n (b ∷ s) h = absurd (omega arith)
 pub tokens_of-empty : (s : List ℕ) → length s ≡ 0 → tokens_of s ≡ []
 tokens_of-empty [] h = refl
 tokens_of-empty (b ∷ bs) h = absurd (omega (arith, h))
+
+-- where nothing is left behind the blanks, a line has no token, and what is left has none
+pub none_left : (ts : List (List ℕ)) (s rest : List ℕ) → ts ≡ tokens_of s → rest ≡ from_token s → length rest ≡ 0 → (ts ≡ []) × (tokens_of rest ≡ [])
+none_left ts s rest now passed empty = (now ∙ tokens_of-none s (ap length (sym passed) ∙ empty), tokens_of-empty rest empty)
+
+-- what is left behind the blanks begins with the first token, and the others are behind it
+pub first_left : (ts : List (List ℕ)) (s rest behind : List ℕ) → ts ≡ tokens_of s → rest ≡ from_token s → 0 < length rest → behind ≡ after_first is_blank rest
+    → ts ≡ before_first is_blank rest ∷ tokens_of behind
+first_left ts s rest behind now passed some cut = rw (cut, passed) (now ∙ tokens_of-some s (subst (λ (r : List ℕ). 0 < length r) passed some))
 
 -- a line has no more tokens than bytes and one
 pub length-tokens_of : (s : List ℕ) → length (tokens_of s) ≤ length s + 1

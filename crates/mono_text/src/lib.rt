@@ -19,6 +19,8 @@ mod line;
 mod lines;
 /// Naturals and signed numbers.
 mod number;
+/// Lines appended to a text.
+mod print;
 /// The tokens of a line.
 mod tokens;
 
@@ -32,4 +34,5 @@ pub use laws::{
 pub use line::{Line, is_comment};
 pub use lines::Lines;
 pub use number::{NumberRefusal, natural, signed};
+pub use print::push_line;
 pub use tokens::Tokens;

@@ -8,7 +8,7 @@ use Rattle.std.proofs.Math.Seq.{get_or-append_seam}
 use Rattle.mono_graph.specs.Digraph.{Digraph}
 use Rattle.mono_graph.specs.declared.limit.Limit.{Limit}
 use Rattle.mono_graph.specs.declared.limit.Limit.TheVariants as limit
-use Rattle.mono_graph.specs.Walks.{bound_of, is_path}
+use Rattle.mono_graph.specs.Walks.{bound_of, is_path, IsBounded}
 use Rattle.mono_dynamic.specs.declared.cost_source.CostSource.{CostSource}
 use Rattle.mono_dynamic.specs.LeastRows.{cost_slot, measure_of}
 use Rattle.mono_dynamic.specs.Sources.{HaveRows as AreServed}
@@ -17,7 +17,7 @@ use Rattle.mono_problem.specs.declared.atom.Predicate.{Predicate}
 use Rattle.mono_problem.specs.declared.atom.Predicate.TheVariants as kind
 use Rattle.mono_problem.specs.Holds.{Holds, falls}
 use Rattle.mono_problem.specs.WellFormed.{IsOver}
-use Rattle.mono_theory.specs.Asked.{asks_walk, first_node, last_node, limit_of, no_source, predicate_of, source_at, target_of, AreOfAtoms, HasTarget, HaveRows, IsBounded, IsSourceFor}
+use Rattle.mono_theory.specs.Asked.{asks_walk, first_node, last_node, limit_of, no_source, predicate_of, source_at, target_of, AreOfAtoms, HasTarget, HaveRows, IsSourceFor}
 use Rattle.mono_theory.specs.Supports.{atom_at}
 
 -- ---- when they hold

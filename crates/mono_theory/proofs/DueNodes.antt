@@ -1,5 +1,5 @@
 -- Which atoms are due since something new is known of their nodes.
-use Rattle.std.proofs.Common.{◌≡◌, ℕ, ◌+◌, ◌<◌, ◌||◌, Bool, true, false, List, [], ◌∷◌, ◌++◌, length, refl, sym, subst, ◌∙◌, inl, inr, arith}
+use Rattle.std.proofs.Common.{◌≡◌, ℕ, ◌+◌, ◌<◌, ◌||◌, Bool, true, false, List, [], ◌∷◌, ◌++◌, length, get_or, refl, sym, subst, ◌∙◌, inl, inr, arith}
 use Rattle.std.specs.Prelude.{IsTrue, slice_index}
 use Rattle.std.proofs.lemmas.Bool.{cases_Bool, cases_lt, both_ways, false_from_ne_true, or_parts}
 use Rattle.mono_base.specs.Worklist.{is_listed}
@@ -39,19 +39,24 @@ puts_more {node_of = node_of} {nodes = nodes} {between = between} {after = after
   ];
 }
 
-pub rows_none : (node_of : List ℕ) (nodes : ℕ → List ℕ) (due : List Bool) → PutsRows node_of nodes 0 due due
-rows_none node_of nodes due = record { size = refl; stay = λ a off. off; each = λ i a low lt here. absurd (omega (arith, low)) }
+pub rows_none : {R : Type 0} (node_of : List ℕ) (nodes : R → List ℕ) (rows : List R) (due : List Bool) → PutsRows node_of nodes rows 0 due due
+rows_none node_of nodes rows due = record { size = refl; stay = λ a off. off; each = λ i a d low lt here. absurd (omega (arith, low)) }
 
-pub rows_more : {node_of : List ℕ} {nodes : ℕ → List ℕ} {n : ℕ} {before between after : List Bool} → PutsRows node_of nodes n before between → PutsNodes node_of (nodes n) between after → PutsRows node_of nodes (n + 1) before after
-rows_more {node_of = node_of} {nodes = nodes} {n = n} {between = between} {after = after} h k = record {
+-- one more row
+pub rows_more : {R : Type 0} {node_of : List ℕ} {nodes : R → List ℕ} {rows : List R} {n : ℕ} {before between after : List Bool} (row : R) → ((d : R) → row ≡ get_or rows n d) → PutsRows node_of nodes rows n before between
+    → PutsNodes node_of (nodes row) between after → PutsRows node_of nodes rows (n + 1) before after
+rows_more {R = R} {node_of = node_of} {nodes = nodes} {rows = rows} {n = n} {between = between} {after = after} row is h k = record {
   size = k.size ∙ h.size;
   stay = λ a off. h.stay a (k.stay a off);
-  each = λ i a low lt here. elim (cases_lt i n) [
-    | inl before ↦ due_stays between after a k.stay (h.each i a before lt here)
-    | inr past ↦ k.each a lt (subst (λ (j : ℕ). IsTrue (has (nodes j) (slice_index node_of a))) (omega (arith, low, past)) here)
+  each = λ i a d low lt here. elim (cases_lt i n) [
+    | inl before ↦ due_stays between after a k.stay (h.each i a d before lt here)
+    | inr past ↦
+        k.each a lt (subst (λ (x : R). IsTrue (has (nodes x) (slice_index node_of a))) (sym (is d)) (subst (λ (j : ℕ). IsTrue (has (nodes (get_or rows j d)) (slice_index node_of a))) (omega (arith, low, past)) here))
   ];
 }
 
 -- of an atom that isn't due nothing new is known
-pub none_new : {node_of : List ℕ} {nodes : ℕ → List ℕ} {n : ℕ} {before after : List Bool} (i a : ℕ) → PutsRows node_of nodes n before after → i < n → a < length node_of → is_listed after a ≡ false → has (nodes i) (slice_index node_of a) ≡ false
-none_new {node_of = node_of} {nodes = nodes} {after = after} i a h low lt off = false_from_ne_true (has (nodes i) (slice_index node_of a)) (λ here. both_ways (is_listed after a) off (h.each i a low lt here))
+pub none_new : {R : Type 0} {node_of : List ℕ} {nodes : R → List ℕ} {rows : List R} {n : ℕ} {before after : List Bool} (i a : ℕ) (d : R) → PutsRows node_of nodes rows n before after → i < n → a < length node_of → is_listed after a ≡ false
+    → has (nodes (get_or rows i d)) (slice_index node_of a) ≡ false
+none_new {node_of = node_of} {nodes = nodes} {rows = rows} {after = after} i a d h low lt off =
+    false_from_ne_true (has (nodes (get_or rows i d)) (slice_index node_of a)) (λ here. both_ways (is_listed after a) off (h.each i a d low lt here))

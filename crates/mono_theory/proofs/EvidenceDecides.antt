@@ -10,7 +10,7 @@ use Rattle.std.proofs.lemmas.List.FromFn.{get_or-map-range_with_len, length-map-
 use Rattle.mono_base.specs.Literal.{has_lit, var_of, without}
 use Rattle.mono_base.specs.Partial.{is_true_in, is_false_in, others_false}
 use Rattle.mono_base.proofs.Partials.{neg-neg, var-neg}
-use Rattle.mono_base.proofs.Truth.{same_lit, lit_itself}
+use Rattle.mono_base.proofs.Truth.{same_lit, lit_itself, from_each}
 use Rattle.mono_graph.specs.declared.edge.Edge.{Edge}
 use Rattle.mono_graph.specs.Digraph.{Digraph, IsGraph, IsSubpart, edge_at, no_edge, present, places, has}
 use Rattle.mono_graph.proofs.Membership.{has_cons}
@@ -25,7 +25,7 @@ use Rattle.mono_problem.specs.declared.atom.Predicate.TheVariants as kind
 use Rattle.mono_steps.specs.declared.lemma.Witness.{Witness}
 use Rattle.mono_steps.specs.declared.lemma.Witness.TheVariants as by
 use Rattle.mono_steps.specs.Witnesses.{serves, names_known, is_small, is_positive, rests_on_present, passes, part_not, part_free, is_shown}
-use Rattle.mono_steps.proofs.Sets.{all_lits, has-without}
+use Rattle.mono_steps.proofs.Sets.{has-without}
 use Rattle.mono_steps.specs.Switching.{literal_of}
 use Rattle.mono_steps.proofs.Witnessed.{positive_holds, negative_excludes, passing_serves, passes-larger, passes-smaller}
 use Rattle.mono_theory.specs.declared.evidence.Evidence.{Evidence}
@@ -204,7 +204,7 @@ unfolding clause_at
 edges_false g t x ks s b sided =
     let head : ℤ = literal_of s x.var in
     let f : ℕ → ℤ = λ k. literal_of (not b) (edge_at g k).var in
-    all_lits (is_false_in t) (without (clause_at g x ks s b) head) (λ l h.
+    from_each (is_false_in t) (without (clause_at g x ks s b) head) (λ l h.
     let a = and_parts (not (int_eq head l)) (has_lit (clause_at g x ks s b) l) (sym (has-without (clause_at g x ks s b) head l) ∙ h) in
     elim (or_cases (int_eq l head) (has_lit (map f ks) l) a.1) [
       | inl e ↦ absurd (both_ways (int_eq head l) (not-true (int_eq head l) a.0) (subst (λ (m : ℤ). IsTrue (int_eq head m)) (sym (same_lit l head e)) (lit_itself head)))

@@ -1,21 +1,18 @@
 -- Rows of walks along the possibly present edges as they are made and brought up to date, and the atoms that are due then.
-use Rattle.std.proofs.Common.{◌≡◌, ℕ, ◌+◌, ◌<◌, Bool, true, false, List, [], ◌∷◌, ◌++◌, length, map, get_or, set, refl, sym, ap, subst, ◌∙◌, inl, inr, arith, pos, int_lt, None}
+use Rattle.std.proofs.Common.{◌≡◌, ℕ, ◌+◌, ◌<◌, Bool, true, false, List, [], ◌∷◌, ◌++◌, length, map, get_or, set, refl, sym, ap, subst, ◌∙◌, inl, inr, arith, None}
 use Rattle.std.specs.Prelude.{IsTrue, All, ◌^◌}
 use Rattle.std.proofs.lemmas.Bool.{cases_lt, cases_eq, both_ways}
 use Rattle.std.proofs.lemmas.List.{get_or-map, get_or-set_same, get_or-set_other, get_or_append_left, get_or_default, get_or_past, length-append, length-map, length-set}
 use Rattle.std.proofs.Math.Seq.{get_or-append_seam}
 use Rattle.mono_base.specs.Worklist.{is_listed}
-use Rattle.mono_graph.specs.declared.limit.Limit.{Limit}
-use Rattle.mono_graph.specs.declared.limit.Limit.TheVariants as limit
 use Rattle.mono_graph.specs.Digraph.{Digraph, has}
-use Rattle.mono_graph.specs.Walks.{bound_of}
 use Rattle.mono_graph.proofs.Membership.{has_here}
 use Rattle.mono_dynamic.specs.declared.cost_source.CostSource.{CostSource}
 use Rattle.mono_dynamic.specs.declared.walk_target.WalkTarget.{WalkTarget}
-use Rattle.mono_dynamic.specs.LeastRows.{measure_of}
-use Rattle.mono_dynamic.specs.Ways.{Ways, first_ways, no_target, IsTarget, IsTargetOf}
+use Rattle.mono_dynamic.specs.Ways.{Ways, no_target, IsTarget, IsTargetOf}
 use Rattle.mono_dynamic.specs.Targets.{Targets, TargetRows, no_targets, targets_at, unsearched, is_lacking, is_settled, IsOneChanged, IsSearchedRow}
 use Rattle.mono_dynamic.proofs.Lacking.{told_first}
+use Rattle.mono_dynamic.proofs.Lightest.{first_fits}
 use Rattle.mono_problem.specs.declared.atom.Atom.{Atom}
 use Rattle.mono_problem.specs.Read.{no_atom}
 use Rattle.mono_theory.specs.Asked.{asks_walk, no_source, source_at, target_of, AreOfAtoms, HasTarget, HaveRows}
@@ -89,17 +86,6 @@ first_at n sources before i is lt = ap (λ (r : TargetRows). targets_at r.rows i
 first_count : (n : ℕ) (sources : List CostSource) (before : TargetRows) → before ≡ first_rows n sources → length before.rows ≡ length sources
 first_count n sources before is = ap (λ (r : TargetRows). length r.rows) is ∙ length-map sources (unsearched n)
 
-free_below : (k : Limit) → measure_of k ≡ 0 → int_lt (bound_of k) (pos 1) ≡ true
-free_below limit.Free e = refl
-free_below (limit.Steps most) e = absurd (omega (arith, e))
-free_below (limit.Weight most) e = absurd (omega (arith, e))
-
--- the row from a source can be asked for the walks that it serves
-serves : (n u cap : ℕ) (l : Limit) (t : WalkTarget) → t.node < n → measure_of t.limit ≡ measure_of l → int_lt (bound_of t.limit) (pos cap) ≡ true → IsTargetOf (first_ways n (record { node = u; limit = l; cap = cap })) t
-serves n u cap limit.Free t known alike below = record { known = known; alike = alike; below = free_below t.limit alike }
-serves n u cap (limit.Steps most) t known alike below = record { known = known; alike = alike; below = below }
-serves n u cap (limit.Weight most) t known alike below = record { known = known; alike = alike; below = below }
-
 -- each atom's row is from where its walk begins
 pub own_first : {atoms : List Atom} {targets : List WalkTarget} {row_of : List ℕ} {sources : List CostSource} (n a : ℕ) (before : TargetRows) → before ≡ first_rows n sources → HaveRows atoms (length atoms) row_of sources → AreOfAtoms HasTarget atoms (length atoms) targets → All (λ t. t.node < n) targets → a < length atoms
     → IsTargetOf (targets_at before.rows (get_or row_of a 0)).ways (target_of (atom_at atoms a).predicate)
@@ -110,7 +96,7 @@ own_first {atoms = atoms} {targets = targets} {row_of = row_of} {sources = sourc
     let node = known a no_target (let len = ends.len in omega (arith, lt, len)) in
     let s = source_at sources r in
     subst (λ (x : Targets). IsTargetOf x.ways (target_of q)) (sym (first_at n sources before r is own.0))
-    (serves n s.node s.cap s.limit (target_of q) (subst (λ (t : WalkTarget). t.node < n) (ends.each a no_target lt).is node) (sym own.1.alike) own.1.beyond)
+    (first_fits n s (target_of q) (subst (λ (t : WalkTarget). t.node < n) (ends.each a no_target lt).is node) (sym own.1.alike) own.1.beyond)
 
 pub target_first : {atoms : List Atom} {targets : List WalkTarget} {row_of : List ℕ} {sources : List CostSource} (n a : ℕ) (before : TargetRows) → before ≡ first_rows n sources → HaveRows atoms (length atoms) row_of sources → AreOfAtoms HasTarget atoms (length atoms) targets → All (λ t. t.node < n) targets → a < length row_of
     → IsTargetOf (targets_at before.rows (get_or row_of a 0)).ways (target_at targets a)

@@ -1,7 +1,7 @@
 -- Witnesses that ask something of some present edges alone: they rest on those of them that are absent.
-use Rattle.std.proofs.Common.{◌≡◌, ℕ, ◌<◌, Bool, true, false, not, ◌&&◌, cond, List, [], ◌∷◌, ◌++◌, get_or, length, refl, sym, ap, subst, ◌∙◌, ◌⊎◌, inl, inr, arith}
+use Rattle.std.proofs.Common.{◌≡◌, ℕ, ◌<◌, Bool, true, false, not, ◌&&◌, ◌||◌, cond, List, [], ◌∷◌, ◌++◌, get_or, length, refl, sym, ap, subst, ◌∙◌, ◌⊎◌, inl, inr, arith}
 use Rattle.std.specs.Prelude.{IsTrue, flat_map}
-use Rattle.std.proofs.lemmas.Bool.{or_cases, and_parts, and_from, both_ways, not-true, not_from_false, cases_Bool, false_from_ne_true}
+use Rattle.std.proofs.lemmas.Bool.{or_cases, or_left, and_parts, and_from, both_ways, not-true, not_from_false, cases_Bool, false_from_ne_true}
 use Rattle.std.specs.List.{list_all}
 use Rattle.mono_graph.specs.declared.edge.Edge.{Edge}
 use Rattle.mono_graph.specs.Digraph.{Digraph, IsSubpart, edge_at, present, places, leaving, entering, leads_out, crosses, has}
@@ -13,7 +13,7 @@ use Rattle.mono_steps.specs.declared.lemma.Witness.TheVariants as by
 use Rattle.mono_steps.specs.Witnesses.{rests_on_present, is_small, names_known, passes}
 use Rattle.mono_theory.specs.declared.evidence.Evidence.{Evidence}
 use Rattle.mono_theory.specs.Evidences.{only, all_but, uses, IsEvidence}
-use Rattle.mono_theory.specs.Resting.{AreAbsent, AreAlike, absent_from, absent_into, absent_out, absent_across}
+use Rattle.mono_theory.specs.Resting.{AreAbsent, AreAlike, absent_joining, absent_from, absent_into, absent_out, absent_across}
 use Rattle.mono_theory.proofs.EvidenceDecides.{not_in_all_but, in_all_but}
 use Rattle.mono_graph.proofs.Pigeons.{all_has}
 use Rattle.mono_theory.proofs.WalksAsEvidence.{all_by}
@@ -42,6 +42,20 @@ pub alike_none : {test : Edge → Bool} {g : Digraph} {P Q : List Bool} → AreA
 alike_none {test = test} {g = g} {P = P} {Q = Q} h =
     list_all_agree (λ k. not (present P k && test (edge_at g k))) (λ k. not (present Q k && test (edge_at g k))) 0 (length g.edges) (λ k lo hi.
     same_where_passed (present P k) (present Q k) (test (edge_at g k)) (λ t. h.each k (omega (arith, hi)) t))
+
+-- a test that each present edge passes, where the parts agree on the edges that don't
+same_where_failed : (p q b : Bool) → (IsTrue (not b) → p ≡ q) → (not p || b) ≡ (not q || b)
+same_where_failed p q false e = ap (λ c. not c || false) (e refl)
+same_where_failed true true true e = refl
+same_where_failed true false true e = refl
+same_where_failed false true true e = refl
+same_where_failed false false true e = refl
+
+pub alike_each : (test : Edge → Bool) (g : Digraph) (P Q : List Bool) → AreAlike (λ e. not (test e)) g P Q
+    → list_all (λ k. not (present P k) || test (edge_at g k)) (places g) ≡ list_all (λ k. not (present Q k) || test (edge_at g k)) (places g)
+alike_each test g P Q h =
+    list_all_agree (λ k. not (present P k) || test (edge_at g k)) (λ k. not (present Q k) || test (edge_at g k)) 0 (length g.edges) (λ k lo hi.
+    same_where_failed (present P k) (present Q k) (test (edge_at g k)) (λ t. h.each k (omega (arith, hi)) t))
 
 -- ---- evidence
 
@@ -90,18 +104,27 @@ flat_has f (w ∷ us) k h = elim (has_append_cases (f w) (flat_map f us) k h) [
   | inr later ↦ (let r = flat_has f us k later in record { node = r.node; member = has_there w r.node us r.member; here = r.here })
 ]
 
+-- of some edges, one that is absent and joins the set with the rest, and the other way about
+joining_has : (g : Digraph) (P : List Bool) (s ks : List ℕ) (k : ℕ) → IsTrue (has (absent_joining g P s ks) k) → IsTrue (has ks k) × (present P k ≡ false)
+joining_has g P s ks k h =
+    let f = filter_has (λ j. not (present P j) && crosses s (edge_at g j)) ks k h in
+    (f.0, not-true (present P k) (and_parts (not (present P k)) (crosses s (edge_at g k)) f.1).0)
+
+has_joining : (g : Digraph) (P : List Bool) (s ks : List ℕ) (k : ℕ) → IsTrue (has ks k) → present P k ≡ false → IsTrue (crosses s (edge_at g k)) → IsTrue (has (absent_joining g P s ks) k)
+has_joining g P s ks k here off joins =
+    has_filter (λ j. not (present P j) && crosses s (edge_at g j)) ks k here (and_from (not (present P k)) (crosses s (edge_at g k)) (not_from_false (present P k) off) joins)
+
 pub leaving_are_absent : (g : Digraph) (P : List Bool) (s : List ℕ) → AreAbsent (leads_out s) g P (absent_out g P s)
 leaving_are_absent g P s = record {
   absent = all_by (λ k. (k < length g.edges) × (present P k ≡ false)) (absent_out g P s) (λ k h.
       let r = flat_has (absent_from g P s) s k h in
-      let f = filter_has (λ j. not (present P j) && not (has s (edge_at g j).to)) (leaving g r.node) k r.here in
-      let a = and_parts (not (present P k)) (not (has s (edge_at g k).to)) f.1 in
-      ((places_at (λ e. e.from) g r.node k f.0).0, not-true (present P k) a.0));
+      let f = joining_has g P s (leaving g r.node) k r.here in
+      ((places_at (λ e. e.from) g r.node k f.0).0, f.1));
   all = λ k lt t off.
       let a = and_parts (has s (edge_at g k).from) (not (has s (edge_at g k).to)) t in
-      has_flat (absent_from g P s) s (edge_at g k).from k a.0
-      (has_filter (λ j. not (present P j) && not (has s (edge_at g j).to)) (leaving g (edge_at g k).from) k (at_places (λ e. e.from) g (edge_at g k).from k lt refl)
-      (and_from (not (present P k)) (not (has s (edge_at g k).to)) (not_from_false (present P k) off) a.1));
+      let u : ℕ = (edge_at g k).from in
+      has_flat (absent_from g P s) s u k a.0
+      (has_joining g P s (leaving g u) k (at_places (λ e. e.from) g u k lt refl) off (or_left (leads_out s (edge_at g k)) (has s (edge_at g k).to && not (has s (edge_at g k).from)) t));
 }
 
 -- ---- the edges that join a set with the rest
@@ -121,25 +144,17 @@ crossing_are_absent g P s = record {
   absent = all_by (λ k. (k < length g.edges) × (present P k ≡ false)) (absent_across g P s) (λ k h.
       let r = flat_has (across_at g P s) s k h in
       elim (has_append_cases (absent_from g P s r.node) (absent_into g P s r.node) k r.here) [
-        | inl out ↦ (
-            let f = filter_has (λ j. not (present P j) && not (has s (edge_at g j).to)) (leaving g r.node) k out in
-            ((places_at (λ e. e.from) g r.node k f.0).0, not-true (present P k) (and_parts (not (present P k)) (not (has s (edge_at g k).to)) f.1).0))
-        | inr back ↦ (
-            let f = filter_has (λ j. not (present P j) && not (has s (edge_at g j).from)) (entering g r.node) k back in
-            ((places_at (λ e. e.to) g r.node k f.0).0, not-true (present P k) (and_parts (not (present P k)) (not (has s (edge_at g k).from)) f.1).0))
+        | inl out ↦ (let f = joining_has g P s (leaving g r.node) k out in ((places_at (λ e. e.from) g r.node k f.0).0, f.1))
+        | inr back ↦ (let f = joining_has g P s (entering g r.node) k back in ((places_at (λ e. e.to) g r.node k f.0).0, f.1))
       ]);
   all = λ k lt t off. elim (cross_cases s (edge_at g k) t) [
     | inl out ↦ (
-        let a = and_parts (has s (edge_at g k).from) (not (has s (edge_at g k).to)) out in
         let u : ℕ = (edge_at g k).from in
-        has_flat (across_at g P s) s u k a.0
-        (has_append_left (absent_from g P s u) (absent_into g P s u) k (has_filter (λ j. not (present P j) && not (has s (edge_at g j).to)) (leaving g u) k (at_places (λ e. e.from) g u k lt refl)
-        (and_from (not (present P k)) (not (has s (edge_at g k).to)) (not_from_false (present P k) off) a.1))))
+        has_flat (across_at g P s) s u k (and_parts (has s (edge_at g k).from) (not (has s (edge_at g k).to)) out).0
+        (has_append_left (absent_from g P s u) (absent_into g P s u) k (has_joining g P s (leaving g u) k (at_places (λ e. e.from) g u k lt refl) off t)))
     | inr back ↦ (
         let u : ℕ = (edge_at g k).to in
-        has_flat (across_at g P s) s u k back.0
-        (has_append_right (absent_from g P s u) (absent_into g P s u) k (has_filter (λ j. not (present P j) && not (has s (edge_at g j).from)) (entering g u) k (at_places (λ e. e.to) g u k lt refl)
-        (and_from (not (present P k)) (not (has s (edge_at g k).from)) (not_from_false (present P k) off) back.1))))
+        has_flat (across_at g P s) s u k back.0 (has_append_right (absent_from g P s u) (absent_into g P s u) k (has_joining g P s (entering g u) k (at_places (λ e. e.to) g u k lt refl) off t)))
   ];
 }
 

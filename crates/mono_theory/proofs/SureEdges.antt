@@ -11,7 +11,7 @@ use Rattle.mono_graph.specs.Digraph.{Digraph, IsSubpart, is_place, present, has}
 use Rattle.mono_graph.specs.Walks.{is_walk}
 use Rattle.mono_graph.proofs.Parts.{part_by-larger, in_part_by}
 use Rattle.mono_dynamic.specs.Arrivals.{IsGrown, GrowsAfter}
-use Rattle.mono_dynamic.proofs.Exact.{walks}
+use Rattle.mono_graph.proofs.GrownWalks.{walks}
 use Rattle.mono_problem.specs.Quiet.{under}
 use Rattle.mono_theory.specs.Bound.{Bound, edge_vars, assigned, IsBoundOf}
 use Rattle.mono_theory.specs.Index.{ArePlacesOf, switched}
@@ -28,7 +28,7 @@ sure_larger g t m n le =
     part_by-larger (λ e. is_true_in (take m t) (pos e.var)) (λ e. is_true_in (take n t) (pos e.var)) g
     (λ e h. has_lit-take m (take n t) (pos e.var) (subst (λ (u : List ℤ). IsTrue (has_lit u (pos e.var))) (sym (take-take m n t le)) h))
 
--- the same where all literals were looked at
+-- where all literals were looked at, their edges are those of all literals seen
 pub sure_all : (f : Facts) (n : ℕ) → n ≡ length f.seen → sure_parts f n ≡ under f.graph f.seen
 sure_all f n e = ap (under f.graph) (take_all n f.seen (omega (arith, e)))
 
@@ -77,7 +77,7 @@ sure_grown f n l b ks lt at partial h up places = record {
       (subst (λ (Q : List Bool). IsGrown b.under Q ks) (sym (ap (λ c. cond c (switched b.vars (nat_abs l) true b.under) b.under) up)) (switched_grows b.vars (nat_abs l) b.under ks (bound_len h) places));
 }
 
--- the same of the bounds that it leaves
+-- a positive literal brings the edges of its variable: `b` are the bounds that it leaves
 pub bounds_grown : (f : Facts) (n : ℕ) (l : ℤ) (b : Bound) (ks : List ℕ) → n < length f.seen → get_or f.seen n l ≡ l → IsTrue (is_partial f.seen) → IsBoundOf b (edge_vars f.graph) (take (n + 1) f.seen)
     → int_lt (pos 0) l ≡ true → ArePlacesOf b.vars (nat_abs l) ks → GrowsAfter (sure_parts f) n (n + 1) b.under ks
 bounds_grown f n l b ks lt at partial h up places =
@@ -93,6 +93,13 @@ bounds_grown f n l b ks lt at partial h up places =
 pub sure_still : (f : Facts) (n : ℕ) (l : ℤ) → n < length f.seen → get_or f.seen n l ≡ l → IsTrue (is_lit l) → int_lt (pos 0) l ≡ false → sure_parts f (n + 1) ≡ sure_parts f n
 sure_still f n l lt at lit down =
     ap (under f.graph) (take_more f.seen n l lt ∙ ap (λ (m : ℤ). take n f.seen ++ m ∷ []) at) ∙ other_sign f.graph (take n f.seen) l false lit down
+
+-- the edges that a literal leaves as they are are those from the literals before it on, up to it
+pub still_until : (f : Facts) (n : ℕ) → sure_parts f (n + 1) ≡ sure_parts f n → (m : ℕ) → n ≤ m → m ≤ n + 1 → sure_parts f m ≡ sure_parts f n
+still_until f n same m low high = elim (cases_lt n m) [
+  | inl more ↦ ap (sure_parts f) (omega (arith, more, high)) ∙ same
+  | inr le ↦ ap (sure_parts f) (omega (arith, low, le))
+]
 
 -- ---- the first literals
 

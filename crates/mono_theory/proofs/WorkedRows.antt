@@ -1,16 +1,20 @@
--- Worked rows of lemmas.
-use Rattle.std.proofs.Common.{ℕ, zero, suc, ◌<◌, true, [], ◌∷◌, get_or, refl, inl, arith, ℤ, pos}
+-- Worked rows of lemmas, and small states of sides that the rows of theories share.
+use Rattle.std.proofs.Common.{◌≡◌, ℕ, length, zero, suc, ◌<◌, true, [], ◌∷◌, get_or, refl, inl, arith, ℤ, pos}
 use Rattle.std.specs.Prelude.{IsTrue}
 use Rattle.std.proofs.lemmas.Bool.{and_parts}
 use Rattle.mono_base.specs.Literal.{var_of}
 use Rattle.mono_graph.specs.Worked.{parallel}
 use Rattle.mono_graph.specs.Walks.{is_walk}
 use Rattle.mono_graph.proofs.CutsBoundWalks.{cut_excludes}
+use Rattle.mono_dynamic.specs.Targets.{Targets, is_settled, targets_at}
 use Rattle.mono_problem.specs.declared.atom.Predicate.TheVariants as kind
 use Rattle.mono_problem.specs.Holds.{Holds}
 use Rattle.mono_problem.specs.Quiet.{TheoryQuiet, under}
 use Rattle.mono_steps.specs.declared.lemma.Witness.TheVariants as by
 use Rattle.mono_steps.specs.WorkedLemmas.{minus, of_1}
+use Rattle.mono_theory.specs.declared.stage.Stage.{Stage}
+use Rattle.mono_theory.specs.declared.stage.Stage.TheVariants as stage
+use Rattle.mono_theory.specs.Stages.{NoneWaits}
 use Rattle.mono_theory.specs.Theories.{IsForced, IsLemmaFor, IsLemmaOf, concerns_of}
 use Rattle.mono_theory.specs.Worked.{reaches, walk_along}
 use Rattle.mono_theory.proofs.ForcedAndExplained.{finding_by}
@@ -47,3 +51,14 @@ none_of_another_variable h = let e = h.concerned 2 (pos 0) (omega arith) in absu
 
 pub none_beside : IsLemmaOf (parallel 1 1) reaches (pos 1 ∷ minus 9 ∷ []) 1 (pos 3) (of_1 (minus 1 ∷ pos 3 ∷ pos 9 ∷ []) (by.Path (1 ∷ []))) → ⊥
 none_beside h = let e = h.concerned 2 (pos 0) (omega arith) in absurd cc
+
+-- ---- sides of one atom, and two rows
+
+pub one_stage : (s : Stage) → (s ≡ stage.Waits → ⊥) → NoneWaits (s ∷ [])
+one_stage s other zero d lt = other
+one_stage s other (suc k) d lt = absurd (omega (arith, lt))
+
+pub two_rows : (r s : Targets) → is_settled r ≡ true → is_settled s ≡ true → (i : ℕ) → i < length (r ∷ s ∷ []) → is_settled (targets_at (r ∷ s ∷ []) i) ≡ true
+two_rows r s first second zero lt = first
+two_rows r s first second (suc zero) lt = second
+two_rows r s first second (suc (suc i)) lt = absurd (omega (arith, lt))

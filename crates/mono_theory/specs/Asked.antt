@@ -9,7 +9,6 @@ use Rattle.mono_dynamic.specs.LeastRows.{measure_of}
 use Rattle.mono_problem.specs.declared.atom.Atom.{Atom}
 use Rattle.mono_problem.specs.declared.atom.Predicate.{Predicate}
 use Rattle.mono_problem.specs.declared.atom.Predicate.TheVariants as kind
-use Rattle.mono_problem.specs.WellFormed.{IsMost}
 use Rattle.mono_theory.specs.Supports.{atom_at}
 
 abbrev pub asks_walk : Predicate → Bool
@@ -46,16 +45,17 @@ predicate_of u v (limit.Weight most) = kind.Distance u v most
 abbrev pub target_of : Predicate → WalkTarget
 target_of q = record { node = last_node q; limit = limit_of q }
 
--- the limit has no bound, or one that a predicate may have
-abbrev pub IsBounded : Limit → Type 0
-IsBounded limit.Free = Unit {0}
-IsBounded (limit.Steps most) = IsMost most
-IsBounded (limit.Weight most) = IsMost most
-
 -- of the first n atoms, what is such of their predicates
 pub record AreOfAtoms {X : Type 0} (Is : Predicate → X → Type 0) (atoms : List Atom) (n : ℕ) (xs : List X) : Type 0 where
   pub len : length xs ≡ n
   pub each : (a : ℕ) (d : X) → a < n → Is (atom_at atoms a).predicate (slice_index_or xs a d)
+
+-- the node is the one at which the predicate's walk begins, or to which it is to lead
+abbrev pub HasFirst : Predicate → ℕ → Type 0
+HasFirst q u = u ≡ first_node q
+
+abbrev pub HasLast : Predicate → ℕ → Type 0
+HasLast q v = v ≡ last_node q
 
 -- the predicate asks for a walk, and it is to lead there
 pub record HasTarget (q : Predicate) (t : WalkTarget) : Type 0 where
@@ -79,4 +79,5 @@ pub record IsSourceFor (q : Predicate) (s : CostSource) : Type 0 where
 -- each of the first n atoms has a row that serves its predicate
 pub record HaveRows (atoms : List Atom) (n : ℕ) (row_of : List ℕ) (sources : List CostSource) : Type 0 where
   pub len : length row_of ≡ n
-  pub each : (a : ℕ) → a < n → (slice_index_or row_of a 0 < length sources) × IsSourceFor (atom_at atoms a).predicate (source_at sources (slice_index_or row_of a 0))
+  pub each : (a : ℕ) → a < n → (slice_index_or row_of a 0 < length sources)
+      × IsSourceFor (atom_at atoms a).predicate (source_at sources (slice_index_or row_of a 0))

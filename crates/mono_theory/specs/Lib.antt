@@ -18,6 +18,7 @@ pub mod DueAtoms
 pub mod RowSides
 pub mod EitherSides
 pub mod SureParts
+pub mod SureRows
 pub mod DueNodes
 pub mod Asked
 pub mod PossibleRows

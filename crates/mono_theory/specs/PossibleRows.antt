@@ -71,7 +71,7 @@ pub record IsRenewedRow (g : Digraph) (P : List Bool) (number : ℕ) (old new : 
   pub targets : new.targets ≡ old.targets
   pub told : (parts : ℕ → List Bool) → parts number ≡ P → OnlyShrink parts number → AreTold g parts number old → AreTold g parts number new
 
--- so has each row changed
+-- each row has changed as the relation says
 pub record AreEach (Is : Targets → Targets → Type 0) (olds news : List Targets) : Type 0 where
   pub len : length news ≡ length olds
   pub each : (i : ℕ) → i < length olds → Is (targets_at olds i) (targets_at news i)

@@ -17,7 +17,8 @@ pub record RowsView (R : Type 0) : Type 0 where
 
 -- what rows don't show of an atom is decided the other way: it owes nothing on the side
 pub record DecidesRest (f : Facts) (possible : Bool) (shown : ℕ → Bool) : Type 0 where
-  pub each : (a : ℕ) → a < length f.atoms → shown a ≡ false → Decides f.graph (part_of f.graph f.seen possible) (atom_at f.atoms a).predicate (shown_by (atom_at f.atoms a).predicate possible)
+  pub each : (a : ℕ) → a < length f.atoms → shown a ≡ false
+      → Decides f.graph (part_of f.graph f.seen possible) (atom_at f.atoms a).predicate (shown_by (atom_at f.atoms a).predicate possible)
 
 -- each atom that isn't due is settled by the literals, if the rows show something of it
 pub record AreSettledBut (t : List ℤ) (possible : Bool) (atoms : List Atom) (shown : ℕ → Bool) (due : List Bool) : Type 0 where
@@ -26,12 +27,17 @@ pub record AreSettledBut (t : List ℤ) (possible : Bool) (atoms : List Atom) (s
 
 -- The atoms are of the kind, and the rows are right for the literals that were looked at. So are the bounds, and each atom of
 -- which the rows show something is due or settled by these literals.
-pub record AreRowsFor {R : Type 0} (covers : Predicate → Bool) (possible : Bool) (are_right : R → Facts → Type 0) (shown : R → ℕ → Bool) (f : Facts) (s : RowsView R) : Type 0 where
+pub record AreRowsFor {R : Type 0} (covers : Predicate → Bool) (possible : Bool) (are_right : R → Facts → Type 0)
+    (shown : R → ℕ → Bool) (f : Facts) (s : RowsView R) : Type 0 where
   pub covered : AreCovered covers f.atoms
   pub bounds : IsBoundOf s.bounds (edge_vars f.graph) (take s.looked f.seen)
   pub looked : s.looked ≤ length f.seen
   pub rows : are_right s.rows (cut_to s.looked f)
   pub due : AreSettledBut (take s.looked f.seen) possible f.atoms (shown s.rows) s.due
+
+-- rows that change with each literal are always up to date
+abbrev pub AlwaysStand : {R : Type 0} → R → Facts → Type 0
+AlwaysStand s f = Unit {0}
 
 -- all literals were looked at, and the rows are up to date
 pub record AreUpToDate {R : Type 0} (stands : R → Facts → Type 0) (f : Facts) (s : RowsView R) : Type 0 where

@@ -92,11 +92,19 @@ pub record IsKeptBy (g : Digraph) (possible : Bool) (l : ℤ) (s r : SideView) :
 
 -- The literals after the first `kept` went. An atom waits where it was shown by one of them. All else is kept.
 abbrev pub gone_back : ℕ → SideView → SideView
-gone_back kept s = record { possible = s.possible; supports = s.supports; shown = s.shown; watchers = s.watchers; stages = map (undone kept) s.stages; thorough = s.thorough }
+gone_back kept s = record {
+  possible = s.possible;
+  supports = s.supports;
+  shown = s.shown;
+  watchers = s.watchers;
+  stages = map (undone kept) s.stages;
+  thorough = s.thorough;
+}
 
 -- each atom is settled, or its predicate is decided as supports show it: it owes nothing on this side
 pub record AllQuiet (f : Facts) (possible : Bool) : Type 0 where
-  pub each : (a : ℕ) → a < length f.atoms → IsSettled f.seen possible (atom_at f.atoms a) ⊎ Decides f.graph (part_of f.graph f.seen possible) (atom_at f.atoms a).predicate (shown_by (atom_at f.atoms a).predicate possible)
+  pub each : (a : ℕ) → a < length f.atoms → IsSettled f.seen possible (atom_at f.atoms a)
+      ⊎ Decides f.graph (part_of f.graph f.seen possible) (atom_at f.atoms a).predicate (shown_by (atom_at f.atoms a).predicate possible)
 
 -- the answer of a side: no atom owes anything, or one forces a literal that isn't true
 abbrev pub SideIs : Facts → Bool → Force → Type 0
@@ -120,7 +128,14 @@ pub record IsFewer (s r : SideView) : Type 0 where
 
 -- nothing has changed but what atoms watch
 abbrev pub with_watchers : SideView → List (List Watch) → SideView
-with_watchers s watchers = record { possible = s.possible; supports = s.supports; shown = s.shown; watchers = watchers; stages = s.stages; thorough = s.thorough }
+with_watchers s watchers = record {
+  possible = s.possible;
+  supports = s.supports;
+  shown = s.shown;
+  watchers = watchers;
+  stages = s.stages;
+  thorough = s.thorough;
+}
 
 -- what looking at an atom answers: one fewer waits, or it forces a literal that isn't true
 abbrev pub ExamineIs : Facts → SideView → SideView → Force → Type 0
@@ -143,7 +158,8 @@ pub record IsSideOf (f : Facts) (possible : Bool) (is_right : Facts → Type 0) 
 
 -- The atoms are of the kind, which serves graphs with so many nodes. What is kept of them with the surely present edges is
 -- right, and so is what is kept with the possibly present ones.
-pub record IsKept (covers : Predicate → Bool) (nodes : ℕ) (f : Facts) (low : Facts → Type 0) (low_sign : Bool) (high : Facts → Type 0) (high_sign : Bool) : Type 0 where
+pub record IsKept (covers : Predicate → Bool) (nodes : ℕ) (f : Facts) (low : Facts → Type 0) (low_sign : Bool)
+    (high : Facts → Type 0) (high_sign : Bool) : Type 0 where
   pub covered : AreCovered covers f.atoms
   pub size : nodes ≡ f.graph.nodes
   pub surely : IsSideOf f false low low_sign

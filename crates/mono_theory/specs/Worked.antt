@@ -10,7 +10,7 @@ use Rattle.mono_steps.specs.WorkedLemmas.{minus, of_1}
 abbrev pub reaches : List Atom
 reaches = record { number = 1; graph = 0; var = 3; predicate = kind.Reach 0 1 } ∷ []
 
--- the same predicate by the numbers 1 and 2
+-- two atoms of that predicate and variable, by the numbers 1 and 2
 abbrev pub twice : List Atom
 twice = record { number = 1; graph = 0; var = 3; predicate = kind.Reach 0 1 } ∷ record { number = 2; graph = 0; var = 3; predicate = kind.Reach 0 1 } ∷ []
 

@@ -3,13 +3,11 @@
 //! Reachability and distances ask for a walk between two nodes, of any cost or within a limit. Atoms whose walks begin at one
 //! node and are measured alike share what is searched from there.
 
-ghost use Rattle.std.specs.Prelude.{◌≡◌, ◌+◌, ◌<◌, ◌≤◌, ◌+ℤ◌, ℕ, pos, All, IfOk, IsTrue, length};
-ghost use Rattle.mono_base.specs.declared.limits.TheConstants.{MAX_BOUND};
-ghost use Rattle.mono_graph.specs.Walks.{bound_of};
-ghost use Rattle.mono_problem.specs.WellFormed.{IsMost};
+ghost use Rattle.std.specs.Prelude.{◌≡◌, ◌<◌, ◌≤◌, ℕ, All, IfOk, IsTrue, length};
+ghost use Rattle.mono_graph.specs.Walks.{IsBounded};
 ghost use Rattle.mono_dynamic.specs.LeastRows.{IsCostSource};
 ghost use Rattle.mono_theory.specs.Supports.{AreCovered};
-ghost use Rattle.mono_theory.specs.Asked.{predicate_of, AreOfAtoms, HasTarget, HaveRows, IsBounded, IsSourceFor};
+ghost use Rattle.mono_theory.specs.Asked.{predicate_of, AreOfAtoms, HasLast, HasTarget, HaveRows, IsSourceFor};
 
 use crate::{Frame, Kind};
 use mono_dynamic::{CostSource, Sources, WalkTarget};
@@ -39,28 +37,6 @@ pub trait AsksWalk: Kind {
         ensures { predicate ≡ predicate_of result.from result.to result.limit };
 }
 
-/// One more than a bound from -1 on.
-fn above(most: i64) -> u64
-    requires { IsMost most }
-    ensures value { pos result ≡ most +ℤ pos 1 }
-    ensures small { result ≤ MAX_BOUND + 1 }
-{
-    (most + 1) as u64
-}
-
-/// One more than the bound of a limit: each walk within it costs less.
-fn cap_of(limit: Limit) -> u64
-    requires { IsBounded limit }
-    ensures value { pos result ≡ bound_of limit +ℤ pos 1 }
-    ensures small { result ≤ MAX_BOUND + 1 }
-{
-    match limit {
-        Limit::Free => 1,
-        Limit::Steps(most) => above(most),
-        Limit::Weight(most) => above(most),
-    }
-}
-
 /// From where a walk is searched, and up to what it may cost.
 fn source_for(asked: Asked) -> CostSource
     requires { IsBounded asked.limit }
@@ -70,7 +46,7 @@ fn source_for(asked: Asked) -> CostSource
     CostSource {
         node: asked.from,
         limit: asked.limit,
-        cap: cap_of(asked.limit),
+        cap: asked.limit.cap(),
     }
 }
 
@@ -104,6 +80,19 @@ pub fn targets_of<K: AsksWalk>(alloc: Global, frame: &Frame) -> Result<Vec<WalkT
         })?;
     }
     Ok(targets)
+}
+
+/// The nodes to which the walks of the atoms of a frame are to lead, by place of the atom.
+pub fn last_nodes<K: AsksWalk>(alloc: Global, frame: &Frame) -> Result<Vec<u32>, AllocError>
+    requires { AreCovered K.covers frame.now.atoms }
+    ensures { IfOk result (λ v. AreOfAtoms HasLast frame.now.atoms (length frame.now.atoms) v.items) }
+{
+    let mut nodes = Vec::new(alloc);
+    for place in 0..frame.atom_count() {
+        let atom = frame.atom_at(place);
+        nodes.push(K::asked(atom.predicate).to)?;
+    }
+    Ok(nodes)
 }
 
 /// From where the walks of the atoms of a frame are searched, each node and measure once, and for each atom which of them is its

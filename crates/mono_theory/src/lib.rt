@@ -47,6 +47,8 @@ mod side;
 mod stage;
 /// The stages of the atoms, and which to look at next.
 mod stages;
+/// Rows along the surely present edges.
+mod sure_rows;
 /// What theories answer.
 mod theory;
 /// The edges that atoms would have present.
@@ -60,7 +62,7 @@ pub mod walks;
 /// Rows of lemmas that were worked by hand.
 pub mod worked;
 
-pub use asked::{Asked, AsksWalk, sources_of, targets_of};
+pub use asked::{Asked, AsksWalk, last_nodes, sources_of, targets_of};
 pub use atoms_by_node::AtomsByNode;
 pub use bounds::Bounds;
 pub use either_side::EitherSide;
@@ -75,4 +77,5 @@ pub use rows::Rows;
 pub use rows_side::RowsSide;
 pub use side::{NewSide, Side};
 pub use stage::Stage;
+pub use sure_rows::SureRows;
 pub use theory::{Finding, Force, Theory};

@@ -4,9 +4,9 @@
 
 ghost use Rattle.std.specs.Prelude.{◌≡◌, ◌<◌, ◌++◌, ℕ, List, false, length, All, IfOk, slice_index_or};
 ghost use Rattle.mono_graph.specs.Digraph.{IsPartOf, has};
-ghost use Rattle.mono_theory.specs.Resting.{absent_from, absent_into, absent_out, absent_across};
+ghost use Rattle.mono_theory.specs.Resting.{absent_across, absent_joining, absent_out, is_joining};
 
-use mono_graph::{Graph, Part, mark, unmark};
+use mono_graph::{Edge, Graph, Part, mark, unmark};
 use std::alloc::{AllocError, Global};
 use std::marker::Model;
 
@@ -28,46 +28,35 @@ impl Model for NodeMarks {
     ghost invariant = { λ m. AreClear m.marks.items };
 }
 
-/// Adds the absent edges that leave a node for one that isn't marked.
-fn push_leaving(
-    graph: &Graph,
-    part: &Part,
-    marks: &[bool],
-    node: u32,
-    edges: &mut Vec<u32>,
-) -> Result<(), AllocError>
-    requires part { IsPartOf part.now graph.now }
-    requires node { node < graph.now.nodes }
-    requires len { length marks.now ≡ graph.now.nodes }
-    ensures { (nodes : List ℕ) → ((u : ℕ) → slice_index_or marks.now u false ≡ has nodes u)
-        → IfOk result (λ _. edges.new.items ≡ edges.old.items ++ absent_from graph.now part.now nodes node) }
+/// Whether the edge joins a marked node with one that isn't.
+fn joins(marks: &[bool], edge: Edge) -> bool
+    requires from { edge.from < length marks.now }
+    requires to { edge.to < length marks.now }
+    ensures { result ≡ is_joining marks.now edge }
 {
-    for place in graph.leaving(node) {
-        let edge = graph.edge(*place);
-        if !part.has(*place) && !marks[edge.to as usize] {
-            edges.push(*place)?;
-        }
-    }
-    Ok(())
+    let from = marks[edge.from as usize];
+    let to = marks[edge.to as usize];
+    (from && !to) || (to && !from)
 }
 
-/// Adds the absent edges that enter a node from one that isn't marked.
-fn push_entering(
+/// Adds those of these edges that are absent and join a marked node with one that isn't.
+fn push_joining(
     graph: &Graph,
     part: &Part,
     marks: &[bool],
-    node: u32,
+    places: &[u32],
     edges: &mut Vec<u32>,
 ) -> Result<(), AllocError>
     requires part { IsPartOf part.now graph.now }
-    requires node { node < graph.now.nodes }
+    requires places { All (λ k. k < length graph.now.edges) places.now }
     requires len { length marks.now ≡ graph.now.nodes }
     ensures { (nodes : List ℕ) → ((u : ℕ) → slice_index_or marks.now u false ≡ has nodes u)
-        → IfOk result (λ _. edges.new.items ≡ edges.old.items ++ absent_into graph.now part.now nodes node) }
+        → IfOk result (λ _. edges.new.items ≡ edges.old.items ++ absent_joining graph.now part.now nodes places.now) }
 {
-    for place in graph.entering(node) {
-        let edge = graph.edge(*place);
-        if !part.has(*place) && !marks[edge.from as usize] {
+    // The edges of a graph lead between its nodes.
+    let _ = graph.nodes();
+    for place in places {
+        if !part.has(*place) && joins(marks, graph.edge(*place)) {
             edges.push(*place)?;
         }
     }
@@ -90,7 +79,7 @@ fn leaving_marked(
 {
     let mut edges = Vec::new(alloc);
     for node in nodes {
-        push_leaving(graph, part, marks, *node, &mut edges)?;
+        push_joining(graph, part, marks, graph.leaving(*node), &mut edges)?;
     }
     Ok(edges)
 }
@@ -111,8 +100,8 @@ fn crossing_marked(
 {
     let mut edges = Vec::new(alloc);
     for node in nodes {
-        push_leaving(graph, part, marks, *node, &mut edges)?;
-        push_entering(graph, part, marks, *node, &mut edges)?;
+        push_joining(graph, part, marks, graph.leaving(*node), &mut edges)?;
+        push_joining(graph, part, marks, graph.entering(*node), &mut edges)?;
     }
     Ok(edges)
 }

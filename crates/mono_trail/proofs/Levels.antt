@@ -161,6 +161,11 @@ at_least low [] top k c lt = absurd (omega (arith, lt))
 at_least low (m ∷ ms) top zero c lt = omega (arith, c.0, next_at_least m.reason low)
 at_least low (m ∷ ms) top (suc k) c lt = omega (arith, c.0, next_at_least m.reason low, at_least m.level ms top k c.1 (omega (arith, lt)))
 
+pub at_most : (low : ℕ) (ms : List Mark) (top k : ℕ) → Climbs low ms top → k < length ms → level_at ms k ≤ top
+at_most low [] top k c lt = absurd (omega (arith, lt))
+at_most low (m ∷ ms) top zero c lt = climbs_to m.level ms top c.1
+at_most low (m ∷ ms) top (suc k) c lt = at_most m.level ms top k c.1 (omega (arith, lt))
+
 pub up_to_level : (low : ℕ) (ms : List Mark) (top level k : ℕ) → Climbs low ms top → k < length ms → k < count_to level ms ↔ level_at ms k ≤ level
 up_to_level low [] top level k c lt = absurd (omega (arith, lt))
 up_to_level low (m ∷ ms) top level zero c lt = by_level (nat_le m.level level) refl
@@ -173,3 +178,12 @@ up_to_level low (m ∷ ms) top level (suc k) c lt = by_level (nat_le m.level lev
     by_level : (b : Bool) → nat_le m.level level ≡ b → (k < count_to level ms ↔ level_at ms k ≤ level) → m.level ≤ level_at ms k → suc k < cond b (count_to level ms + 1) 0 ↔ level_at ms k ≤ level
     by_level true e ih up = (λ h. ih.0 (omega (arith, h)), λ h. let g = ih.1 h in omega (arith, g))
     by_level false e ih up = (λ h. absurd (omega (arith, h)), λ h. absurd (omega (arith, h, up, leb-false m.level level e)))
+
+pub kept_low : (level : ℕ) (ms : List Mark) (k : ℕ) → k < count_to level ms → level_at ms k ≤ level
+kept_low level [] k lt = absurd (omega (arith, lt))
+kept_low level (m ∷ ms) k lt = by_level (nat_le m.level level) refl k lt (λ j. kept_low level ms j)
+  where
+    by_level : (b : Bool) → nat_le m.level level ≡ b → (k : ℕ) → k < cond b (count_to level ms + 1) 0 → ((j : ℕ) → j < count_to level ms → level_at ms j ≤ level) → level_at (m ∷ ms) k ≤ level
+    by_level false e k lt ih = absurd (omega (arith, lt))
+    by_level true e zero lt ih = leb-true m.level level e
+    by_level true e (suc k) lt ih = ih k (omega (arith, lt))

@@ -9,7 +9,7 @@ use Rattle.mono_base.specs.Partial.{has_var, is_open_in}
 use Rattle.mono_base.proofs.Partials.{open_is_new, new_is_open}
 use Rattle.mono_trail.specs.Kept.{ArePlaces}
 use Rattle.mono_trail.specs.declared.reason.Mark.{Mark}
-use Rattle.mono_trail.specs.Places.{place_in, no_mark}
+use Rattle.mono_trail.specs.Places.{place_in, mark_at, no_mark}
 use Rattle.mono_trail.specs.TrailView.{TrailView, IsSound}
 
 -- the variable's literal stands at this place of the list
@@ -106,6 +106,11 @@ mark_within {t} v k s e = omega (arith, (place_stands t.lits v k e).within, s.as
 
 pub mark_read : {t : TrailView} (v k : ℕ) (m : Mark) → IsSound t → place_in t.lits v ≡ Some k → m ≡ get_or t.marks k m → m ≡ get_or t.marks k no_mark
 mark_read {t} v k m s e r = get_or_read t.marks k m (mark_within v k s e) r no_mark
+
+-- and what that one says
+pub mark_says : {X : Type 0} (f : Mark → X) (ms : List Mark) (place : Option ℕ) (m : Option Mark) → m ≡ option_map (mark_at ms) place → option_map f m ≡ option_map (λ k. f (mark_at ms k)) place
+mark_says f ms None m e = ap (option_map f) e
+mark_says f ms (Some k) m e = ap (option_map f) e
 
 -- a variable is open where it has no place
 pub place_tells_open : (t : List ℤ) (v : ℕ) (none : Bool) → is_some (place_in t v) ≡ not none → none ≡ is_open_in t (pos v)

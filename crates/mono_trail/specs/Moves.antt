@@ -15,7 +15,9 @@ joined t l why = record t { lits = t.lits ++ l ∷ []; marks = t.marks ++ record
 
 -- literals above the level are dropped, and count as not given
 abbrev pub lowered : ℕ → TrailView → TrailView
-lowered level t = let n = count_to level t.marks in record t { lits = take n t.lits; marks = take n t.marks; level = level; given = min t.given n }
+lowered level t =
+    let n = count_to level t.marks in
+    record t { lits = take n t.lits; marks = take n t.marks; level = level; given = min t.given n }
 
 -- one literal more is given
 abbrev pub gave : TrailView → TrailView

@@ -1,4 +1,5 @@
--- The order of decision, as contracts see it: of each variable, variable 1 first, whether it stands in the order, and the sign last saved. Activities are no part of it.
+-- The order of decision, as contracts see it: of each variable, variable 1 first, whether it stands in the order, and the
+-- sign last saved. Activities are no part of it.
 use Rattle.std.specs.Prelude.{◌≡◌, ◌≢◌, ℕ, Bool, true, false, ℤ, pos, List, length, replicate, IsTrue}
 use Rattle.mono_base.specs.Literal.{value_in}
 use Rattle.mono_base.specs.Partial.{is_open_in}

@@ -10,12 +10,15 @@ abbrev pub place_in : List ℤ → ℕ → Option ℕ
 place_in [] v = None
 place_in (l ∷ t) v = if var_of l == v then Some 0 else option_map (λ k. k + 1) (place_in t v)
 
--- the mark at a place, and what it says
 abbrev pub no_mark : Mark
 no_mark = record { level = 0; reason = Late 0 0 }
 
+-- the mark at a place, and what it says
+abbrev pub mark_at : List Mark → ℕ → Mark
+mark_at ms k = slice_index_or ms k no_mark
+
 abbrev pub level_at : List Mark → ℕ → ℕ
-level_at ms k = (slice_index_or ms k no_mark).level
+level_at ms k = (mark_at ms k).level
 
 abbrev pub reason_at : List Mark → ℕ → Reason
-reason_at ms k = (slice_index_or ms k no_mark).reason
+reason_at ms k = (mark_at ms k).reason

@@ -12,7 +12,7 @@ ghost use Rattle.mono_base.specs.Partial.{is_open_in, value_by};
 ghost use Rattle.mono_trail.specs.declared.reason.Reason.TheVariants.{Decided};
 ghost use Rattle.mono_trail.specs.Kept.{starts_after, unvalued};
 ghost use Rattle.mono_trail.specs.Moves.{IsVar};
-ghost use Rattle.mono_trail.specs.Places.{place_in, level_at, reason_at};
+ghost use Rattle.mono_trail.specs.Places.{place_in, level_at, mark_at, reason_at};
 ghost use Rattle.mono_trail.specs.Seen.{IsUnseen};
 ghost use Rattle.mono_trail.specs.TrailView.{count_to, next_level};
 
@@ -145,13 +145,24 @@ impl Trail {
         }
     }
 
+    /// The level and the reason of a variable: `None` exactly where the variable is open.
+    fn mark_of(&self, var: u32) -> Option<Mark>
+        requires { IsVar self.now.vars var }
+        ensures { result ≡ option_map (mark_at self.now.marks) (place_in self.now.lits var) }
+    {
+        let place = self.place_of(var)?;
+        Some(self.marks[place as usize])
+    }
+
     /// The level of a variable: `None` exactly where the variable is open.
     pub fn level_of(&self, var: u32) -> Option<u32>
         requires { IsVar self.now.vars var }
         ensures { result ≡ option_map (level_at self.now.marks) (place_in self.now.lits var) }
     {
-        let place = self.place_of(var)?;
-        Some(self.marks[place as usize].level)
+        match self.mark_of(var) {
+            Some(mark) => Some(mark.level),
+            None => None,
+        }
     }
 
     /// How the literal of a variable came onto the trail: `None` exactly where the variable is open.
@@ -159,8 +170,10 @@ impl Trail {
         requires { IsVar self.now.vars var }
         ensures { result ≡ option_map (reason_at self.now.marks) (place_in self.now.lits var) }
     {
-        let place = self.place_of(var)?;
-        Some(self.marks[place as usize].reason)
+        match self.mark_of(var) {
+            Some(mark) => Some(mark.reason),
+            None => None,
+        }
     }
 
     /// A new level begins with the literal, which is open.

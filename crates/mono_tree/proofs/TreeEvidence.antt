@@ -1,12 +1,11 @@
 -- Trees and splits show whether a predicate on spanning trees holds.
-use Rattle.std.proofs.Common.{◌≡◌, ℕ, ◌<◌, Bool, true, false, not, ◌&&◌, ◌||◌, List, length, refl, sym, ap, subst, ◌∙◌, arith, ℤ, pos, All}
+use Rattle.std.proofs.Common.{◌≡◌, ℕ, ◌<◌, Bool, true, false, not, ◌&&◌, ◌||◌, List, length, refl, sym, ap, subst, ◌∙◌, ℤ, pos, All}
 use Rattle.std.specs.Prelude.{IsTrue, int_le, int_lt}
 use Rattle.std.specs.List.{list_all, list_any}
 use Rattle.std.proofs.lemmas.Bool.{and_parts, and_from}
 use Rattle.mono_graph.specs.Digraph.{Digraph, IsGraph, edge_at, present, places, nodes_of, crosses, weight_of, has}
 use Rattle.mono_graph.specs.Trees.{is_spanning_tree, is_tree, is_split, is_bridged, is_least}
 use Rattle.mono_graph.proofs.Membership.{all_at, all_from}
-use Rattle.mono_graph.proofs.Places.{list_all_agree}
 use Rattle.mono_problem.specs.declared.atom.Predicate.TheVariants as kind
 use Rattle.mono_steps.specs.declared.lemma.Witness.TheVariants as by
 use Rattle.mono_theory.specs.declared.evidence.Evidence.{Evidence}
@@ -15,7 +14,7 @@ use Rattle.mono_theory.specs.Resting.{AreAbsent, AreAlike, absent_across}
 use Rattle.mono_theory.specs.Walked.{numbers_of}
 use Rattle.mono_theory.proofs.EvidenceDecides.{in_only}
 use Rattle.mono_graph.proofs.Pigeons.{all_has}
-use Rattle.mono_theory.proofs.RestingOnAbsent.{alike_none, crossing_are_absent, resting_evidence}
+use Rattle.mono_theory.proofs.RestingOnAbsent.{alike_each, alike_none, crossing_are_absent, resting_evidence}
 use Rattle.mono_theory.proofs.WalksAsEvidence.{numbers-known, placed-numbers, nodes-known, all_by}
 use Rattle.mono_tree.specs.Spanning.{tree_evidence, split_evidence, is_unbridged, IsLeastEvidence}
 use Rattle.mono_trees.specs.Unbridged.{AreUnbridged}
@@ -55,16 +54,7 @@ unbridged_are_absent g P ks edges h = record {
 -- the test looks only at edges that aren't bridged
 same_bridged : (g : Digraph) (P Q : List Bool) (ks : List ℕ) → AreAlike (is_unbridged g ks) g P Q
     → list_all (λ k. not (present P k) || is_bridged g ks (edge_at g k)) (places g) ≡ list_all (λ k. not (present Q k) || is_bridged g ks (edge_at g k)) (places g)
-same_bridged g P Q ks h =
-    list_all_agree (λ k. not (present P k) || is_bridged g ks (edge_at g k)) (λ k. not (present Q k) || is_bridged g ks (edge_at g k)) 0 (length g.edges) (λ k lo hi.
-    same (present P k) (present Q k) (is_bridged g ks (edge_at g k)) (λ t. h.each k (omega (arith, hi)) t))
-  where
-    same : (p q b : Bool) → (IsTrue (not b) → p ≡ q) → (not p || b) ≡ (not q || b)
-    same p q false e = ap (λ c. not c || false) (e refl)
-    same true true true e = refl
-    same true false true e = refl
-    same false true true e = refl
-    same false false true e = refl
+same_bridged g P Q ks h = alike_each (is_bridged g ks) g P Q h
 
 pub least_shows : (g : Digraph) (P : List Bool) (most : ℤ) (ks : List ℕ) (e : Evidence) → IsGraph g → All (λ k. k < length g.edges) ks → IsTrue (is_least g P most ks) → IsLeastEvidence g P ks e → IsEvidence g P (kind.Tree most) e
 least_shows g P most ks e ok known h is =

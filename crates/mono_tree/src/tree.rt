@@ -92,28 +92,29 @@ fn least_evidence(
     })
 }
 
-/// What shows that a spanning tree weighs at most so much, or that none does.
-fn show(
-    alloc: Global,
-    finder: &mut TreeFinder,
-    marks: &mut NodeMarks,
-    graph: &Graph,
-    part: &Part,
-    most: i64,
-) -> Result<Evidence, AllocError>
-    requires size { finder.old ≡ graph.now.nodes }
-    requires marks { marks.old ≡ graph.now.nodes }
-    requires part { IsPartOf part.now graph.now }
-    requires over { IsOver graph.now (Predicate.Tree most) }
-    ensures size { finder.new ≡ finder.old }
-    ensures marks { marks.new ≡ marks.old }
-    ensures evidence { IfOk result (IsEvidence graph.now part.now (Predicate.Tree most)) }
-{
-    let _ = graph.nodes();
-    match finder.find_tree(graph, part, most)? {
-        TreeFound::Tree(places) => tree_evidence(alloc, graph, places),
-        TreeFound::Split(nodes) => split_evidence(alloc, marks, graph, part, nodes),
-        TreeFound::Least(places) => least_evidence(alloc, finder, graph, part, places.as_slice()),
+impl Tree {
+    /// What shows that a spanning tree weighs at most so much, or that none does.
+    fn show(
+        &mut self,
+        alloc: Global,
+        graph: &Graph,
+        part: &Part,
+        most: i64,
+    ) -> Result<Evidence, AllocError>
+        requires size { self.old ≡ graph.now.nodes }
+        requires part { IsPartOf part.now graph.now }
+        requires over { IsOver graph.now (Predicate.Tree most) }
+        ensures size { self.new ≡ self.old }
+        ensures evidence { IfOk result (IsEvidence graph.now part.now (Predicate.Tree most)) }
+    {
+        let _ = graph.nodes();
+        match self.finder.find_tree(graph, part, most)? {
+            TreeFound::Tree(places) => tree_evidence(alloc, graph, places),
+            TreeFound::Split(nodes) => split_evidence(alloc, &mut self.marks, graph, part, nodes),
+            TreeFound::Least(places) => {
+                least_evidence(alloc, &mut self.finder, graph, part, places.as_slice())
+            }
+        }
     }
 }
 
@@ -145,14 +146,7 @@ impl Kind for Tree {
         predicate: Predicate,
     ) -> Result<Evidence, AllocError> {
         match predicate {
-            Predicate::Tree { most } => show(
-                alloc,
-                &mut self.finder,
-                &mut self.marks,
-                graph,
-                part,
-                most,
-            ),
+            Predicate::Tree { most } => self.show(alloc, graph, part, most),
             _ => unreachable!(),
         }
     }

@@ -9,7 +9,9 @@ is_marked inside u = slice_index_or inside u false
 -- the edge is present, and one of its ends alone is marked
 abbrev pub crosses_by : List Bool → Digraph → List Bool → ℕ → Bool
 crosses_by inside g P k =
-    present P k && ((is_marked inside (edge_at g k).from && not (is_marked inside (edge_at g k).to)) || (is_marked inside (edge_at g k).to && not (is_marked inside (edge_at g k).from)))
+    present P k
+    && ((is_marked inside (edge_at g k).from && not (is_marked inside (edge_at g k).to))
+    || (is_marked inside (edge_at g k).to && not (is_marked inside (edge_at g k).from)))
 
 -- no edge at the node is such
 abbrev pub is_closed_at : List Bool → Digraph → List Bool → ℕ → Bool

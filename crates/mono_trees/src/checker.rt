@@ -10,7 +10,10 @@ ghost use Rattle.mono_graph.specs.Digraph.{IsPartOf};
 ghost use Rattle.mono_graph.specs.Trees.{is_tree as is_tree_of, is_split as is_split_of, is_least as is_least_of};
 
 use crate::components::Components;
-use crate::{least, spanning, split};
+use crate::least::are_bridged;
+use crate::order::{by_weight, present_by_weight};
+use crate::spanning::{are_present, is_light, is_spanning};
+use crate::split;
 use mono_graph::{Graph, Part, mark, unmark};
 use std::alloc::{AllocError, Global};
 use std::marker::Model;
@@ -61,7 +64,13 @@ impl TreeChecker {
         ensures passes { IfOk result (λ passes. passes ≡ is_tree_of graph.now part.now most edges.now) }
         ensures checker { self.new ≡ self.old }
     {
-        spanning::is_tree(&mut self.components, graph, part, most, edges)
+        if !are_present(part, edges) {
+            return Ok(false);
+        }
+        if !is_spanning(&mut self.components, graph, edges)? {
+            return Ok(false);
+        }
+        Ok(is_light(graph, edges, most))
     }
 
     /// What [`is_split`] answers. It takes no memory.
@@ -94,7 +103,16 @@ impl TreeChecker {
         ensures checker { self.new ≡ self.old }
     {
         let alloc = *self.inside.allocator();
-        least::is_least(alloc, &mut self.components, graph, part, most, edges)
+        if !is_spanning(&mut self.components, graph, edges)? {
+            return Ok(false);
+        }
+        if is_light(graph, edges, most) {
+            return Ok(false);
+        }
+        let tree = by_weight(alloc, graph, edges)?;
+        let order = present_by_weight(alloc, graph, part)?;
+        let bridged = are_bridged(&mut self.components, graph, &tree, &order)?;
+        Ok(bridged)
     }
 }
 

@@ -74,14 +74,16 @@ impl TreeFinder {
         ensures finder { self.new ≡ self.old }
     {
         let alloc = self.components.allocator();
-        find(
-            alloc,
-            &mut self.components,
-            &mut self.order,
-            graph,
-            part,
-            most,
-        )
+        let count = graph.nodes();
+        let chosen = lightest_forest(alloc, &mut self.components, &mut self.order, graph, part)?;
+        if !self.components.are_all_joined() {
+            let set = first_component(alloc, &self.components, count)?;
+            return Ok(TreeFound::Split(set));
+        }
+        if is_light(graph, &chosen, most) {
+            return Ok(TreeFound::Tree(chosen));
+        }
+        Ok(TreeFound::Least(chosen))
     }
 
     /// The absent edges that would make a tree of these edges lighter: those whose ends it doesn't join by edges no
@@ -107,35 +109,6 @@ impl TreeFinder {
             part,
             edges,
         )
-    }
-}
-
-fn find(
-    alloc: Global,
-    components: &mut Components,
-    order: &mut EdgeOrder,
-    graph: &Graph,
-    part: &Part,
-    most: i64,
-) -> Result<TreeFound, AllocError>
-    requires nodes { length components.old ≡ graph.now.nodes }
-    requires part { IsPartOf part.now graph.now }
-    ensures passes { IfOk result (Passes graph.now part.now most) }
-    ensures known { IfOk result (IsKnown graph.now) }
-    ensures present { IfOk result (HasPresentEdges part.now) }
-    ensures order { IfOk result (IsInOrder graph.now) }
-    ensures nodes { length components.new ≡ graph.now.nodes }
-{
-    let count = graph.nodes();
-    let chosen = lightest_forest(alloc, components, order, graph, part)?;
-    if !components.are_all_joined() {
-        let set = first_component(alloc, components, count)?;
-        return Ok(TreeFound::Split(set));
-    }
-    if is_light(graph, &chosen, most) {
-        Ok(TreeFound::Tree(chosen))
-    } else {
-        Ok(TreeFound::Least(chosen))
     }
 }
 

@@ -1,18 +1,18 @@
-//! The test of least trees: one sweep over the tree's edges and the present edges, both from the lightest on.
+//! What makes a tree a least one: it joins the ends of each present edge by edges no heavier than it.
+//!
+//! One sweep goes over the tree's edges and the present edges, both from the lightest on.
 
-ghost use Rattle.std.specs.Prelude.{◌≡◌, ◌<◌, ◌≤◌, ℕ, All, IfOk, not, length, take, slice_index};
+ghost use Rattle.std.specs.Prelude.{◌≡◌, ◌<◌, ◌≤◌, ℕ, All, IfOk, length, take, slice_index};
 ghost use Rattle.std.specs.List.{list_all};
 ghost use Rattle.std.specs.List.Sorted.{IsNonDecreasingBy};
-ghost use Rattle.mono_graph.specs.Digraph.{IsPartOf, edge_at, present, places};
-ghost use Rattle.mono_graph.specs.Trees.{edges_at, is_bridged, is_least as is_least_of};
+ghost use Rattle.mono_graph.specs.Digraph.{edge_at};
+ghost use Rattle.mono_graph.specs.Trees.{edges_at, is_bridged};
 ghost use Rattle.mono_trees.specs.Tells.{Tells};
 ghost use Rattle.mono_trees.specs.Swept.{IsSwept};
 
 use crate::components::Components;
-use crate::order::{by_weight, present_by_weight};
-use crate::spanning::{is_light, is_spanning};
-use mono_graph::{Graph, Part};
-use std::alloc::{AllocError, Global};
+use mono_graph::Graph;
+use std::alloc::AllocError;
 
 /// Joins the tree's edges that are no heavier than the weight, where the first ones have been joined, and says how many
 /// have been joined now.
@@ -44,7 +44,7 @@ pub fn advance(
 }
 
 /// Whether the tree joins the ends of each edge by edges no heavier than it.
-fn are_bridged(
+pub fn are_bridged(
     components: &mut Components,
     graph: &Graph,
     tree: &[u32],
@@ -68,32 +68,4 @@ fn are_bridged(
         }
     }
     Ok(true)
-}
-
-/// Whether the edges, present or not, form a spanning tree of a weight above `most` that joins the ends of each present
-/// edge by edges no heavier than it.
-pub fn is_least(
-    alloc: Global,
-    components: &mut Components,
-    graph: &Graph,
-    part: &Part,
-    most: i64,
-    edges: &[u32],
-) -> Result<bool, AllocError>
-    requires nodes { length components.old ≡ graph.now.nodes }
-    requires part { IsPartOf part.now graph.now }
-    requires places { All (λ k. k < length graph.now.edges) edges.now }
-    ensures nodes { length components.new ≡ graph.now.nodes }
-    ensures passes { IfOk result (λ passes. passes ≡ is_least_of graph.now part.now most edges.now) }
-{
-    if !is_spanning(components, graph, edges)? {
-        return Ok(false);
-    }
-    if is_light(graph, edges, most) {
-        return Ok(false);
-    }
-    let tree = by_weight(alloc, graph, edges)?;
-    let order = present_by_weight(alloc, graph, part)?;
-    let bridged = are_bridged(components, graph, &tree, &order)?;
-    Ok(bridged)
 }

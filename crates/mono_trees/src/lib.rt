@@ -13,11 +13,11 @@ mod finder;
 mod forest;
 /// What a search decides.
 pub mod laws;
-/// The test of least trees.
+/// What makes a tree a least one.
 mod least;
 /// Edges from the lightest to the heaviest.
 mod order;
-/// The test of trees.
+/// What makes edges a light spanning tree.
 mod spanning;
 /// The test of splits.
 mod split;

@@ -1,12 +1,12 @@
-//! The test of trees.
+//! What makes a list of edges a light spanning tree.
 //!
 //! Edges that join n nodes are at least n - 1. So n - 1 places whose edges join all nodes are different, and the test
 //! of a spanning tree looks for no place that is listed twice.
 
 ghost use Rattle.std.specs.Prelude.{◌≡◌, ◌<◌, pos, int_le, All, IfOk, OnOk, length};
 ghost use Rattle.std.specs.List.{list_all};
-ghost use Rattle.mono_graph.specs.Digraph.{IsPartOf, present, weight_of};
-ghost use Rattle.mono_graph.specs.Trees.{edges_at, is_spanning_tree, is_tree as is_tree_of};
+ghost use Rattle.mono_graph.specs.Digraph.{present, weight_of};
+ghost use Rattle.mono_graph.specs.Trees.{edges_at, is_spanning_tree};
 ghost use Rattle.mono_trees.specs.Tells.{Tells};
 
 use crate::components::Components;
@@ -55,7 +55,7 @@ pub fn is_light(graph: &Graph, edges: &[u32], most: i64) -> bool
 }
 
 /// Whether each edge is present.
-fn are_present(part: &Part, edges: &[u32]) -> bool
+pub fn are_present(part: &Part, edges: &[u32]) -> bool
     requires { All (λ k. k < length part.now) edges.now }
     ensures { result ≡ list_all (present part.now) edges.now }
 {
@@ -65,27 +65,4 @@ fn are_present(part: &Part, edges: &[u32]) -> bool
         }
     }
     true
-}
-
-/// Whether the edges are present, form a spanning tree, and weigh at most `most`.
-pub fn is_tree(
-    components: &mut Components,
-    graph: &Graph,
-    part: &Part,
-    most: i64,
-    edges: &[u32],
-) -> Result<bool, AllocError>
-    requires nodes { length components.old ≡ graph.now.nodes }
-    requires part { IsPartOf part.now graph.now }
-    requires places { All (λ k. k < length graph.now.edges) edges.now }
-    ensures nodes { length components.new ≡ graph.now.nodes }
-    ensures passes { IfOk result (λ passes. passes ≡ is_tree_of graph.now part.now most edges.now) }
-{
-    if !are_present(part, edges) {
-        return Ok(false);
-    }
-    if !is_spanning(components, graph, edges)? {
-        return Ok(false);
-    }
-    Ok(is_light(graph, edges, most))
 }

@@ -3,7 +3,7 @@
 //! One sweep over the edges in the kept order and over the tree's edges, both from the lightest on: the components are
 //! those of the tree's edges no heavier than the edge that is looked at.
 
-ghost use Rattle.std.specs.Prelude.{◌≡◌, ◌<◌, ◌≤◌, ℕ, All, IfOk, IfSome, IsPermutation, IsSome, length, take, slice_index};
+ghost use Rattle.std.specs.Prelude.{◌≡◌, ◌<◌, All, IfOk, IfSome, IsPermutation, IsSome, length};
 ghost use Rattle.std.specs.List.Sorted.{IsNonDecreasingBy};
 ghost use Rattle.mono_graph.specs.Digraph.{IsPartOf, edge_at, places as places_of};
 ghost use Rattle.mono_trees.specs.Unbridged.{AreUnbridged};

@@ -5,10 +5,7 @@ use Rattle.mono_answer.proofs.print.push_amounts.Goals as goal
 
 pub loop-amount-preserved : goal.loop-amount-preserved
 loop-amount-preserved c =
-    let out = c.args.out.now.items in
-    let fs = c.args.amounts.now in
-    let i = c.loop-amount.amount-index in
-    c.in_ok-push_number-2.ensures
-    ∙ (ap (λ (t : List ℕ). t ++ behind (decimal (get_or fs i (record { edge = 0; amount = 0 })).amount ∷ []))
-    (c.in_ok-push_number.ensures ∙ (ap (λ (n : ℕ). c.loop-amount.out.items ++ behind (decimal n ∷ [])) c.from.ensures ∙ ap (λ (t : List ℕ). t ++ behind (decimal (get_or fs i (record { edge = 0; amount = 0 })).edge ∷ [])) c.loop-amount.invariant))
-    ∙ amounts_more out fs i (record { edge = 0; amount = 0 }) c.loop-amount-test.true)
+    let amount = get_or c.args.amounts.now c.loop-amount.amount-index (record { edge = 0; amount = 0 }) in
+    c.in_ok-push_pair.ensures
+    ∙ (ap (λ (t : List ℕ). t ++ behind (decimal amount.edge ∷ decimal amount.amount ∷ [])) c.loop-amount.invariant
+    ∙ amounts_more c.args.out.now.items c.args.amounts.now c.loop-amount.amount-index (record { edge = 0; amount = 0 }) c.loop-amount-test.true)

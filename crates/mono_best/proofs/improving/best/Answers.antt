@@ -2,9 +2,10 @@ use Rattle.std.proofs.Common.{◌≡◌, ◌+◌, ◌-◌, ◌≤◌, ◌∙◌,
 use Rattle.mono_base.specs.declared.limits.TheConstants.{MAX_BOUND}
 use Rattle.mono_base.specs.Literal.{IsLitWithin}
 use Rattle.mono_search.specs.Outcomes.{HasModel}
+use Rattle.mono_search.specs.Signs.{AreSigns}
 use Rattle.mono_best.specs.Asking.{asking, predicate_of}
 use Rattle.mono_best.specs.Bounds.{bound_at}
-use Rattle.mono_best.specs.Best.{AreSigns, IsReply}
+use Rattle.mono_best.specs.Best.{IsReply}
 use Rattle.mono_best.specs.declared.questions.Reply.{Reply}
 use Rattle.mono_best.specs.declared.questions.Reply.TheVariants as reply
 use Rattle.mono_best.proofs.Asked.{met_beyond}

@@ -1,4 +1,4 @@
-use Rattle.std.proofs.Common.{ℤ, SFits, w64, arith, rules, sym, subst, List}
+use Rattle.std.proofs.Common.{ℤ, SFits, w64, rules, sym, subst, List}
 use Rattle.std.proofs.lemmas.Int.{to_z-of_z}
 use Rattle.mono_steps.specs.declared.step.Step.{Step}
 use Rattle.mono_best.specs.declared.outcome.BestOutcome.TheVariants as bounded
@@ -14,20 +14,18 @@ returns-in-Best c =
     let n = c.args.atom in
     let found = c.in-Best in
     let fits : SFits w64 found.bound = search rules in
-    subst (λ (b : ℤ). IsBounding p DEFAULT_BUDGET n (bounded.Best b found.model c.from_vec-steps.result)) (sym (to_z-of_z w64 found.bound fits))
-    (subst (λ (steps : List Step). IsBounding p DEFAULT_BUDGET n (bounded.Best found.bound found.model steps)) (sym c.from_vec-steps.ensures)
-    (best_bounds p DEFAULT_BUDGET n found.bound found.model c.into_vec.result.items c.requires.problem c.requires.atom c.requires.room (omega (arith, c.into_vec.result.small))
-    (subst (λ (steps : List Step). IsOutcome p n DEFAULT_BUDGET (bounded.Best found.bound found.model steps)) (sym c.into_vec.ensures)
-    (subst (IsOutcome p n DEFAULT_BUDGET) found.is c.requires.outcome))))
+    subst (λ (b : ℤ). IsBounding p DEFAULT_BUDGET n (bounded.Best b found.model c.few_steps.result)) (sym (to_z-of_z w64 found.bound fits))
+    (best_bounds p DEFAULT_BUDGET n found.bound found.model c.few_steps.result c.requires.problem c.requires.atom c.requires.room c.few_steps.ensures.few
+    (subst (λ (steps : List Step). IsOutcome p n DEFAULT_BUDGET (bounded.Best found.bound found.model steps)) (sym c.few_steps.ensures.same)
+    (subst (IsOutcome p n DEFAULT_BUDGET) found.is c.requires.outcome)))
 
 pub returns-in-Never : goal.returns-in-Never
 returns-in-Never c =
     let p = c.args.problem.now in
     let n = c.args.atom in
-    subst (λ (steps : List Step). IsBounding p DEFAULT_BUDGET n (bounded.Never steps)) (sym c.from_vec.ensures)
-    (never_bounds p DEFAULT_BUDGET n c.into_vec-in-Never.result.items c.requires.problem c.requires.atom c.requires.room (omega (arith, c.into_vec-in-Never.result.small))
-    (subst (λ (steps : List Step). IsOutcome p n DEFAULT_BUDGET (bounded.Never steps)) (sym c.into_vec-in-Never.ensures)
-    (subst (IsOutcome p n DEFAULT_BUDGET) c.in-Never.is c.requires.outcome)))
+    never_bounds p DEFAULT_BUDGET n c.few_steps-in-Never.result c.requires.problem c.requires.atom c.requires.room c.few_steps-in-Never.ensures.few
+    (subst (λ (steps : List Step). IsOutcome p n DEFAULT_BUDGET (bounded.Never steps)) (sym c.few_steps-in-Never.ensures.same)
+    (subst (IsOutcome p n DEFAULT_BUDGET) c.in-Never.is c.requires.outcome))
 
 pub returns-in-Beyond : goal.returns-in-Beyond
 returns-in-Beyond c =
@@ -40,8 +38,7 @@ returns-in-Unknown c =
     let n = c.args.atom in
     let found = c.in-Unknown in
     let fits : SFits w64 found.bound = search rules in
-    subst (λ (b : ℤ). IsBounding p DEFAULT_BUDGET n (bounded.Unknown b c.from_vec-steps-in-Unknown.result)) (sym (to_z-of_z w64 found.bound fits))
-    (subst (λ (steps : List Step). IsBounding p DEFAULT_BUDGET n (bounded.Unknown found.bound steps)) (sym c.from_vec-steps-in-Unknown.ensures)
-    (open_bounds p DEFAULT_BUDGET n found.bound c.into_vec-in-Unknown.result.items c.requires.problem c.requires.atom c.requires.room (omega (arith, c.into_vec-in-Unknown.result.small))
-    (subst (λ (steps : List Step). IsOutcome p n DEFAULT_BUDGET (bounded.Unknown found.bound steps)) (sym c.into_vec-in-Unknown.ensures)
-    (subst (IsOutcome p n DEFAULT_BUDGET) found.is c.requires.outcome))))
+    subst (λ (b : ℤ). IsBounding p DEFAULT_BUDGET n (bounded.Unknown b c.few_steps-in-Unknown.result)) (sym (to_z-of_z w64 found.bound fits))
+    (open_bounds p DEFAULT_BUDGET n found.bound c.few_steps-in-Unknown.result c.requires.problem c.requires.atom c.requires.room c.few_steps-in-Unknown.ensures.few
+    (subst (λ (steps : List Step). IsOutcome p n DEFAULT_BUDGET (bounded.Unknown found.bound steps)) (sym c.few_steps-in-Unknown.ensures.same)
+    (subst (IsOutcome p n DEFAULT_BUDGET) found.is c.requires.outcome)))

@@ -5,7 +5,7 @@ use Rattle.mono_answer.specs.declared.answer.Answer.TheVariants as answer
 use Rattle.mono_answer.specs.Printed.{answer_text}
 use Rattle.mono_cmd.specs.CoreTexts.{note}
 use Rattle.mono_cmd.specs.BestTexts.{values_note}
-use Rattle.mono_cmd.proofs.BestLines.{two_lines}
+use Rattle.mono_cmd.proofs.NoteLines.{two_lines}
 use Rattle.mono_cmd.proofs.best_text.push_best.Goals as goal
 
 pub returns : goal.returns

@@ -1,7 +1,7 @@
 use Rattle.std.proofs.Common.{◌++◌, ◌∷◌, ◌∙◌, [], ℕ, ℤ, List, w64, ap}
 use Rattle.std.specs.Fmt.{signed_decimal}
 use Rattle.std.proofs.lemmas.Int.{to_z-of_z}
-use Rattle.mono_cmd.proofs.BestLines.{bound_line}
+use Rattle.mono_cmd.proofs.NoteLines.{bound_line}
 use Rattle.mono_cmd.proofs.best_text.push_bound.Goals as goal
 
 pub returns : goal.returns

@@ -1,8 +1,8 @@
-use Rattle.std.proofs.Common.{◌≡◌, ◌++◌, ◌∷◌, ◌∙◌, [], ℕ, List, ap, append_assoc}
+use Rattle.std.proofs.Common.{◌≡◌, ◌++◌, ◌∷◌, ◌∙◌, [], ℕ, List, codes, ap, append_assoc}
 use Rattle.mono_answer.specs.Behind.{behind}
 use Rattle.mono_answer.specs.Printed.{numbers_text, with_zero}
 use Rattle.mono_cmd.specs.CoreTexts.{core_line, needs_text}
-use Rattle.mono_cmd.proofs.CoreLines.{core_head}
+use Rattle.mono_cmd.proofs.NoteLines.{note_line}
 use Rattle.mono_cmd.proofs.core_text.push_core.Goals as goal
 
 pub returns : goal.returns
@@ -13,5 +13,5 @@ returns c =
     let line : c.push.new.self.items ≡ out ++ core_line lits =
     c.in_ok-push.ensures.items
     ∙ (ap (λ (t : List ℕ). t ++ 10 ∷ []) (c.in_ok-push_lits.ensures ∙ ap (λ (t : List ℕ). t ++ behind tokens) c.in_ok-extend_from_slice.ensures.items)
-    ∙ core_head out tokens) in
+    ∙ note_line out (codes "core") tokens) in
     c.in_ok-push_needs.ensures ∙ (ap (λ (t : List ℕ). t ++ needs_text lits c.args.needs.now) line ∙ append_assoc out (core_line lits) (needs_text lits c.args.needs.now))

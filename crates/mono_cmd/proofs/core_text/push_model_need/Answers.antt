@@ -1,8 +1,8 @@
-use Rattle.std.proofs.Common.{◌++◌, ◌∷◌, ◌∙◌, [], ℕ, List, ap}
+use Rattle.std.proofs.Common.{◌++◌, ◌∷◌, ◌∙◌, [], ℕ, List, codes, ap}
 use Rattle.std.specs.Fmt.{signed_decimal}
 use Rattle.mono_answer.specs.Behind.{behind}
 use Rattle.mono_answer.specs.Printed.{numbers_text, with_zero, literals_from}
-use Rattle.mono_cmd.proofs.CoreLines.{needed_line}
+use Rattle.mono_cmd.proofs.NoteLines.{note_of_two}
 use Rattle.mono_cmd.proofs.core_text.push_model_need.Goals as goal
 
 pub returns : goal.returns
@@ -12,4 +12,4 @@ returns c =
     let tokens = numbers_text (with_zero (literals_from 1 c.args.values.now)) in
     c.in_ok-push.ensures.items
     ∙ (ap (λ (t : List ℕ). t ++ 10 ∷ []) (c.in_ok-push_literals.ensures ∙ ap (λ (t : List ℕ). t ++ behind tokens) (c.in_ok-push_literal.ensures ∙ ap (λ (t : List ℕ). t ++ lit) c.in_ok-extend_from_slice.ensures.items))
-    ∙ needed_line out lit tokens)
+    ∙ note_of_two out (codes "needed") lit tokens)

@@ -4,7 +4,7 @@ use Rattle.mono_answer.specs.declared.answer.Answer.TheVariants as answer
 use Rattle.mono_answer.specs.Behind.{behind}
 use Rattle.mono_answer.specs.Printed.{numbers_text, with_zero, answer_lines}
 use Rattle.mono_cmd.specs.CoreTexts.{note}
-use Rattle.mono_cmd.proofs.CoreLines.{open_line}
+use Rattle.mono_cmd.proofs.NoteLines.{note_of_two}
 use Rattle.mono_cmd.proofs.core_text.push_tried_need.Goals as goal
 
 pub returns : goal.returns
@@ -17,5 +17,5 @@ returns c =
     let line : c.push.new.self.items ≡ out ++ first =
     c.in_ok-push.ensures.items
     ∙ (ap (λ (t : List ℕ). t ++ 10 ∷ []) (c.in_ok-push_lits.ensures ∙ ap (λ (t : List ℕ). t ++ behind tokens) (c.in_ok-push_literal.ensures ∙ ap (λ (t : List ℕ). t ++ lit) c.in_ok-extend_from_slice.ensures.items))
-    ∙ open_line out lit tokens) in
+    ∙ note_of_two out (codes "open") lit tokens) in
     c.in_ok-push_progress.ensures ∙ (ap (λ (t : List ℕ). t ++ progress) line ∙ append_assoc out first progress)

@@ -1,9 +1,8 @@
-use Rattle.std.proofs.Common.{arith, sym, subst, List}
+use Rattle.std.proofs.Common.{sym, subst, List}
 use Rattle.mono_steps.specs.declared.step.Step.{Step}
 use Rattle.mono_core.specs.declared.outcome.CoreOutcome.TheVariants as outcome
 use Rattle.mono_core.specs.Cores.{IsOutcome}
 use Rattle.mono_cmd.specs.declared.command.TheConstants.{DEFAULT_BUDGET}
-use Rattle.mono_cmd.specs.Solved.{IsNarrowing}
 use Rattle.mono_cmd.proofs.Cores.{model_narrows, core_narrows, progress_narrows}
 use Rattle.mono_cmd.proofs.solving.narrowed.Goals as goal
 
@@ -14,14 +13,12 @@ returns-in-Model c =
 
 pub returns-in-Core : goal.returns-in-Core
 returns-in-Core c =
-    subst (λ (steps : List Step). IsNarrowing c.args.problem.now DEFAULT_BUDGET c.args.assumed.now (outcome.Core c.in-Core.lits steps c.in-Core.needs)) (sym c.from_vec-steps.ensures)
-    (core_narrows c.args.problem.now DEFAULT_BUDGET c.args.assumed.now c.in-Core.lits c.into_vec.result.items c.in-Core.needs c.requires.problem c.requires.literals c.requires.room (omega (arith, c.into_vec.result.small))
-    (subst (λ (steps : List Step). IsOutcome c.args.problem.now DEFAULT_BUDGET c.args.assumed.now (outcome.Core c.in-Core.lits steps c.in-Core.needs)) (sym c.into_vec.ensures)
-    (subst (IsOutcome c.args.problem.now DEFAULT_BUDGET c.args.assumed.now) c.in-Core.is c.requires.outcome)))
+    core_narrows c.args.problem.now DEFAULT_BUDGET c.args.assumed.now c.in-Core.lits c.few_steps.result c.in-Core.needs c.requires.problem c.requires.literals c.requires.room c.few_steps.ensures.few
+    (subst (λ (steps : List Step). IsOutcome c.args.problem.now DEFAULT_BUDGET c.args.assumed.now (outcome.Core c.in-Core.lits steps c.in-Core.needs)) (sym c.few_steps.ensures.same)
+    (subst (IsOutcome c.args.problem.now DEFAULT_BUDGET c.args.assumed.now) c.in-Core.is c.requires.outcome))
 
 pub returns-in-Unknown : goal.returns-in-Unknown
 returns-in-Unknown c =
-    subst (λ (steps : List Step). IsNarrowing c.args.problem.now DEFAULT_BUDGET c.args.assumed.now (outcome.Unknown steps)) (sym c.from_vec.ensures)
-    (progress_narrows c.args.problem.now DEFAULT_BUDGET c.args.assumed.now c.into_vec-in-Unknown.result.items c.requires.problem c.requires.literals c.requires.room (omega (arith, c.into_vec-in-Unknown.result.small))
-    (subst (λ (steps : List Step). IsOutcome c.args.problem.now DEFAULT_BUDGET c.args.assumed.now (outcome.Unknown steps)) (sym c.into_vec-in-Unknown.ensures)
-    (subst (IsOutcome c.args.problem.now DEFAULT_BUDGET c.args.assumed.now) c.in-Unknown.is c.requires.outcome)))
+    progress_narrows c.args.problem.now DEFAULT_BUDGET c.args.assumed.now c.few_steps-in-Unknown.result c.requires.problem c.requires.literals c.requires.room c.few_steps-in-Unknown.ensures.few
+    (subst (λ (steps : List Step). IsOutcome c.args.problem.now DEFAULT_BUDGET c.args.assumed.now (outcome.Unknown steps)) (sym c.few_steps-in-Unknown.ensures.same)
+    (subst (IsOutcome c.args.problem.now DEFAULT_BUDGET c.args.assumed.now) c.in-Unknown.is c.requires.outcome))

@@ -1,10 +1,8 @@
-use Rattle.std.proofs.Common.{arith, sym, subst, List}
+use Rattle.std.proofs.Common.{sym, subst, List}
 use Rattle.std.specs.Prelude.{IsTrue}
 use Rattle.mono_steps.specs.declared.step.Step.{Step}
 use Rattle.mono_steps.specs.Steps.{is_refutation}
-use Rattle.mono_answer.specs.declared.answer.Answer.TheVariants as answer
 use Rattle.mono_portfolio.specs.Outcomes.{IsTeamOutcome, IsBoardOfRounds}
-use Rattle.mono_cmd.specs.Teams.{IsTeamSolution}
 use Rattle.mono_cmd.proofs.TeamSolutions.{team_model_solves, team_board_solves}
 use Rattle.mono_cmd.proofs.teaming.answer_of.Goals as goal
 
@@ -23,7 +21,6 @@ returns-in-Refutation c = c.refutation.ensures c.args.workers c.args.rounds
 
 pub returns-in-Board : goal.returns-in-Board
 returns-in-Board c =
-    subst (λ (steps : List Step). IsTeamSolution c.args.problem.now c.args.workers c.args.rounds (answer.Progress steps)) (sym c.from_vec.ensures)
-    (team_board_solves c.args.problem.now c.args.workers c.args.rounds c.into_vec.result.items c.requires.problem (omega (arith, c.into_vec.result.small))
-    (subst (λ (steps : List Step). IsBoardOfRounds c.args.problem.now c.args.workers c.args.rounds steps) (sym c.into_vec.ensures)
-    (subst (IsTeamOutcome c.args.problem.now c.args.workers c.args.rounds) c.in-Board.is c.requires.outcome)))
+    team_board_solves c.args.problem.now c.args.workers c.args.rounds c.few_steps.result c.requires.problem c.few_steps.ensures.few
+    (subst (λ (steps : List Step). IsBoardOfRounds c.args.problem.now c.args.workers c.args.rounds steps) (sym c.few_steps.ensures.same)
+    (subst (IsTeamOutcome c.args.problem.now c.args.workers c.args.rounds) c.in-Board.is c.requires.outcome))

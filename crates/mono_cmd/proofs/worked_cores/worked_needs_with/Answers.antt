@@ -1,21 +1,13 @@
-use Rattle.std.proofs.Common.{◌≡◌, ◌≤◌, ℕ, false, true, List, Option, Some, None, length, codes, refl, subst, arith}
+use Rattle.std.proofs.Common.{◌≡◌, ◌≤◌, ℕ, false, true, List, Option, length, codes, refl, subst, arith}
 use Rattle.std.specs.Prelude.{IsSomeAnd}
 use Rattle.mono_base.specs.declared.limits.TheConstants.{MAX_INPUT_BYTES}
 use Rattle.mono_problem.specs.Assuming.{HasRoom}
 use Rattle.mono_problem.specs.Instance.{Instance}
 use Rattle.mono_gnf.specs.Stands.{Stands}
-use Rattle.mono_gnf.specs.Faults.{first_fault}
-use Rattle.mono_gnf.specs.Statements.{statement_of}
-use Rattle.mono_gnf.specs.declared.fault.GnfFault.{GnfFault}
-use Rattle.mono_gnf.specs.declared.fault.GnfFault.TheVariants as fault
 use Rattle.mono_cmd.specs.Worked.{empty_problem}
+use Rattle.mono_cmd.proofs.UnknownWord.{unknown}
 use Rattle.mono_cmd.proofs.Replies.{same_problem}
 use Rattle.mono_cmd.proofs.worked_cores.worked_needs_with.Goals as goal
-
--- the word is no form of a line
-unknown : first_fault (codes "x") ≡ None → ⊥
-unfolding statement_of
-unknown none = let is : ◌≡◌ {A = Option (ℕ × GnfFault)} (Some (1, fault.UnknownWord)) None = none in cc
 
 pub returns-clause-no_answer : goal.returns-clause-no_answer
 returns-clause-no_answer c = λ h. let e : false ≡ true = h.1 (omega arith, (empty_problem, (refl, refl), record { clauses = omega arith; literals = omega arith })) in cc

@@ -1,6 +1,6 @@
 use Rattle.std.proofs.Common.{refl, arith}
 use Rattle.mono_theory.specs.declared.stage.Stage.TheVariants as stage
-use Rattle.mono_distance.proofs.WorkedRows.{one_stage, two_rows}
+use Rattle.mono_theory.proofs.WorkedRows.{one_stage, two_rows}
 use Rattle.mono_distance.proofs.worked.theories_that_decide.Goals as goal
 
 pub returns-clause-rows : goal.returns-clause-rows

@@ -13,7 +13,7 @@ loop-at-preserved c =
     let held = c.loop-at.invariant.held in
     let low = c.requires.last in
     subst (λ (ks : List ℕ). IsCostBack c.args.changes.now c.args.last (change_at c.args.changes.now i).before ks) (sym c.in_ok-push.ensures.items)
-    (cost_back_more c.args.changes.now c.args.last i c.loop-at.walk.items (c.requires.before i (omega arith)) (subst (λ (n : ℕ). IsCostBack c.args.changes.now c.args.last n c.loop-at.walk.items) at c.loop-at.invariant))
+    (cost_back_more c.args.changes.now c.args.last i c.loop-at.walk.items (c.requires.ordered.before i (omega arith)) (subst (λ (n : ℕ). IsCostBack c.args.changes.now c.args.last n c.loop-at.walk.items) at c.loop-at.invariant))
 
 pub returns : goal.returns
 returns c = cost_back_whole c.args.changes.now c.args.last c.loop-at.at c.loop-at.walk.items c.reverse.new.self.items c.loop-at-test.false c.reverse.ensures.items c.loop-at.invariant

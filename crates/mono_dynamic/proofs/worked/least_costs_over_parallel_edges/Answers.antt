@@ -7,7 +7,7 @@ use Rattle.mono_graph.specs.Digraph.{edge_at, present}
 use Rattle.mono_graph.specs.Walks.{is_walk, leads, cost_of, cost_along}
 use Rattle.mono_graph.specs.Worked.{parallel, round_trip, looped, both, last_alone}
 use Rattle.mono_dynamic.specs.Costs.{label_of}
-use Rattle.mono_dynamic.proofs.Exact.{walks}
+use Rattle.mono_graph.proofs.GrownWalks.{walks}
 use Rattle.mono_dynamic.proofs.Rows.{least_by_test}
 use Rattle.mono_dynamic.proofs.CostRows.{least_both, least_last, least_steps, least_capped}
 use Rattle.mono_dynamic.proofs.worked.least_costs_over_parallel_edges.Goals as goal

@@ -4,12 +4,12 @@ use Rattle.mono_graph.specs.declared.limit.Limit.TheVariants.{Weight}
 use Rattle.mono_graph.specs.Worked.{parallel}
 use Rattle.mono_dynamic.specs.declared.change.Change.{Change}
 use Rattle.mono_dynamic.specs.Costs.{Costs, AreLeast, IsLed, change_at, label_of, unwound, labels_after}
-use Rattle.mono_dynamic.specs.Worked.{change, last_first}
+use Rattle.mono_dynamic.specs.Worked.{change, last_first, lowered_twice}
 use Rattle.mono_dynamic.proofs.CostRows.{least_both, least_last, least_none}
 use Rattle.mono_dynamic.proofs.worked.least_costs_step_by_step.Goals as goal
 
 twice : Costs
-twice = record { limit = Weight (pos 9); cap = 10; labels = 0 ∷ 1 ∷ []; changes = change 1 1 0 10 4 1 ∷ change 1 0 1 4 1 2 ∷ [] }
+twice = lowered_twice
 
 each : (m : ℕ) → m ≤ 2 → AreLeast (parallel 1 4) (last_first m) (Weight (pos 9)) 0 10 (labels_after m twice)
 unfolding twice

@@ -6,7 +6,7 @@ use Rattle.mono_graph.specs.Worked.{parallel, both}
 use Rattle.mono_dynamic.specs.declared.walk_target.WalkTarget.{WalkTarget}
 use Rattle.mono_dynamic.specs.Arrivals.{arrival_at, at_source}
 use Rattle.mono_dynamic.specs.SearchTrees.{LeadsOn}
-use Rattle.mono_dynamic.specs.Ways.{Ways, has_target, no_target, IsTarget}
+use Rattle.mono_dynamic.specs.Ways.{Ways, has_target, no_target, AreWaysTo, IsTarget}
 use Rattle.mono_dynamic.specs.Worked.{arrival, with_way, within_weight, without_way}
 use Rattle.mono_dynamic.proofs.Rows.{tree_alone}
 use Rattle.mono_dynamic.proofs.WaysRows.{tree_first, priced_first, priced_alone, only_target, none_leads, none_for_nothing}
@@ -23,21 +23,20 @@ first_needed t has node zero pos lt = absurd (omega arith)
 first_needed t has node (suc zero) pos lt = inl (t, (0, omega arith, refl), has, node)
 first_needed t has node (suc (suc i)) pos lt = absurd (omega arith)
 
-pub returns-clause-below : goal.returns-clause-below
-returns-clause-below c = record {
+-- the way by the first edge is all that is kept for a target that it leads to within the bound
+first_kept : (t : WalkTarget) → IsTrue (has_target (with_way 0 1) t) → t.node ≡ 1 → IsTrue (is_path (parallel 1 4) both 0 t.node t.limit (0 ∷ [])) → AreWaysTo (parallel 1 4) both (t ∷ []) (with_way 0 1)
+first_kept t has node path = record {
   tree = tree_first;
   priced = priced_first;
-  exact = alone_exact (with_way 0 1) (within_weight 3) (λ _. (0 ∷ [], refl), λ _. refl);
-  needed = first_needed (within_weight 3) refl refl;
+  exact = alone_exact (with_way 0 1) t (λ _. (0 ∷ [], path), λ _. has);
+  needed = first_needed t has node;
 }
 
+pub returns-clause-below : goal.returns-clause-below
+returns-clause-below c = first_kept (within_weight 3) refl refl refl
+
 pub returns-clause-at : goal.returns-clause-at
-returns-clause-at c = record {
-  tree = tree_first;
-  priced = priced_first;
-  exact = alone_exact (with_way 0 1) (within_weight 1) (λ _. (0 ∷ [], refl), λ _. refl);
-  needed = first_needed (within_weight 1) refl refl;
-}
+returns-clause-at c = first_kept (within_weight 1) refl refl refl
 
 pub returns-clause-beyond : goal.returns-clause-beyond
 returns-clause-beyond c = record {

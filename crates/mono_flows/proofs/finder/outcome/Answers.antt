@@ -8,4 +8,4 @@ pub returns-clause-flow : goal.returns-clause-flow
 returns-clause-flow c =
     let n = c.args.network.now in
     subst (λ (amounts : List Amount). IsFlowOfValue n.graph.now n.part.now n.source n.sink c.args.flow.now.value amounts) (sym c.in_ok-carried.ensures.amounts)
-    (flow_is n.graph.now n.part.now n.source n.sink c.args.flow.now.amounts.items c.args.flow.now.value c.requires.flow.flowing)
+    (flow_is n.graph.now n.part.now n.source n.sink c.args.flow.now.amounts.items c.args.flow.now.value c.requires.ended.flow.flow.flowing)

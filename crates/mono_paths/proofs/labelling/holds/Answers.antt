@@ -2,8 +2,11 @@ use Rattle.std.proofs.Common.{◌≡◌, ◌≤◌, ◌+ℤ◌, ℕ, pos, sym, a
 use Rattle.mono_graph.specs.Walks.{bound_of}
 use Rattle.mono_paths.specs.declared.table.LabelTable.{LabelTable}
 use Rattle.mono_paths.specs.Listed.{label_in}
-use Rattle.mono_paths.proofs.Listed.{AreThese, listed_twice, calm_decides}
+use Rattle.mono_paths.proofs.Listed.{AreThese, is_bounded, listed_twice, calm_decides}
 use Rattle.mono_paths.proofs.labelling.holds.Goals as goal
+
+pub cap-table-requires : goal.cap-table-requires
+cap-table-requires c = is_bounded c.args.limit c.requires.limit
 
 pub returns-then-not-enter-clause-passes : goal.returns-then-not-enter-clause-passes
 returns-then-not-enter-clause-passes c =
@@ -13,7 +16,7 @@ pub returns-clause-passes : goal.returns-clause-passes
 returns-clause-passes c =
     let table : LabelTable = c.enter.new.self in
     let yes = c.if-not-enter.false in
-    let others : pos table.others ≡ bound_of c.args.limit +ℤ pos 1 = ap pos c.enter.ensures.others ∙ c.label_of_others-table.ensures in
+    let others : pos table.others ≡ bound_of c.args.limit +ℤ pos 1 = ap pos c.enter.ensures.others ∙ c.cap-table.ensures.value in
     let these : AreThese c.args.labels.now c.args.limit table.listed.items table.values.items table.others = record {
       others_is = others;
       distinct = sym c.enter.ensures.distinct ∙ yes;

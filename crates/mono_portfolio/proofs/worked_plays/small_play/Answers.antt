@@ -1,23 +1,20 @@
-use Rattle.std.proofs.Common.{refl, [], ◌∷◌, lit<}
-use Rattle.mono_steps.proofs.WorkedNew.{one_is_end, one_is_left_open}
+use Rattle.std.proofs.Common.{refl, [], ◌∷◌}
 use Rattle.mono_portfolio.specs.TeamView.{TeamView, idle}
-use Rattle.mono_portfolio.specs.Worked.{two_clauses, learned, at_end}
-use Rattle.mono_steps.specs.New.{IsProgress}
+use Rattle.mono_search.specs.Worked.{two_clauses, first_learned}
+use Rattle.mono_portfolio.specs.Worked.{at_end}
+use Rattle.mono_portfolio.proofs.WorkedProblem.{one_learned}
 use Rattle.mono_portfolio.proofs.worked_plays.small_play.Goals as goal
 
 abbrev ran : TeamView
-ran = record { problem = two_clauses; board = []; workers = record { taken = []; made = learned } ∷ idle ∷ [] }
+ran = record { problem = two_clauses; board = []; workers = record { taken = []; made = first_learned } ∷ idle ∷ [] }
 
 abbrev gave : TeamView
-gave = record { problem = two_clauses; board = learned; workers = idle ∷ idle ∷ [] }
-
-spent : IsProgress two_clauses 1 learned
-spent = record { justified = refl; new = record { chains = ((λ full. record { exact = one_is_end _ refl refl; new = one_is_left_open _ refl }), tt); none_empty = refl }; chains = refl; few = lit< tt }
+gave = record { problem = two_clauses; board = first_learned; workers = idle ∷ idle ∷ [] }
 
 pub returns : goal.returns
 returns c = (
   ran,
-  record { made = learned; are = spent; after = refl },
+  record { made = first_learned; are = one_learned; after = refl },
   (
     gave,
     (refl, refl),

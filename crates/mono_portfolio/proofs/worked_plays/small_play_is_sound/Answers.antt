@@ -1,4 +1,5 @@
-use Rattle.mono_portfolio.specs.Worked.{two_clauses, events, replies, at_end}
+use Rattle.mono_search.specs.Worked.{two_clauses}
+use Rattle.mono_portfolio.specs.Worked.{events, replies, at_end}
 use Rattle.mono_portfolio.proofs.WorkedProblem.{two_clauses_ok}
 use Rattle.mono_portfolio.proofs.worked_plays.small_play_is_sound.Goals as goal
 

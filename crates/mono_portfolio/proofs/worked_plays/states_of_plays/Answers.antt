@@ -5,7 +5,8 @@ use Rattle.mono_base.specs.Literal.{IsLitWithin}
 use Rattle.mono_portfolio.specs.Extended.{has_chain}
 use Rattle.mono_steps.specs.WorkedLemmas.{chain}
 use Rattle.mono_portfolio.specs.TeamView.{start, IsWorker}
-use Rattle.mono_portfolio.specs.Worked.{two_clauses, learned, worker, events, replies, at_end}
+use Rattle.mono_search.specs.Worked.{two_clauses, first_learned}
+use Rattle.mono_portfolio.specs.Worked.{worker, events, replies, at_end}
 use Rattle.mono_portfolio.proofs.Changes.{start_ok}
 use Rattle.mono_portfolio.proofs.Playing.{play_keeps}
 use Rattle.mono_portfolio.proofs.WorkedProblem.{two_clauses_ok}
@@ -25,8 +26,8 @@ returns-clause-board c = λ h. let e = h.justified in cc
 
 pub returns-clause-no_chain : goal.returns-clause-no_chain
 returns-clause-no_chain c = λ h.
-    let x = All-head (IsWorker two_clauses learned) (worker (2 ∷ []) []) [] h.workers in
-    let e = All-head (λ n. IsTrue (has_chain two_clauses learned n)) 2 [] x.held in
+    let x = All-head (IsWorker two_clauses first_learned) (worker (2 ∷ []) []) [] h.workers in
+    let e = All-head (λ n. IsTrue (has_chain two_clauses first_learned n)) 2 [] x.held in
     cc
 
 pub returns-clause-no_room : goal.returns-clause-no_room

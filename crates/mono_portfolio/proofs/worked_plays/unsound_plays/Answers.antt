@@ -2,7 +2,7 @@ use Rattle.std.proofs.Common.{◌∷◌, [], true, false, refl}
 use Rattle.std.proofs.lemmas.List.Elements.{All-head}
 use Rattle.mono_portfolio.specs.declared.event.Reply.TheVariants as reply
 use Rattle.mono_portfolio.specs.Soundness.{IsTrueModel}
-use Rattle.mono_portfolio.specs.Worked.{two_clauses}
+use Rattle.mono_search.specs.Worked.{two_clauses}
 use Rattle.mono_portfolio.proofs.worked_plays.unsound_plays.Goals as goal
 
 pub returns-clause-board : goal.returns-clause-board

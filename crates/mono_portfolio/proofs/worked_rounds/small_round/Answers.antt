@@ -1,17 +1,13 @@
-use Rattle.std.proofs.Common.{◌≡◌, ℕ, zero, suc, ◌<◌, List, [], ◌∷◌, ◌++◌, length, refl, ap, ◌∙◌, arith, lit<, length-append}
+use Rattle.std.proofs.Common.{◌≡◌, ℕ, zero, suc, ◌<◌, List, [], ◌∷◌, ◌++◌, length, refl, ap, ◌∙◌, arith, length-append}
 use Rattle.std.proofs.lemmas.List.{length-map}
 use Rattle.mono_problem.specs.Instance.{Instance}
 use Rattle.mono_steps.specs.declared.step.Step.{Step}
 use Rattle.mono_steps.specs.Journals.{chain_count}
-use Rattle.mono_steps.proofs.WorkedNew.{one_is_end, one_is_left_open}
-use Rattle.mono_steps.specs.New.{IsProgress}
 use Rattle.mono_portfolio.specs.Moved.{moved_step}
 use Rattle.mono_portfolio.specs.Rounds.{IsPiece}
-use Rattle.mono_portfolio.specs.Worked.{two_clauses, learned}
+use Rattle.mono_search.specs.Worked.{two_clauses, first_learned}
+use Rattle.mono_portfolio.proofs.WorkedProblem.{one_learned}
 use Rattle.mono_portfolio.proofs.worked_rounds.small_round.Goals as goal
-
-one_learned : IsProgress two_clauses 1 learned
-one_learned = record { justified = refl; new = record { chains = ((λ full. record { exact = one_is_end _ refl refl; new = one_is_left_open _ refl }), tt); none_empty = refl }; chains = refl; few = lit< tt }
 
 -- a piece with a learned clause isn't empty
 some_steps : (steps : List Step) → chain_count steps ≡ 1 → 0 < length steps
@@ -23,7 +19,7 @@ some_piece p before taken piece h =
     omega (arith, some_steps h.steps h.learned.chains, ap (λ (ss : List Step). length ss) h.is, length-map h.steps (moved_step (length p.clauses) taken (length before)))
 
 pub returns-clause-two : goal.returns-clause-two
-returns-clause-two c = (learned ++ learned, (learned, record { steps = learned; learned = one_learned; is = refl }, (learned, record { steps = learned; learned = one_learned; is = refl }, refl)), refl)
+returns-clause-two c = (first_learned ++ first_learned, (first_learned, record { steps = first_learned; learned = one_learned; is = refl }, (first_learned, record { steps = first_learned; learned = one_learned; is = refl }, refl)), refl)
 
 pub returns-clause-one_piece : goal.returns-clause-one_piece
 returns-clause-one_piece c = λ h.

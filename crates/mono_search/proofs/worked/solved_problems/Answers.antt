@@ -2,11 +2,11 @@ use Rattle.std.proofs.Common.{◌≡◌, ℕ, zero, suc, ◌<◌, false, true, [
 use Rattle.std.specs.Prelude.{IsTrue, Some, None, slice_get}
 use Rattle.std.proofs.lemmas.Option.{same_Some}
 use Rattle.mono_steps.specs.declared.step.Step.{Step}
-use Rattle.mono_steps.specs.New.{AreNew, IsProgress}
+use Rattle.mono_steps.specs.New.{IsProgress}
 use Rattle.mono_steps.specs.Renumbering.{names_step}
 use Rattle.mono_steps.specs.Trimmed.{IsNamedLater, IsTrimRefutation}
 use Rattle.mono_steps.specs.WorkedLemmas.{chain}
-use Rattle.mono_steps.proofs.WorkedNew.{one_is_end, one_is_left_open}
+use Rattle.mono_steps.proofs.WorkedNew.{one_is_new}
 use Rattle.mono_search.specs.Worked.{two_clauses, both_signs, first_learned, learned_behind_a_lemma}
 use Rattle.mono_search.proofs.worked.solved_problems.Goals as goal
 
@@ -34,11 +34,8 @@ first_not_named h = at h.later h.after h.is h.names
 pub returns-clause-step_too_many : goal.returns-clause-step_too_many
 returns-clause-step_too_many c = λ (h : IsTrimRefutation both_signs (chain (pos 1 ∷ []) (1 ∷ []) ∷ chain [] (1 ∷ 2 ∷ []) ∷ [])). first_not_named (h.named 0 (omega arith))
 
-fresh : AreNew two_clauses first_learned
-fresh = record { chains = ((λ full. record { exact = one_is_end _ refl refl; new = one_is_left_open _ refl }), tt); none_empty = refl }
-
 pub returns-clause-progress : goal.returns-clause-progress
-returns-clause-progress c = record { justified = refl; new = fresh; chains = refl; few = omega arith }
+returns-clause-progress c = record { justified = refl; new = one_is_new two_clauses refl refl refl; chains = refl; few = omega arith }
 
 pub returns-clause-unjustified_lemma : goal.returns-clause-unjustified_lemma
 returns-clause-unjustified_lemma c = λ (h : IsProgress two_clauses 1 learned_behind_a_lemma). let e : false ≡ true = h.justified in cc

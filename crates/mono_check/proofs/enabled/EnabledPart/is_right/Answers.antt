@@ -11,16 +11,16 @@ pub truth-requires-clause-known : goal.truth-requires-clause-known
 truth-requires-clause-known c =
     subst (λ (x : Atom). IfSome c.args.known (λ b. IsTrue b ↔ HoldsAtom c.args.problem.now (value_in c.args.model.now) x)) (sym c.atom-atom.ensures) c.requires.known
 
-pub returns-then-value-clause-right : goal.returns-then-value-clause-right
-returns-then-value-clause-right c =
+pub returns-then-value_of-clause-right : goal.returns-then-value_of-clause-right
+returns-then-value_of-clause-right c =
     let p = c.args.problem.now in
     let a = value_in c.args.model.now in
     let holds = subst (λ (y : Atom). IsTrue c.in_ok-holds.holds ↔ HoldsAtom p a y) c.atom-atom.ensures c.in_ok-holds.ensures.holds in
-    is_true_judged p a (atom_numbered p c.args.number) c.in_ok-holds.holds (subst (λ (y : Atom). a y.var ≡ true) c.atom-atom.ensures (sym c.if-value.ensures)) holds
+    is_true_judged p a (atom_numbered p c.args.number) c.in_ok-holds.holds (subst (λ (y : Atom). a y.var ≡ true) c.atom-atom.ensures (sym c.if-value_of.ensures)) holds
 
-pub returns-else-value-clause-right : goal.returns-else-value-clause-right
-returns-else-value-clause-right c =
+pub returns-else-value_of-clause-right : goal.returns-else-value_of-clause-right
+returns-else-value_of-clause-right c =
     let p = c.args.problem.now in
     let a = value_in c.args.model.now in
     let holds = subst (λ (y : Atom). IsTrue c.in_ok-holds.holds ↔ HoldsAtom p a y) c.atom-atom.ensures c.in_ok-holds.ensures.holds in
-    is_false_judged p a (atom_numbered p c.args.number) c.in_ok-holds.holds (subst (λ (y : Atom). a y.var ≡ false) c.atom-atom.ensures (sym c.if-value.ensures)) holds
+    is_false_judged p a (atom_numbered p c.args.number) c.in_ok-holds.holds (subst (λ (y : Atom). a y.var ≡ false) c.atom-atom.ensures (sym c.if-value_of.ensures)) holds

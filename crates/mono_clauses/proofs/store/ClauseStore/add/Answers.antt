@@ -43,8 +43,8 @@ pub invariant_of-self-2 : goal.invariant_of-self-2
 invariant_of-self-2 c =
     let at = (goal.at.invariant_of-self-2 c).In_default in
     let same : c.try_watch.new.watches ≡ c.grow.new.self = c.if-try_watch.ensures.no in
-    let due : c.put.new.items.items ≡ c.self.inside.due.items ++ c.len-place.result ∷ [] = c.put.ensures ∙ ap (λ (xs : List ℕ). xs ++ c.len-place.result ∷ []) c.reserve.ensures.items in
-    subst (λ (v : WatchesView). IsStore c.add.new.self v c.put.new.items.items) (sym same) (subst (λ (xs : List ℕ). IsStore c.add.new.self c.grow.new.self xs) (sym due) (added at))
+    let due : c.push_reserved.new.self.items ≡ c.self.inside.due.items ++ c.len-place.result ∷ [] = c.push_reserved.ensures.items ∙ ap (λ (xs : List ℕ). xs ++ c.len-place.result ∷ []) c.reserve.ensures.items in
+    subst (λ (v : WatchesView). IsStore c.add.new.self v c.push_reserved.new.self.items) (sym same) (subst (λ (xs : List ℕ). IsStore c.add.new.self c.grow.new.self xs) (sym due) (added at))
 
 pub returns-clause-follows : goal.returns-clause-follows
 returns-clause-follows c =

@@ -8,7 +8,7 @@ use Rattle.mono_clauses.specs.Propagation.{Grows, FalseFound, QuietFound}
 use Rattle.mono_clauses.specs.Store.{StoreView}
 use Rattle.mono_clauses.specs.Visits.{IsFollowing, DueVisited, Followed, Failed, IsStore}
 use Rattle.mono_clauses.proofs.store.ClauseStore.propagate.Goals as goal
-use Rattle.mono_clauses.proofs.store.ClauseStore.propagate.Goals.{After-self, After-visit_due, In-Some, In_default, In-Some-follow, In_default-follow}
+use Rattle.mono_clauses.proofs.store.ClauseStore.propagate.Goals.{After-self, In-Some, In_default, In-Some-follow, In_default-follow}
 
 start : (c : After-self) → IsFollowing c.self.inside.clauses.list c.self.inside.watches c.args.trail.now
 start c = following_of c.self.inside.clauses c.self.inside.watches c.self.inside.due.items c.args.self.now c.args.trail.now c.self.invariant c.self.view_is c.requires

@@ -23,9 +23,9 @@ returns-in_err-reserve_watchers-clause-err c =
     let w : watched_of c.reserve_watchers.new.busy.items c.reserve_watchers.new.lits.items ≡ watched_of c.self.inside.busy.items c.self.inside.lits.items = cc in
     let p = err_from_is_err_and c.from_residual.result c.from_residual.ensures.1 in
     rw (p.1)
-    (ap (λ (xs : List ℕ). let v : WatchesView = record { vars = c.self.inside.vars; watched = watched_of c.reserve_watchers.new.busy.items c.reserve_watchers.new.lits.items; ahead = watchers_at c.reserve_watchers.new.cells.items xs } in v) r
+    (ap (λ (xs : List ℕ). let v : WatchesView = record { vars = c.self.inside.vars; watched = watched_of c.reserve_watchers.new.busy.items c.reserve_watchers.new.lits.items; ahead = watchers_at c.reserve_watchers.new.chunks.cells.items xs } in v) r
     ∙ ap (λ (cs : List ℕ). let v : WatchesView = record { vars = c.self.inside.vars; watched = watched_of c.reserve_watchers.new.busy.items c.reserve_watchers.new.lits.items; ahead = watchers_at cs c.self.inside.rest.places } in v) e.cells
-    ∙ ap (λ (ws : List (Option ℤ)). let v : WatchesView = record { vars = c.self.inside.vars; watched = ws; ahead = watchers_at c.self.inside.cells.items c.self.inside.rest.places } in v) w
+    ∙ ap (λ (ws : List (Option ℤ)). let v : WatchesView = record { vars = c.self.inside.vars; watched = ws; ahead = watchers_at c.self.inside.chunks.cells.items c.self.inside.rest.places } in v) w
     ∙ c.self.view_is)
 
 more : (bs bs₁ bs₂ : List Bool) (ls ls₁ ls₂ : List ℤ) → length bs ≡ length ls → bs₁ ≡ bs ++ false ∷ [] → ls₁ ≡ ls ++ pos 1 ∷ [] → bs₂ ≡ bs₁ ++ false ∷ [] → ls₂ ≡ ls₁ ++ pos 1 ∷ [] → watched_of bs₂ ls₂ ≡ (watched_of bs ls ++ None ∷ []) ++ None ∷ []
@@ -45,9 +45,9 @@ invariant_of-self-2 c =
     let e = c.reserve_watchers.ensures in
     let w : watched_of c.reserve_watchers.new.busy.items c.reserve_watchers.new.lits.items ≡ watched_of c.self.inside.busy.items c.self.inside.lits.items = cc in
     let l : length c.reserve_watchers.new.busy.items ≡ length c.reserve_watchers.new.lits.items = ap (λ (xs : List Bool). length xs) e.busy ∙ c.self.invariant.2 ∙ sym (ap (λ (xs : List ℤ). length xs) e.lits) in
-    let base = chunk_eq c.reserve_watchers.new.links.items c.reserve_watchers.new.cells.items c.reserve_watchers.new.free_chunks.items (watched_of c.reserve_watchers.new.busy.items c.reserve_watchers.new.lits.items) [] (chunk_close c.self.inside.list c.self.invariant.0) e.links e.cells e.free_chunks w refl in
+    let base = chunk_eq c.reserve_watchers.new.chunks.links.items c.reserve_watchers.new.chunks.cells.items c.reserve_watchers.new.chunks.free.items (watched_of c.reserve_watchers.new.busy.items c.reserve_watchers.new.lits.items) [] (chunk_close c.self.inside.list c.self.invariant.0) e.links e.cells e.free_chunks w refl in
     let least : c.len-2.result + 2 + 7 * (2 * c.self.inside.vars + 2) ≡ length (watched_of c.reserve_watchers.new.busy.items c.reserve_watchers.new.lits.items) + 2 + 7 * (2 * c.self.inside.vars + 2) = omega (arith, length_watched c.reserve_watchers.new.busy.items c.reserve_watchers.new.lits.items l) in
-    let wide = chunk_widen _ c.widen.new.links.items c.widen.new.cells.items c.widen.new.free_chunks.items base c.widen.ensures.is least (omega (arith, ap (λ (xs : List ℕ). length xs) e.links, c.if-len-gt536870896.false)) in
+    let wide = chunk_widen _ c.widen.new.self.links.items c.widen.new.self.cells.items c.widen.new.self.free.items base c.widen.ensures.is least (omega (arith, ap (λ (xs : List ℕ). length xs) e.links, c.if-len-gt536870896.false)) in
     let grown = chunk_grow wide.is wide.room in
     let watched = more _ _ _ _ _ _ l c.add_idle.ensures.busy c.add_idle.ensures.lits c.add_idle-2.ensures.busy c.add_idle-2.ensures.lits in
     let room = c.in_ok-reserve_watchers.ensures.room in
@@ -63,7 +63,7 @@ returns-clause-ok c =
     let w : watched_of c.reserve_watchers.new.busy.items c.reserve_watchers.new.lits.items ≡ watched_of c.self.inside.busy.items c.self.inside.lits.items = cc in
     let l : length c.reserve_watchers.new.busy.items ≡ length c.reserve_watchers.new.lits.items = ap (λ (xs : List Bool). length xs) e.busy ∙ c.self.invariant.2 ∙ sym (ap (λ (xs : List ℤ). length xs) e.lits) in
     let watched = more _ _ _ _ _ _ l c.add_idle.ensures.busy c.add_idle.ensures.lits c.add_idle-2.ensures.busy c.add_idle-2.ensures.lits ∙ ap (λ (ws : List (Option ℤ)). (ws ++ None ∷ []) ++ None ∷ []) w in
-    ap (λ (xs : List ℕ). let v : WatchesView = record { vars = c.self.inside.vars; watched = watched_of c.add_idle-2.new.busy.items c.add_idle-2.new.lits.items; ahead = watchers_at c.widen.new.cells.items xs } in v) (rest_is _ _ c.self-2-1.given.0 [] refl)
+    ap (λ (xs : List ℕ). let v : WatchesView = record { vars = c.self.inside.vars; watched = watched_of c.add_idle-2.new.busy.items c.add_idle-2.new.lits.items; ahead = watchers_at c.widen.new.self.cells.items xs } in v) (rest_is _ _ c.self-2-1.given.0 [] refl)
     ∙ ap (λ (ws : List (Option ℤ)). let v : WatchesView = record { vars = c.self.inside.vars; watched = ws; ahead = [] } in v) watched
     ∙ ap (λ (xs : List ℕ). let v : WatchesView = record { vars = c.self.inside.vars; watched = (watched_of c.self.inside.busy.items c.self.inside.lits.items ++ None ∷ []) ++ None ∷ []; ahead = xs } in v) (sym empty)
     ∙ ap (λ (v : WatchesView). more_watches v) c.self.view_is

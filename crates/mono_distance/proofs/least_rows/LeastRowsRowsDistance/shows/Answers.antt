@@ -1,4 +1,5 @@
 use Rattle.std.proofs.Common.{true, ap, sym, subst, ◌∙◌, arith}
+use Rattle.mono_graph.specs.Walks.{admits}
 use Rattle.mono_problem.specs.declared.atom.Atom.{Atom}
 use Rattle.mono_problem.specs.declared.atom.Predicate.{Predicate}
 use Rattle.mono_problem.specs.Read.{no_atom}
@@ -7,7 +8,6 @@ use Rattle.mono_theory.specs.Evidences.{Decides}
 use Rattle.mono_theory.specs.Supports.{atom_at}
 use Rattle.mono_theory.specs.SureParts.{sure_parts}
 use Rattle.mono_theory.proofs.KeptEvidenceDecides.{shown_rising}
-use Rattle.mono_distance.specs.SureLabels.{is_within}
 use Rattle.mono_distance.proofs.DistanceEvidence.{distance_rises}
 use Rattle.mono_theory.proofs.AskedRows.{last_known}
 use Rattle.mono_distance.proofs.SureLabels.{asked_decides, labels_uncut, node_held, shown_last, within_asked}
@@ -34,9 +34,9 @@ returns-clause-decides c on =
     let is = sym (ap (λ (y : Atom). y.predicate) c.atom_at-atom.ensures.atom) ∙ c.what_is_asked-asked.ensures in
     let q = (atom_at f.atoms c.args.place).predicate in
     let kind = c.requires.covered.each c.args.place no_atom c.requires.place in
-    let decides : Decides f.graph (sure_parts f c.args.looked) q (is_within c.label-label.result x.limit) = asked_decides {f = f} c.args.place x.from x.to c.label-label.result x.limit c.requires.place kind is inside c.label-label.ensures
+    let decides : Decides f.graph (sure_parts f c.args.looked) q (admits x.limit c.label-label.result) = asked_decides {f = f} c.args.place x.from x.to c.label-label.result x.limit c.requires.place kind is inside c.label-label.ensures
     (labels_uncut {f = f} c.args.looked c.requires.looked c.requires.right) in
-    subst (Decides f.graph (sure_parts f c.args.looked) q) (sym (shown_rising q true (distance_rises q kind))) (subst (Decides f.graph (sure_parts f c.args.looked) q) (sym c.is_within.ensures ∙ on) decides)
+    subst (Decides f.graph (sure_parts f c.args.looked) q) (sym (shown_rising q true (distance_rises q kind))) (subst (Decides f.graph (sure_parts f c.args.looked) q) (sym c.admits.ensures ∙ on) decides)
 
 pub returns-clause-shown : goal.returns-clause-shown
 returns-clause-shown c =
@@ -44,4 +44,4 @@ returns-clause-shown c =
     let x = c.what_is_asked-asked.result in
     let is = sym (ap (λ (y : Atom). y.predicate) c.atom_at-atom.ensures.atom) ∙ c.what_is_asked-asked.ensures in
     let h = labels_uncut {f = f} c.args.looked c.requires.looked c.requires.right in
-    c.is_within.ensures ∙ within_asked c.args.self.now c.args.place x.from x.to c.label-label.result x.limit (atom_at f.atoms c.args.place).predicate is c.label-label.ensures ∙ sym (shown_last c.args.place c.requires.place h)
+    c.admits.ensures ∙ within_asked c.args.self.now c.args.place x.from x.to c.label-label.result x.limit (atom_at f.atoms c.args.place).predicate is c.label-label.ensures ∙ sym (shown_last c.args.place c.requires.place h)

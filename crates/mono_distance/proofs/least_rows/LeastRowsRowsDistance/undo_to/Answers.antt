@@ -1,5 +1,4 @@
-use Rattle.std.proofs.Common.{refl, arith}
-use Rattle.mono_distance.specs.SureLabels.{SureLabels}
+use Rattle.std.proofs.Common.{arith}
 use Rattle.mono_distance.proofs.SureLabels.{back_shows, labels_back, labels_cut, labels_uncut}
 use Rattle.mono_distance.proofs.least_rows.LeastRowsRowsDistance.undo_to.Goals as goal
 
@@ -7,12 +6,9 @@ pub returns-clause-right : goal.returns-clause-right
 returns-clause-right c =
     let f = c.args.frame.now in
     let h = labels_uncut {f = f} c.args.looked c.requires.looked (rw (← c.self.view_is) at c.requires.right) in
-    let r : SureLabels = record { rows = c.undo_to.new.self; row_of = c.self.inside.row_of.items; lasts = c.self.inside.lasts; limits = c.self.inside.limits.items } in
-    labels_cut {f = f} c.args.kept (omega (arith, c.requires.kept, c.requires.looked)) (labels_back {f = f} {r = r} c.args.looked c.args.kept c.requires.kept c.undo_to.ensures refl h)
+    labels_cut {f = f} c.args.kept (omega (arith, c.requires.kept, c.requires.looked)) (labels_back {f = f} c.undo_to.new.self c.args.looked c.args.kept c.requires.kept c.undo_to.ensures.undone c.undo_to.ensures.same h)
 
 pub returns-clause-shown : goal.returns-clause-shown
 returns-clause-shown c = λ a lt on.
-    let f = c.args.frame.now in
-    let h = labels_uncut {f = f} c.args.looked c.requires.looked (rw (← c.self.view_is) at c.requires.right) in
-    let r : SureLabels = record { rows = c.undo_to.new.self; row_of = c.self.inside.row_of.items; lasts = c.self.inside.lasts; limits = c.self.inside.limits.items } in
-    rw (← c.self.view_is) (back_shows {f = f} {r = r} c.args.looked c.args.kept a lt c.requires.kept h c.undo_to.ensures refl on)
+    let h = labels_uncut {f = c.args.frame.now} c.args.looked c.requires.looked (rw (← c.self.view_is) at c.requires.right) in
+    rw (← c.self.view_is) (back_shows {f = c.args.frame.now} c.undo_to.new.self c.args.looked c.args.kept a lt c.requires.kept h c.undo_to.ensures.undone c.undo_to.ensures.same on)

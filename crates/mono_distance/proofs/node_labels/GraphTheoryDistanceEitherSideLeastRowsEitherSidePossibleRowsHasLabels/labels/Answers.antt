@@ -1,6 +1,7 @@
 use Rattle.std.proofs.Common.{◌≡◌, ℕ, ◌<◌, Bool, length, ap, sym, subst, ◌∙◌, true}
 use Rattle.std.specs.Option.{is_some}
 use Rattle.std.specs.Prelude.{IfSome, IsTrue, MatchOption, Option, Some}
+use Rattle.mono_graph.specs.Walks.{admits}
 use Rattle.mono_problem.specs.declared.atom.Atom.{Atom}
 use Rattle.mono_problem.specs.declared.atom.Predicate.{Predicate}
 use Rattle.mono_problem.specs.Quiet.{under, over}
@@ -14,7 +15,7 @@ use Rattle.mono_theory.specs.Theories.{atom_of}
 use Rattle.mono_theory.proofs.PlacesOfAtoms.{place_is}
 use Rattle.mono_distance.specs.Distances.{is_distance}
 use Rattle.mono_distance.specs.Readings.{IsLeast, IsReached, over_known, under_in}
-use Rattle.mono_distance.specs.SureLabels.{AreSureLabels, shows_last, is_within, last_node, limit_of}
+use Rattle.mono_distance.specs.SureLabels.{AreSureLabels, shows_last, last_node, limit_of}
 use Rattle.mono_distance.proofs.DistanceEvidence.{has_bound}
 use Rattle.mono_distance.proofs.KnownLabels.{reading_is, under_decides}
 use Rattle.mono_distance.proofs.node_labels.GraphTheoryDistanceEitherSideLeastRowsEitherSidePossibleRowsHasLabels.labels.Goals as goal
@@ -64,7 +65,7 @@ returns-clause-decided_over c decided =
     let a : ℕ = c.place_of-place.result in
     let found : atom_of s.atoms c.args.atom ≡ Some (atom_at s.atoms a) = rw c.frame-frame.ensures at c.place_of-place.ensures.is in
     let decides = rw (c.frame-frame.ensures, c.possibly-possibly.ensures.value) at c.over_known.ensures.decides in
-    subst (λ (o : Option Atom). MatchOption o ⊥ (λ y. c.args.node ≡ last_node y.predicate → Decides s.graph (over s.graph s.seen) y.predicate (is_within c.over_known.result (limit_of y.predicate)))) (sym found) (decides decided.possibly)
+    subst (λ (o : Option Atom). MatchOption o ⊥ (λ y. c.args.node ≡ last_node y.predicate → Decides s.graph (over s.graph s.seen) y.predicate (admits (limit_of y.predicate) c.over_known.result))) (sym found) (decides decided.possibly)
 
 pub what_is_asked-asked-requires : goal.what_is_asked-asked-requires
 what_is_asked-asked-requires c =

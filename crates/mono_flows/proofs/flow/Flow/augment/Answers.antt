@@ -40,9 +40,17 @@ returns-clause-flow c =
     let extra : ℕ = (visit_at path (length path - 1)).residual in
     let at-first : c.loop-at.at ≡ 0 = omega arith in
     record {
-      len = c.loop-at.invariant.len;
-      flowing = subst (λ (value : ℕ). IsFlowing n.graph.now n.part.now n.source n.sink (amount_of c.loop-at.self.amounts.items) (value + extra)) (sym c.loop-at.invariant.value)
-          (moved n.graph.now n.part.now n.source n.sink (c.args.goal - c.args.self.now.value) extra c.args.self.now.value path (amount_of c.args.self.now.amounts.items) (amount_of c.loop-at.self.amounts.items)
-          c.requires.path c.requires.apart c.requires.flow.flowing
-          (subst (λ (at : ℕ). Moving n.graph.now n.part.now n.sink extra path (amount_of c.args.self.now.amounts.items) (amount_of c.loop-at.self.amounts.items) at) at-first c.loop-at.invariant.moving));
+      apart = c.requires.flow.apart;
+      small = c.requires.flow.small;
+      flow = record {
+        len = c.loop-at.invariant.len;
+        flowing = subst (λ (value : ℕ). IsFlowing n.graph.now n.part.now n.source n.sink (amount_of c.loop-at.self.amounts.items) (value + extra)) (sym c.loop-at.invariant.value)
+            (moved n.graph.now n.part.now n.source n.sink (c.args.goal - c.args.self.now.value) extra c.args.self.now.value path (amount_of c.args.self.now.amounts.items) (amount_of c.loop-at.self.amounts.items)
+            c.requires.path c.requires.flow.apart c.requires.flow.flow.flowing
+            (subst (λ (at : ℕ). Moving n.graph.now n.part.now n.sink extra path (amount_of c.args.self.now.amounts.items) (amount_of c.loop-at.self.amounts.items) at) at-first c.loop-at.invariant.moving));
+      };
+      most =
+          let some = c.requires.path.tree.some in
+          let top = c.requires.path.tree.most (length path - 1) (omega arith) in
+          omega (arith, top, c.requires.path.residual, c.requires.flow.most, c.loop-at.invariant.value);
     }

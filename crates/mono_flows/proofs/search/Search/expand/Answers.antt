@@ -2,12 +2,13 @@ use Rattle.std.proofs.Common.{◌<◌, ◌+◌, ◌++◌, ◌∷◌, [], ℕ, Li
 use Rattle.mono_flows.specs.declared.search.Search.{Search}
 use Rattle.mono_flows.specs.declared.visit.Visit.{Visit}
 use Rattle.mono_flows.specs.Residual.{amount_of}
+use Rattle.mono_flows.specs.Visits.{Continues}
 use Rattle.mono_flows.proofs.Searches.{search_of}
-use Rattle.mono_flows.proofs.Expand.{Visiting, Expanding, arrived, next_visited, next_passed}
+use Rattle.mono_flows.proofs.Expand.{Expanding, arrived, next_visited, next_passed}
 use Rattle.mono_flows.proofs.search.Search.expand.Goals as goal
 use Rattle.mono_flows.proofs.search.Search.expand.Goals.{in-Some+in_ok-push+else-visit-network, in_default}
 
-came : (c : goal.Then-visit-network) → Visiting c.args.network.now.graph.now c.args.network.now.part.now (amount_of c.args.amounts.now) c.args.self.now.marks.items (set c.loop-place.self.marks.items c.in-Some.visit.node true) c.args.self.now.visits.items (c.loop-place.self.visits.items ++ c.in-Some.visit ∷ [])
+came : (c : goal.Then-visit-network) → Continues c.args.network.now.graph.now c.args.network.now.part.now (amount_of c.args.amounts.now) c.args.self.now.marks.items (set c.loop-place.self.marks.items c.in-Some.visit.node true) c.args.self.now.visits.items (c.loop-place.self.visits.items ++ c.in-Some.visit ∷ [])
 came c =
     let k : ℕ = get_or c.args.places.now c.loop-place.place-index 0 in
     let here = c.requires.places c.loop-place.place-index 0 c.loop-place-test.true in
@@ -15,14 +16,8 @@ came c =
     c.args.at k c.args.back c.in-Some.visit refl refl c.in-Some.ensures.visit (omega arith) here.0 here.1
     c.in-Some.ensures.residual c.in-Some.ensures.inside c.in-Some.ensures.new c.loop-place.invariant.visiting
 
-pub returns-then-visit-network-clause-tree : goal.returns-then-visit-network-clause-tree
-returns-then-visit-network-clause-tree c = rw c.in_ok-push.ensures.items (came c).tree
-
-pub returns-then-visit-network-clause-marks : goal.returns-then-visit-network-clause-marks
-returns-then-visit-network-clause-marks c = rw c.in_ok-push.ensures.items (came c).ok
-
-pub returns-then-visit-network-clause-extends : goal.returns-then-visit-network-clause-extends
-returns-then-visit-network-clause-extends c = rw c.in_ok-push.ensures.items (came c).extends
+pub returns-then-visit-network-clause-goes_on : goal.returns-then-visit-network-clause-goes_on
+returns-then-visit-network-clause-goes_on c = rw c.in_ok-push.ensures.items (came c)
 
 pub loop-place-preserved : goal.loop-place-preserved
 loop-place-preserved c =
@@ -46,10 +41,10 @@ loop-place-preserved c =
     ]
 
 pub returns-then-visit-network-clause-search : goal.returns-then-visit-network-clause-search
-returns-then-visit-network-clause-search c = search_of _ _ _ refl c.in_ok-push.ensures.items (came c).tree (came c).ok
+returns-then-visit-network-clause-search c = search_of _ _ _ refl c.in_ok-push.ensures.items (came c).tree (came c).marks
 
 pub returns-in_err-push-clause-search : goal.returns-in_err-push-clause-search
-returns-in_err-push-clause-search c = search_of _ _ _ refl c.in_err-push.ensures.items c.loop-place.invariant.visiting.tree c.loop-place.invariant.visiting.ok
+returns-in_err-push-clause-search c = search_of _ _ _ refl c.in_err-push.ensures.items c.loop-place.invariant.visiting.tree c.loop-place.invariant.visiting.marks
 
 pub returns-clause-search : goal.returns-clause-search
-returns-clause-search c = search_of _ _ _ refl refl c.loop-place.invariant.visiting.tree c.loop-place.invariant.visiting.ok
+returns-clause-search c = search_of _ _ _ refl refl c.loop-place.invariant.visiting.tree c.loop-place.invariant.visiting.marks

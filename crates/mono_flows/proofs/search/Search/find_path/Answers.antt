@@ -28,10 +28,10 @@ loop-head-preserved c =
     record {
       searching =
           search_more n.graph.now n.part.now (amount_of c.args.amounts.now) n.source n.sink c.args.most c.loop-head.self.marks.items c.expand_node.new.self.marks.items c.loop-head.self.visits.items c.expand_node.new.self.visits.items
-          x e.tree e.marks e.extends (e.away going x.away);
+          x e.goes_on.tree e.goes_on.marks e.goes_on.extends (e.came.away going x.away);
       spread =
           spread_more n.graph.now n.part.now (amount_of c.args.amounts.now) c.loop-head.self.marks.items c.expand_node.new.self.marks.items c.loop-head.self.visits.items c.expand_node.new.self.visits.items c.loop-head.head
-          (omega arith) x.ok e.marks e.extends (e.covers going) c.loop-head.invariant.spread;
+          (omega arith) x.ok e.goes_on.marks e.goes_on.extends (e.covers going) c.loop-head.invariant.spread;
     }
 
 pub returns-clause-search : goal.returns-clause-search

@@ -1,4 +1,4 @@
-use Rattle.std.proofs.Common.{◌≡◌, ◌≤◌, ◌<◌, ◌∙◌, sym, ap, subst, arith, ℕ, List, length, get_or, refl, suc, ◌-◌, inl, inr, ◌⊎◌}
+use Rattle.std.proofs.Common.{◌≡◌, ◌<◌, ◌∙◌, sym, ap, subst, arith, ℕ, List, length, get_or, refl, ◌-◌, inl, inr}
 use Rattle.std.specs.Prelude.{Contains}
 use Rattle.std.proofs.lemmas.List.Elements.{Contains-get_or}
 use Rattle.std.proofs.lemmas.List.Sorted.{Contains-permutation, IsPermutation-sym, IsNonDecreasingBy-from_sort}
@@ -7,13 +7,9 @@ use Rattle.mono_steps.specs.Steps.{clauses_after}
 use Rattle.mono_learn.specs.Resolving.{HasMinimized}
 use Rattle.std.proofs.lemmas.List.{get_or_read}
 use Rattle.mono_learn.specs.Minimizing.{IsKeptFor, AreDropped}
-use Rattle.mono_learn.proofs.Marking.{by_place}
 use Rattle.mono_learn.proofs.MinimizingSteps.{minimized_start, kept_for_fewer}
-use Rattle.mono_learn.proofs.Dropping.{dropped_none, dropped_more}
+use Rattle.mono_learn.proofs.Dropping.{dropped_none, dropped_more, at_or_above}
 use Rattle.mono_learn.proofs.analysis.Analysis.minimize.Goals as goal
-
-at_or_above : (i j : ℕ) → i ≤ j → (j ≡ i) ⊎ (i < j)
-at_or_above i j le = elim (by_place (suc i) j) [ inl a ↦ inl (omega arith) | inr b ↦ inr (omega arith) ]
 
 pub loop-rest-init : goal.loop-rest-init
 loop-rest-init c = record {

@@ -9,8 +9,7 @@ use Rattle.mono_reach.proofs.reached_rows.ReachedRows.walk_within.Goals as goal
 use Rattle.mono_reach.proofs.reached_rows.ReachedRows.walk_within.Goals.{In-Some}
 
 own_row : (c : In-Some) → c.row-reached.result.now ≡ row_at c.args.self.now.rows (row_of_atom c.args.self.now c.args.place)
-own_row c =
-    c.row-reached.ensures no_row ∙ (ap (λ (i : ℕ). row_at c.self.inside.rows i) c.row-row.ensures ∙ ap (λ (m : SureMarks). row_at m.rows (row_of_atom c.args.self.now c.args.place)) c.self.view_is)
+own_row c = c.row-reached.ensures no_row ∙ ap (λ (m : SureMarks). row_at m.rows (row_of_atom m c.args.place)) c.self.view_is
 
 reached_by : (c : In-Some) → (m : ℕ) → is_reached (within m (row_at c.args.self.now.rows (row_of_atom c.args.self.now c.args.place)).arrivals) c.args.node ≡ is_by (Some c.in-Some.stamp) m
 reached_by c = subst (λ (r : Reached). (m : ℕ) → is_reached (within m r.arrivals) c.args.node ≡ is_by (Some c.in-Some.stamp) m) (own_row c) c.in-Some.ensures

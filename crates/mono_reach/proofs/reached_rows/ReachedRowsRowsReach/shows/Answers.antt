@@ -14,7 +14,7 @@ is_marked-requires-clause-right c = marks_in c.args.frame.now c.args.looked c.re
 is_shown : (c : goal.After-is_marked) → c.is_marked.result ≡ shows_last c.args.self.now c.args.place
 is_shown c =
     c.is_marked.ensures
-    ∙ ap (under_mark c.args.self.now c.args.place) (c.ends_of-to.ensures.last ∙ (ap (λ (x : Atom). last_node x.predicate) c.atom_at-atom.ensures.atom ∙ sym (c.requires.right.lasts.each c.args.place c.requires.place)))
+    ∙ ap (under_mark c.args.self.now c.args.place) (c.ends_of-to.ensures.last ∙ (ap (λ (x : Atom). last_node x.predicate) c.atom_at-atom.ensures.atom ∙ sym (c.requires.right.lasts.each c.args.place 0 c.requires.place)))
 
 pub returns-clause-shown : goal.returns-clause-shown
 returns-clause-shown c = is_shown c

@@ -8,7 +8,7 @@ use Rattle.mono_search.specs.State.{IsJournal, IsReady}
 use Rattle.mono_trail.specs.Order.{OrderView}
 use Rattle.mono_search.specs.Runs.{Releases, GoesBack}
 use Rattle.mono_search.proofs.Propagating.{state}
-use Rattle.mono_search.proofs.LearnedClauses.{asks_reasons, journal-added, learned_within, learned_rising, learned_follows, learned_open, learned_chains, added, on_ok, went_back}
+use Rattle.mono_search.proofs.LearnedClauses.{asks_reasons, journal-added, learned_within, learned_rising, learned_follows, learned_open, learned_chains, analysed, added, on_ok, went_back}
 use Rattle.mono_search.proofs.state.State.learn.Goals as goal
 
 pub analyse-requires-clause-reasons : goal.analyse-requires-clause-reasons
@@ -25,76 +25,45 @@ returns-in_err-learnt-clause-journal g c =
 
 pub add-requires-clause-within : goal.add-requires-clause-within
 add-requires-clause-within g c =
-    let conflict = rw (← c.self.view_is) at c.requires.conflict in
-    let one = rw (← c.self.view_is) at c.requires.level in
-    let same = c.problem-problem.ensures.problem in
-    let learns = rw same at c.in_ok-learnt.ensures.learns in
-    let settles = rw same at c.in_ok-learnt.ensures.settles in
-    let keeps = rw same at c.in_ok-learnt.ensures.keeps in
-    rw c.lits.ensures (learned_within c.self.inside.theories c.self.inside.trail c.analyse.new.trail c.self.inside.store c.self.inside.journal c.analyse.new.journal c.self.inside.order c.args.conflict c.in_ok-learnt.learnt conflict one learns settles (keeps conflict.whole.journal.journal.justified) c.level.ensures.sound)
+    let analysis = analysed c.self.view_is c.requires.conflict c.requires.level c.problem-problem.ensures.problem c.in_ok-learnt.ensures.learns c.in_ok-learnt.ensures.settles c.in_ok-learnt.ensures.keeps c.level.ensures.sound in
+    rw c.lits.ensures (learned_within analysis)
 
 pub add-requires-clause-rising : goal.add-requires-clause-rising
 add-requires-clause-rising g c =
-    let conflict = rw (← c.self.view_is) at c.requires.conflict in
-    let one = rw (← c.self.view_is) at c.requires.level in
-    let same = c.problem-problem.ensures.problem in
-    let learns = rw same at c.in_ok-learnt.ensures.learns in
-    let settles = rw same at c.in_ok-learnt.ensures.settles in
-    let keeps = rw same at c.in_ok-learnt.ensures.keeps in
-    learned_rising c.self.inside.theories c.self.inside.trail c.analyse.new.trail c.self.inside.store c.self.inside.journal c.analyse.new.journal c.self.inside.order c.args.conflict c.in_ok-learnt.learnt conflict one learns settles (keeps conflict.whole.journal.journal.justified) c.level.ensures.sound
+    let analysis = analysed c.self.view_is c.requires.conflict c.requires.level c.problem-problem.ensures.problem c.in_ok-learnt.ensures.learns c.in_ok-learnt.ensures.settles c.in_ok-learnt.ensures.keeps c.level.ensures.sound in
+    learned_rising analysis
 
 pub add-requires-clause-follows : goal.add-requires-clause-follows
 add-requires-clause-follows g c =
-    let conflict = rw (← c.self.view_is) at c.requires.conflict in
-    let one = rw (← c.self.view_is) at c.requires.level in
-    let same = c.problem-problem.ensures.problem in
-    let learns = rw same at c.in_ok-learnt.ensures.learns in
-    let settles = rw same at c.in_ok-learnt.ensures.settles in
-    let keeps = rw same at c.in_ok-learnt.ensures.keeps in
-    rw c.backjump.ensures.trail (learned_follows c.self.inside.theories c.self.inside.trail c.analyse.new.trail c.self.inside.store c.self.inside.journal c.analyse.new.journal c.self.inside.order c.args.conflict c.in_ok-learnt.learnt conflict one learns settles (keeps conflict.whole.journal.journal.justified) c.level.ensures.sound c.level_after-level.result c.level_after-level.ensures.within)
+    let analysis = analysed c.self.view_is c.requires.conflict c.requires.level c.problem-problem.ensures.problem c.in_ok-learnt.ensures.learns c.in_ok-learnt.ensures.settles c.in_ok-learnt.ensures.keeps c.level.ensures.sound in
+    rw c.backjump.ensures.trail (learned_follows analysis c.level_after-level.result c.level_after-level.ensures.within)
 
 pub returns-clause-journal : goal.returns-clause-journal
 returns-clause-journal g c =
-    let conflict = rw (← c.self.view_is) at c.requires.conflict in
-    let one = rw (← c.self.view_is) at c.requires.level in
-    let same = c.problem-problem.ensures.problem in
-    let learns = rw same at c.in_ok-learnt.ensures.learns in
-    let settles = rw same at c.in_ok-learnt.ensures.settles in
-    let keeps = rw same at c.in_ok-learnt.ensures.keeps in
-    let open_journal = learned_open c.self.inside.theories c.self.inside.trail c.analyse.new.trail c.self.inside.store c.self.inside.journal c.analyse.new.journal c.self.inside.order c.args.conflict c.in_ok-learnt.learnt conflict one learns settles (keeps conflict.whole.journal.journal.justified) c.level.ensures.sound in
+    let analysis = analysed c.self.view_is c.requires.conflict c.requires.level c.problem-problem.ensures.problem c.in_ok-learnt.ensures.learns c.in_ok-learnt.ensures.settles c.in_ok-learnt.ensures.keeps c.level.ensures.sound in
+    let open_journal = learned_open analysis in
     let problem : c.backjump.new.theories.problem ≡ c.self.inside.theories.problem = ap (λ (b : TheoriesView). b.problem) c.backjump.ensures.theories ∙ ap (λ (b : TheoriesView). b.problem) c.in_ok-learnt.ensures.by in
     subst (λ (p : Instance). IsJournal p c.analyse.new.journal) (sym problem) open_journal.journal
 
 pub returns-clause-ready : goal.returns-clause-ready
 returns-clause-ready g c =
-    let conflict = rw (← c.self.view_is) at c.requires.conflict in
-    let one = rw (← c.self.view_is) at c.requires.level in
-    let same = c.problem-problem.ensures.problem in
-    let learns = rw same at c.in_ok-learnt.ensures.learns in
-    let settles = rw same at c.in_ok-learnt.ensures.settles in
-    let keeps = rw same at c.in_ok-learnt.ensures.keeps in
+    let analysis = analysed c.self.view_is c.requires.conflict c.requires.level c.problem-problem.ensures.problem c.in_ok-learnt.ensures.learns c.in_ok-learnt.ensures.settles c.in_ok-learnt.ensures.keeps c.level.ensures.sound in
     let u = c.analyse.new.trail in
     let ok = rw c.lits.ensures at c.add.ensures.ok in
-    let ready = added c.self.inside.theories c.self.inside.trail u c.self.inside.store c.self.inside.journal c.analyse.new.journal c.self.inside.order c.args.conflict c.in_ok-learnt.learnt conflict one learns settles (keeps conflict.whole.journal.journal.justified) c.level.ensures.sound
+    let ready = added analysis
     c.add.result c.level_after-level.result c.backjump.new.order c.backjump.new.trail c.add.new.self c.level_after-level.ensures.within c.backjump.ensures.sound c.backjump.ensures.trail (subst (λ (o : OrderView). Releases o c.backjump.new.order (drop (count_to c.level_after-level.result u.marks) u.lits)) c.bump_resolved.ensures c.backjump.ensures.order) ok c.add.ensures.follows in
     let board : c.backjump.new.theories ≡ having_seen c.self.inside.theories u.lits (min c.self.inside.theories.handed (count_to c.level_after-level.result u.marks)) = c.backjump.ensures.theories ∙ ap (λ (b : TheoriesView). having_seen b u.lits (min b.handed (count_to c.level_after-level.result u.marks))) c.in_ok-learnt.ensures.by in
     subst (λ (b : TheoriesView). OnOk c.add.result (IsReady (state b c.backjump.new.trail c.add.new.self c.analyse.new.journal c.backjump.new.order))) (sym board) ready
 
 pub returns-clause-chains : goal.returns-clause-chains
 returns-clause-chains g c =
-    let conflict = rw (← c.self.view_is) at c.requires.conflict in
-    let one = rw (← c.self.view_is) at c.requires.level in
-    let same = c.problem-problem.ensures.problem in
-    let learns = rw same at c.in_ok-learnt.ensures.learns in
-    let settles = rw same at c.in_ok-learnt.ensures.settles in
-    let keeps = rw same at c.in_ok-learnt.ensures.keeps in
-    let e = learned_chains c.self.inside.theories c.self.inside.trail c.analyse.new.trail c.self.inside.store c.self.inside.journal c.analyse.new.journal c.self.inside.order c.args.conflict c.in_ok-learnt.learnt conflict one learns settles (keeps conflict.whole.journal.journal.justified) c.level.ensures.sound in
+    let analysis = analysed c.self.view_is c.requires.conflict c.requires.level c.problem-problem.ensures.problem c.in_ok-learnt.ensures.learns c.in_ok-learnt.ensures.settles c.in_ok-learnt.ensures.keeps c.level.ensures.sound in
+    let e = learned_chains analysis in
     rw (← c.self.view_is) (on_ok c.add.result (chain_count c.analyse.new.journal ≡ chain_count c.self.inside.journal + 1) e)
 
 pub returns-clause-back : goal.returns-clause-back
 returns-clause-back g c =
-    let learns = rw c.problem-problem.ensures.problem at c.in_ok-learnt.ensures.learns in
-    let settles = rw c.problem-problem.ensures.problem at c.in_ok-learnt.ensures.settles in
-    let back = went_back c.self.inside.theories c.backjump.new.theories c.self.inside.trail c.analyse.new.trail c.backjump.new.trail c.self.inside.store c.add.new.self c.self.inside.journal c.analyse.new.journal c.self.inside.order c.backjump.new.order c.in_ok-learnt.learnt c.args.restarts c.level_after-level.result
-    learns settles c.level_after-level.ensures.level c.backjump.ensures.trail (subst (λ (o : OrderView). Releases o c.backjump.new.order (drop (count_to c.level_after-level.result c.analyse.new.trail.marks) c.analyse.new.trail.lits)) c.bump_resolved.ensures c.backjump.ensures.order) in
+    let analysis = analysed c.self.view_is c.requires.conflict c.requires.level c.problem-problem.ensures.problem c.in_ok-learnt.ensures.learns c.in_ok-learnt.ensures.settles c.in_ok-learnt.ensures.keeps c.level.ensures.sound in
+    let back = went_back analysis c.backjump.new.theories c.backjump.new.trail c.add.new.self c.backjump.new.order c.args.restarts c.level_after-level.result c.level_after-level.ensures.level c.backjump.ensures.trail
+    (subst (λ (o : OrderView). Releases o c.backjump.new.order (drop (count_to c.level_after-level.result c.analyse.new.trail.marks) c.analyse.new.trail.lits)) c.bump_resolved.ensures c.backjump.ensures.order) in
     rw (← c.self.view_is) (on_ok c.add.result (GoesBack (state c.self.inside.theories c.self.inside.trail c.self.inside.store c.self.inside.journal c.self.inside.order) (state c.backjump.new.theories c.backjump.new.trail c.add.new.self c.analyse.new.journal c.backjump.new.order) c.args.restarts) back)

@@ -1,18 +1,10 @@
-use Rattle.std.proofs.Common.{◌≡◌, ◌∙◌, sym, ap, arith}
-use Rattle.std.specs.Prelude.{Some}
 use Rattle.mono_trail.specs.declared.reason.Mark.{Mark}
 use Rattle.mono_trail.specs.Places.{place_in}
-use Rattle.mono_trail.proofs.Places.{mark_within, mark_read}
+use Rattle.mono_trail.proofs.Places.{mark_says}
 use Rattle.mono_trail.proofs.trail.Trail.reason.Goals as goal
-use Rattle.mono_trail.proofs.trail.Trail.reason.Goals.{After-self}
 
-place_is : (c : After-self) → place_in c.self.inside.lits.items c.args.var ≡ Some c.in_ok-place.place
-place_is c = rw (← c.self.view_is) at (sym c.place_of.ensures ∙ c.in_ok-place.was)
+pub returns-in-Some : goal.returns-in-Some
+returns-in-Some c = mark_says (λ (m : Mark). m.reason) c.args.self.now.marks (place_in c.args.self.now.lits c.args.var) _ c.in-Some.ensures
 
-pub index-requires : goal.index-requires
-index-requires c = let after : After-self = (goal.at.index-requires c).After-self in omega (arith, mark_within c.args.var c.in_ok-place.place c.self.invariant.0.sound (place_is after))
-
-pub returns : goal.returns
-returns c =
-    let place : place_in c.self.inside.lits.items c.args.var ≡ Some c.in_ok-place.place = place_is (goal.at.returns c).After-self in
-    rw (← c.self.view_is, place) (ap (λ (m : Mark). Some m.reason) (mark_read c.args.var c.in_ok-place.place c.index.result.now c.self.invariant.0.sound place c.index.ensures))
+pub returns-in-None : goal.returns-in-None
+returns-in-None c = mark_says (λ (m : Mark). m.reason) c.args.self.now.marks (place_in c.args.self.now.lits c.args.var) _ c.in-None.ensures

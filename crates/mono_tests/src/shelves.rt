@@ -1,0 +1,32 @@
+//! Worked rows: what reading a text from a shelf comes to.
+
+ghost use Rattle.std.specs.Prelude.{◌≡◌, [], codes, Some, None};
+ghost use Rattle.mono_io.specs.declared.refusal.ReadRefusal.TheVariants as unread;
+ghost use Rattle.mono_io.specs.Reading.{IsGivenUp, IsNotRead, IsReadInto, IsTooLong};
+ghost use Rattle.mono_io.specs.Worked.{steady_shelf, two_texts};
+ghost use Rattle.mono_check.specs.declared.refusal.CheckRefusal.TheVariants as refusal;
+ghost use Rattle.mono_check.specs.FromShelf.{refusal_of};
+
+/// A text that is handed on was read whole, within the limit, and what was taken is that text.
+pub fn text_that_is_taken()
+    ensures taken { IsReadInto (codes "f") 2 (steady_shelf two_texts [] None 0 0)
+        (steady_shelf two_texts (codes "f") (Some 2) 1 0) (λ text. text ≡ codes "ab") }
+    ensures other_text { IsReadInto (codes "f") 2 (steady_shelf two_texts [] None 0 0)
+        (steady_shelf two_texts (codes "f") (Some 2) 1 0) (λ text. text ≡ codes "a") → ⊥ }
+    ensures not_to_its_end { IsReadInto (codes "f") 2 (steady_shelf two_texts [] None 0 0)
+        (steady_shelf two_texts (codes "f") (Some 1) 1 0) (λ text. text ≡ codes "ab") → ⊥ }
+{}
+
+/// The name was begun exactly once, also where the text is too long, wasn't read, or was given up.
+pub fn names_begun_once()
+    ensures too_long { ¬ IsTooLong (codes "f") 1 (steady_shelf two_texts [] None 0 0) (steady_shelf two_texts (codes "f") (Some 2) 2 0) }
+    ensures not_read { ¬ IsNotRead (codes "h") 2 (steady_shelf two_texts [] None 0 0) (steady_shelf two_texts [] None 0 1) }
+    ensures given_up { ¬ IsGivenUp 2 (steady_shelf two_texts [] None 0 0) (steady_shelf two_texts (codes "f") (Some 2) 2 0) }
+{}
+
+/// Why a text wasn't read is why there is no verdict on it.
+pub fn refusals()
+    ensures memory { refusal_of unread.Memory ≡ refusal.Memory }
+    ensures fault { refusal_of unread.Fault ≡ refusal.Fault }
+    ensures too_long { refusal_of unread.TooLong ≡ refusal.TooLong }
+{}
