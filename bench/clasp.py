@@ -59,7 +59,8 @@ class Input:
     def row(self, word: str, *fields: str) -> None:
         """A line that begins with a word."""
         if word == "digraph":
-            self.nodes[fields[3]], self.edges[fields[3]] = int(fields[1]), []
+            *_, nodes, _, identity = fields
+            self.nodes[identity], self.edges[identity] = int(nodes), []
             return
         graph, numbers = fields[0], list(map(int, fields[1:]))
         if word == "edge":

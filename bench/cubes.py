@@ -32,7 +32,7 @@ from gulfezo.cubes.splitting import METHODS, Splitting  # noqa: E402
 # By name: what makes the inputs, and each one's size and seed. The sizes: cells on a side and nets; sites and links;
 # elements and triples.
 INPUTS: dict[str, tuple[Callable[[tuple[int, int], int], Encoding], list[tuple[tuple[int, int], int]]]] = {
-    "routing": (boards.routing, [((14, 8), 7), ((14, 8), 1), ((14, 8), 6)]),
+    "routing": (boards.routing, [((14, 8), 7), ((14, 8), 1), ((14, 8), 6), ((16, 9), 4)]),
     "network": (sites.network_within, [((40, 19), 2), ((40, 20), 2)]),
     "orders": (orders.any_betweenness, [((120, 192), 3), ((140, 224), 1)]),
 }

@@ -34,7 +34,7 @@ class Pcg32:
 
 
 def neighbours(size: int, row: int, column: int) -> Iterator[Cell]:
-    """The cells beside a cell of the grid: below, right, above, left."""
+    """The cells beside a cell of the grid: right, below, left, above."""
     for down, right in ((0, 1), (1, 0), (0, -1), (-1, 0)):
         if 0 <= row + down < size and 0 <= column + right < size:
             yield row + down, column + right

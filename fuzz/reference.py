@@ -17,6 +17,10 @@ from graphs import Edge, Edges, Meaning
 
 NATURAL, SIGNED = re.compile(rb"[0-9]+"), re.compile(rb"-?[0-9]+")
 MOST_VARIABLES = 10**6
+MOST_GRAPHS = 1024
+MOST_NODES = MOST_EDGES = 10**6
+MOST_PREDICATES = 10**5
+MOST_CLAUSES, MOST_LITERALS = 8 * 10**6, 16 * 10**6
 MOST_32_BITS = 2**32 - 1
 MOST_BOUND = 2**53
 MOST_NUMBER = 2**64 - 1
@@ -121,14 +125,21 @@ def lines(text: bytes) -> Iterator[Line]:
             yield number, tokens
 
 
+def value_of(digits: bytes) -> int:
+    """The number that the digits write, by its first 22: one with so many is beyond each limit, however it goes on."""
+    return int(digits.lstrip(b"0")[:22] or b"0")
+
+
 def natural(token: bytes) -> int | None:
     """The number that the token writes without a sign."""
-    return int(token) if NATURAL.fullmatch(token) else None
+    return value_of(token) if NATURAL.fullmatch(token) else None
 
 
 def signed(token: bytes) -> int | None:
     """The number that the token writes."""
-    return int(token) if SIGNED.fullmatch(token) else None
+    if not SIGNED.fullmatch(token):
+        return None
+    return -value_of(token[1:]) if token.startswith(b"-") else value_of(token)
 
 
 class Reader:
@@ -138,6 +149,7 @@ class Reader:
         self.problem = Problem()
         self.has_header = False
         self.open: list[int] = []  # the literals of the open clause
+        self.literals = 0  # how many there are in all clauses
         self.last_literal = 0
         for self.line, tokens in lines(text):
             if tokens[0][:1] in b"0123456789-":
@@ -170,9 +182,12 @@ class Reader:
         for token in tokens:
             value = self.number_of(token, MOST_VARIABLES, signed)
             if value:
+                self.refuse_if(self.literals == MOST_LITERALS, "TooMany")
+                self.literals += 1
                 self.open.append(value)
                 self.last_literal = self.line
             else:
+                self.refuse_if(len(self.problem.clauses) == MOST_CLAUSES, "TooMany")
                 self.problem.clauses.append(self.open)
                 self.open = []
 
@@ -204,7 +219,7 @@ class Reader:
         graphs = self.problem.graphs
         self.refuse_if(identity in graphs, "DuplicateGraph")
         self.refuse_if(nodes == 0, "NodeOutOfRange")
-        self.refuse_if(len(graphs) == 1024 or sum(graphs.values()) + nodes > 10**6, "TooMany")
+        self.refuse_if(len(graphs) == MOST_GRAPHS or sum(graphs.values()) + nodes > MOST_NODES, "TooMany")
         graphs[identity] = nodes
 
     def on_graph(self, graph: int, nodes: list[int], variable: int) -> None:
@@ -217,6 +232,7 @@ class Reader:
         fields = self.fields(rest, NODES + [MOST_WEIGHT]) + [1]
         graph, start, end, variable, weight = fields[:5]
         self.on_graph(graph, [start, end], variable)
+        self.refuse_if(len(self.problem.edges) == MOST_EDGES, "TooMany")
         self.problem.edges.append(Edge(graph, start, end, variable, weight))
         self.raise_variables(variable)
 
@@ -227,6 +243,7 @@ class Reader:
         nodes, variable = (fields[1:3], fields[3]) if len(fields) > 3 else ([], fields[1])
         self.on_graph(fields[0], nodes, variable)
         self.refuse_if(word.startswith(b"maximum_flow") and nodes[0] == nodes[1], "SameEnds")
+        self.refuse_if(len(self.problem.predicates) == MOST_PREDICATES, "TooMany")
         self.problem.predicates.append(Predicate(word.decode(), fields))
         self.raise_variables(variable)
 

@@ -8,9 +8,10 @@ from __future__ import annotations
 
 import os
 import shutil
+from collections.abc import Sequence
 from pathlib import Path
 
-from .errors import FormatError
+from .errors import FormatError, UnexpectedStatus
 from .lines import Lines
 from .migrating import migrated
 from .model import Model
@@ -29,36 +30,45 @@ def parse_answer(problem: Problem, text: str) -> Answer:
     return answer
 
 
-def read_answer(problem: Problem, path: str | os.PathLike[str], assumed: int = 0) -> Answer:
+def read_answer(problem: Problem, path: str | os.PathLike[str], assumed: Sequence[int] = ()) -> Answer:
     """The answer in a file, as one that `check` has accepted is read: a step is read where it is asked for.
 
-    So answers of any size need little more memory than their file has bytes. `assumed` is the number of literals under
-    which it is an answer: each of them is a further clause behind the problem's. `FormatError` names a line that isn't
-    understood, of a step once it is read.
+    So refutations of any size need little more memory than their file has bytes. `assumed` are the numbers of the
+    literals under which it is an answer: each of them is a further clause behind the problem's. `FormatError` names a
+    line that isn't understood, of a step once it is read.
     """
     return answer_of(problem, Lines(Path(path).read_bytes()), assumed)
 
 
+def accepted(problem: Problem, file: Path, printed: Path, assumed: Sequence[int] = ()) -> Answer:
+    """The answer in a file that `check` has accepted. `UnexpectedStatus`: it isn't understood all the same."""
+    try:
+        return read_answer(problem, printed, assumed)
+    except FormatError as fault:
+        raise UnexpectedStatus(f"an answer that check accepts isn't understood: {fault}", file, printed) from fault
+
+
 def migrate(answer: Model | Derivation, version: int, program: str | None = None) -> Answer:
     """See `Model.migrate` and `Derivation.migrate`."""
-    file = migrated(answer, version, program)
-    found = read_answer(answer.problem, file)
+    assumed = () if isinstance(answer, Model) else answer.assumptions
+    file, new = migrated(answer, version, program, assumed)
+    found = accepted(answer.problem, file, new, assumed)
     shutil.rmtree(file.parent)
     return found
 
 
-def answer_of(problem: Problem, lines: Lines, assumed: int = 0) -> Answer:
+def answer_of(problem: Problem, lines: Lines, assumed: Sequence[int] = ()) -> Answer:
     """The answer of a text by its lines, in version 1 or, behind the line `version 2`, in version 2."""
     begin = 1 if len(lines) and lines.tokens(0) == [b"version", b"2"] else 0
     status = lines.tokens(begin) if len(lines) > begin else []
     if status == [b"s", b"SATISFIABLE"]:
         return Model(problem, values(problem, lines, begin + 1), lines.text())
-    before = len(problem.clauses) + assumed - begin
+    before = len(problem.clauses) + len(assumed) - begin
     steps = Steps(lines, range(begin + 1, len(lines)), before, backwards=begin == 1)
     if status == [b"s", b"UNSATISFIABLE"]:
-        return Refutation(problem, steps)
+        return Refutation(problem, steps, assumed)
     if status == [b"s", b"UNKNOWN"]:
-        return Progress(problem, steps)
+        return Progress(problem, steps, assumed)
     number = lines.number(min(begin, len(lines) - 1)) if len(lines) else 1
     raise FormatError(number, "an answer begins with `s SATISFIABLE`, `s UNSATISFIABLE` or `s UNKNOWN`")
 
@@ -71,8 +81,7 @@ def values(problem: Problem, lines: Lines, first: int) -> dict[int, bool]:
         if word != "v":
             raise FormatError(lines.number(place), "a model has only lines that begin with `v`")
         found.update((abs(literal), literal > 0) for literal in numbers if literal)
-    if len(found) < problem.variables:
-        missing = next(variable for variable in range(1, problem.variables + 1) if variable not in found)
-        line = lines.number(len(lines) - 1)
-        raise FormatError(line, f"the model gives variable {missing} no value")
+    missing = next((variable for variable in range(1, problem.variables + 1) if variable not in found), None)
+    if missing is not None:
+        raise FormatError(lines.number(len(lines) - 1), f"the model gives variable {missing} no value")
     return found

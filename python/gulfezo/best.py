@@ -4,24 +4,26 @@ from __future__ import annotations
 
 import copy
 import os
+import re
 from dataclasses import dataclass
 from pathlib import Path
 from typing import TYPE_CHECKING, Literal as Constant
 
 from . import program as programs
-from .answer import read_answer
+from .answer import accepted
 from .errors import BudgetSpent, GulfezoError, RejectedAnswer, UnexpectedStatus
 from .literals import Kind, Predicate
 from .model import Model
 from .reading import read_problem
 from .reasons import explained
-from .solving import Run, in_folder, run_of
+from .solving import Run, in_folder, run_of, said_in
 from .steps import Refutation
+from .sums import Sum
 
 if TYPE_CHECKING:
     from .problem import Problem
-    from .sums import Sum
 
+HEAD = re.compile(rb"c (best|open|never|beyond)(?: (-?[0-9]{1,16}))?\n")
 WITH_BOUNDS = (Kind.DISTANCE, Kind.WEIGHTED_DISTANCE, Kind.MAXIMUM_FLOW, Kind.MST_WEIGHT)
 
 
@@ -86,22 +88,21 @@ class Asked:
         with open(printed, "wb") as out:
             with self.run.phase(f"looking for the best bound of '{self.predicate}'"):
                 status = programs.run([self.run.program, "best", str(file), number], out, self.run.deadline)
-        head = head_of(printed)
-        if status == 0 and head[:1] == ["open"]:
-            spent = f"100,000 learned clauses don't tell whether there is a model with the bound {head[1]}"
+        word, bound = head_of(printed)
+        if (status, word) == (0, "open"):
+            spent = f"100,000 learned clauses don't tell whether there is a model with the bound {bound}"
             raise BudgetSpent(spent, *((file, printed) if keeps else ()))
-        if (status, head[:1]) == (20, ["never"]):
+        if (status, word) == (20, "never"):
             found = self.judged(place, printed, self.weakest, "accepted refutation")
             assert isinstance(found, Refutation)
             return found
-        if (status, head[:1]) == (10, ["beyond"]):
+        if (status, word) == (10, "beyond"):
             self.judged(place, printed, 2**53 + 1, "accepted model")
             raise NoBound(f"'{self.predicate}' has models with every bound up to 2^53")
-        if (status, head[:1]) != (10, ["best"]):
-            said = printed.read_bytes()[:1000].decode("utf-8", "replace").strip()
-            reason = programs.NO_ANSWER.get(status, "this isn't an exit code of the program")
-            raise UnexpectedStatus(f"best ended with {status}: {reason}{explained(said, file)}", file, printed)
-        return self.attained(place, printed, int(head[1]))
+        if (status, word) != (10, "best"):
+            reason, said = programs.meaning(status), explained(said_in(printed), file)
+            raise UnexpectedStatus(f"best ended with {status}: {reason}{said}", file, printed)
+        return self.attained(place, printed, bound)
 
     def attained(self, place: Path, printed: Path, value: int) -> Best:
         """The best bound, once its model and its refutation are accepted."""
@@ -110,7 +111,10 @@ class Asked:
         model = self.judged(place, path, value, "accepted model")
         refutation = self.judged(place, printed, value + self.step, "accepted refutation")
         assert isinstance(model, Model) and isinstance(refutation, Refutation)
-        values = {variable: model.values[variable] for variable in range(1, self.copied.variables + 1)}
+        # What was asked may have a predicate more than the problem, for the sum that is made least.
+        self.copied.variables = self.problem.variables
+        del self.copied.predicates[len(self.problem.predicates) :]
+        values = {variable: model.values[variable] for variable in range(1, self.problem.variables + 1)}
         printed_values = " ".join(str(variable if holds else -variable) for variable, holds in values.items())
         said = f"s SATISFIABLE\nv {printed_values} 0\n"
         return Best(value, Model(self.problem, values, said), Model(self.copied, values, said), refutation)
@@ -127,16 +131,16 @@ class Asked:
         said = programs.verdict(self.run.program, asked, answer, self.run.deadline)
         if said != wanted:
             raise RejectedAnswer(f"check says '{said}', and not '{wanted}'{explained(said, answer)}", asked, answer)
-        found = read_answer(read_problem(asked), answer)
+        found = accepted(read_problem(asked), asked, answer)
         assert isinstance(found, (Model, Refutation))
         return found
 
 
-def head_of(printed: Path) -> list[str]:
-    """The words behind the first `c`: `best B`, `never`, `beyond`, `open B`; none where the text begins otherwise."""
+def head_of(printed: Path) -> tuple[str, int]:
+    """What the first line says: `best B`, `never`, `beyond` or `open B`; no word, or 0, where it says none."""
     with open(printed, "rb") as lines:
-        tokens = lines.readline(1000).decode("utf-8", "replace").split()
-    return tokens[1:] if tokens[:1] == ["c"] else []
+        found = HEAD.match(lines.readline(1000))
+    return (found[1].decode(), int(found[2] or 0)) if found else ("", 0)
 
 
 def values_of(printed: Path) -> list[str]:
@@ -154,8 +158,8 @@ def minimise(
     seconds: float | None,
 ) -> Best | Refutation:
     """See `Problem.minimise`."""
-    if total.graph.problem is not problem:
-        raise ValueError("the sum isn't of this problem")
+    if not isinstance(total, Sum) or total.graph.problem is not problem:
+        raise ValueError(f"{total} is no sum of this problem: add_sum makes one")
     copied, own = copy.deepcopy((problem, total))
     asked = Asked(problem, own.at_most(0), copied, run_of(program, None, seconds, progress))
     return in_folder(folder, asked.answer)

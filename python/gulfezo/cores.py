@@ -9,7 +9,7 @@ from pathlib import Path
 from typing import TYPE_CHECKING, Literal as Constant
 
 from . import program as programs
-from .answer import read_answer
+from .answer import accepted
 from .errors import BudgetSpent, RejectedAnswer, UnexpectedStatus
 from .literals import Literal
 from .model import Model
@@ -20,7 +20,10 @@ from .steps import Refutation
 if TYPE_CHECKING:
     from .problem import Problem
 
-MODEL, CORE, SPENT = 10, 20, 0
+CORE, SPENT = 20, 0  # exit codes of `core`, and 10 with a model
+
+# A line of a core: its word, its literal, and the numbers behind it.
+Head = tuple[str, int, list[int]]
 
 
 @dataclass(frozen=True)
@@ -87,6 +90,7 @@ def core(
     if not literals:
         raise ValueError("core wants at least one assumption; solve says whether there is a model without any")
     run = run_of(program, None, seconds, progress)
+    run.form = "core"
     return in_folder(folder, lambda place, keeps: core_in(place, problem, run, keeps, literals))
 
 
@@ -96,51 +100,65 @@ def core_in(place: Path, problem: Problem, run: Run, keeps: bool, literals: list
     problem.write(file)
     with open(printed, "wb") as out:
         with run.phase(f"looking for a core (assumptions: {len(literals)})"):
-            status = programs.run([run.program, "core", str(file), *map(str, literals)], out, run.deadline)
+            status = programs.run([run.program, run.form, str(file), *map(str, literals)], out, run.deadline)
     if status == SPENT:
         spent = "100,000 learned clauses don't tell whether the assumptions hold together; assume less"
         raise BudgetSpent(spent, *((file, printed) if keeps else ()))
-    found = heads_of(printed) if status == CORE else []
-    if status == CORE and (not found or found[0][0] != "core"):
-        raise UnexpectedStatus("core ended with 20 and printed no core", file, printed)
-    kept = [number for number in found[0][1] if number] if found else literals
+    kept = literals
+    heads: list[Head] = []
+    if status == CORE:
+        try:
+            kept, heads = heads_of(printed, literals)
+        except ValueError as fault:
+            raise UnexpectedStatus(f"core ended with 20 and printed no core: {fault}", file, printed) from fault
     answer = checked(problem, status, run, file, printed, kept)
     if isinstance(answer, Model):
         return answer
-    needs = [
-        need_of(problem, run, file, kept, place, literal, head) for literal, head in zip(kept, found[1:], strict=True)
-    ]
+    needs = [need_of(problem, run, place, kept, head) for head in heads]
     return Core(problem, needs, answer)
 
 
-def heads_of(printed: Path) -> list[tuple[str, list[int]]]:
-    """The words and numbers of the lines `c core`, `c needed` and `c open`, in their order."""
-    found = []
+def heads_of(printed: Path, literals: list[int]) -> tuple[list[int], list[Head]]:
+    """The core, which is of these literals, and in its order what is said of each. `ValueError`: there is none."""
+    rows = list(rows_of(printed))
+    if not rows or rows[0][0] != "core":
+        raise ValueError("it doesn't begin with a core")
+    (_, kept), *rest = rows
+    if kept != [literal for literal in literals if literal in set(kept)]:
+        raise ValueError("it has a literal that wasn't assumed")
+    if [numbers[:1] for _, numbers in rest] != [[literal] for literal in kept]:
+        raise ValueError("it doesn't say of each literal why it is needed")
+    if not all(word == "needed" or word == "open" and set(numbers) <= set(literals) for word, numbers in rest):
+        raise ValueError("what was tried wasn't assumed")
+    return kept, [(word, numbers[0], numbers[1:]) for word, numbers in rest]
+
+
+def rows_of(printed: Path) -> Iterator[tuple[str, list[int]]]:
+    """The words and numbers of the lines `c core`, `c needed` and `c open`, without the ending 0, in their order."""
     with open(printed, "rb") as lines:
         for line in lines:
             tokens = line.split()
-            if tokens[:1] == [b"c"] and tokens[1:2] in ([b"core"], [b"needed"], [b"open"]):
-                found.append((tokens[1].decode(), list(map(int, tokens[2:]))))
-            elif tokens[:1] != [b"c"]:
+            if tokens[:1] != [b"c"]:
                 break
-    return found
+            if tokens[1:2] in ([b"core"], [b"needed"], [b"open"]):
+                *numbers, end = map(int, tokens[2:])
+                if end != 0:
+                    raise ValueError("a list has no end")
+                yield tokens[1].decode(), numbers
 
 
-def need_of(
-    problem: Problem, run: Run, file: Path, kept: list[int], place: Path, literal: int, head: tuple[str, list[int]]
-) -> Need:
+def need_of(problem: Problem, run: Run, place: Path, kept: list[int], head: Head) -> Need:
     """The need of a literal by its line. `RejectedAnswer`: what stands there as a model of the others isn't one."""
-    word, (named, *listed, _) = head
-    if named != literal:
-        raise UnexpectedStatus(f"core names {named} where the need of {literal} belongs", file, place / "answer")
+    word, literal, listed = head
     own = problem.literal(literal)
     if word == "open":
         return Need(own, None, tuple(map(problem.literal, listed)))
-    path = place / f"needed-{literal}"
+    file, path = place / "problem.gnf", place / f"needed-{literal}"
     path.write_text(f"s SATISFIABLE\nv {' '.join(map(str, listed))} 0\n")
     others = [number for number in kept if number != literal]
     said = programs.verdict(run.program, file, path, run.deadline, others)
-    model = read_answer(problem, path)
-    if said != "accepted model" or not isinstance(model, Model):
+    if said != "accepted model":
         raise RejectedAnswer(f"check says '{said}' of a need of a core{explained(said, path)}", file, path)
+    model = accepted(problem, file, path)
+    assert isinstance(model, Model), "its text begins as a model's"
     return Need(own, model, ())

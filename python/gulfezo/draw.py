@@ -2,9 +2,9 @@
 
 With a model it draws present edges dark and absent ones pale, and marks a walk, flow, tree or order for each predicate
 that holds; `--predicate N` chooses one predicate, also one that fails, for which it fills the nodes of a cut or marks a
-cycle. With a refutation it draws the lemma whose clause has the number `--lemma N`, or the first lemma. Without an
-answer it draws the bare graphs. Graphs whose nodes have the same names lie upon each other; others stand beside each
-other.
+cycle. With a refutation it draws the lemma whose clause has the number `--lemma N`, or the first lemma, of the graph
+`--graph G` where one is chosen. Without an answer it draws the bare graphs. Graphs whose nodes have the same names lie
+upon each other; others stand beside each other.
 """
 
 from __future__ import annotations
@@ -23,6 +23,7 @@ from .panels import drawn
 from .problem import Problem
 from .reading import read_problem
 from .reasons import explained
+from .steps import Derivation, Step
 
 
 def drawing(
@@ -43,13 +44,28 @@ def drawing(
         return drawn([(g, marking.of_model(answer, g, one, colours)) for g in chosen], absent)
     if predicate:
         raise ValueError("no predicate of a refutation is drawn: `lemma` chooses the lemma, by its clause's number")
-    if not lemma and not answer.lemmas:
-        raise ValueError("the answer has no lemma, so there is no graph to draw")
-    step = answer.step(lemma) if lemma else answer.lemmas[0]
+    step = answer.step(lemma) if lemma else first_lemma(problem, answer, graph)
     if step.predicate is None:
         numbers = ", ".join(str(step.number) for step in answer.lemmas[:9])
         raise ValueError(f"clause {lemma} is a chain and speaks of no graph; lemmas have the numbers {numbers}")
-    return drawn([(problem.graphs[problem.predicates[step.predicate - 1].graph], marking.of_lemma(problem, step))])
+    return drawn([(graph_of(problem, step), marking.of_lemma(problem, step))])
+
+
+def first_lemma(problem: Problem, answer: Derivation, graph: int) -> Step:
+    """The first lemma, of that graph where one is chosen. `ValueError`: there is none."""
+    found = (step for step in answer.lemmas if graph < 0 or graph_of(problem, step).identity == graph)
+    for step in found:
+        return step
+    what = "no lemma" if graph < 0 else f"no lemma about graph {graph}"
+    raise ValueError(f"the answer has {what}, so there is nothing to draw")
+
+
+def graph_of(problem: Problem, lemma: Step) -> Graph:
+    """The graph that a lemma is about. `ValueError`: the problem has no such predicate."""
+    number = lemma.predicate or 0
+    if not 0 < number <= len(problem.predicates):
+        raise ValueError(f"clause {lemma.number} is about predicate {number}, which the problem doesn't have")
+    return problem.graphs[problem.predicates[number - 1].graph]
 
 
 def chosen_graphs(problem: Problem, predicate: int, graph: int) -> list[Graph]:
@@ -60,9 +76,9 @@ def chosen_graphs(problem: Problem, predicate: int, graph: int) -> list[Graph]:
         graph = problem.predicates[predicate - 1].graph
     if graph >= 0 and graph not in problem.graphs:
         raise ValueError(no_graph(problem, graph))
-    found = [problem.graphs[graph]] if graph >= 0 else [g for g in problem.graphs.values() if len(g)]
+    found = [g for g in problem.graphs.values() if len(g) and graph in (-1, g.identity)]
     if not found:
-        raise ValueError("the problem has no graph to draw")
+        raise ValueError("the problem has no graph with nodes to draw")
     return found
 
 
@@ -116,6 +132,11 @@ def main(words: Sequence[str] | None = None) -> int:
         Path(given.out).write_text(text, encoding="utf-8")
     except (GulfezoError, OSError, ValueError) as fault:
         print(f"gulfezo-draw: {fault}", file=sys.stderr)
+        return 1
+    except (AssertionError, LookupError):
+        if not given.unchecked:
+            raise
+        print("gulfezo-draw: the answer doesn't fit the problem; `gulfezo check` names the line", file=sys.stderr)
         return 1
     return 0
 

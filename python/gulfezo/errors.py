@@ -34,7 +34,7 @@ class RunError(GulfezoError):
 class NotSolved(GulfezoError):
     """`solve` was given a budget or a time and found neither a model nor a refutation within it.
 
-    Where a folder was asked for, `problem` is its file; else both paths are None, and nothing stays.
+    Where a folder was asked for, its files stay, and the paths name them; else both are None, and nothing stays.
     """
 
     def __init__(self, reason: str, problem: Path | None = None, answer: Path | None = None) -> None:
@@ -56,7 +56,7 @@ class BudgetSpent(NotSolved):
 
 
 class TimeSpent(NotSolved):
-    """The seconds that were given are over, and the program was ended. `answer` is always None."""
+    """The seconds that were given are over, and the program was ended. Both paths are None, also with a folder."""
 
 
 class PackageMissing(GulfezoError):

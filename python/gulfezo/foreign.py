@@ -6,13 +6,12 @@ What isn't understood is refused by the line's number and word, and nothing is g
 from __future__ import annotations
 
 import os
-from pathlib import Path
 from typing import Any
 
 from .errors import FormatError
 from .literals import WORDS, one_line, whole
 from .problem import MOST_VARIABLES, Problem
-from .reading import BLANKS, Reader, natural
+from .reading import BLANKS, Reader, natural, text_of_file
 
 # Words of MonoSAT's that mean the same as here.
 SHARED = {"p", "edge", *WORDS}
@@ -35,13 +34,12 @@ def read_dimacs(path: str | os.PathLike[str]) -> Problem:
         elif tokens[0] != "c" and not tokens[0].lstrip("-").isdigit():
             raise FormatError(number, f"`{tokens[0]}` begins no line of a DIMACS CNF file")
         taken(reader, number, tokens, line)
-    if reader.open:
-        raise FormatError(number, "the last clause isn't ended by 0")
-    found = reader.problem.variables, len(reader.problem.clauses)
+    problem = reader.finished()
+    found = problem.variables, len(problem.clauses)
     if header is not None and (found[0] > header[0] or found[1] != header[1]):
         said = f"{header[0]} variables and {header[1]} clauses"
         raise FormatError(number, f"the header says {said}, and the file has {found[0]} and {found[1]}")
-    return reader.problem
+    return problem
 
 
 def read_monosat(path: str | os.PathLike[str]) -> Problem:
@@ -51,63 +49,64 @@ def read_monosat(path: str | os.PathLike[str]) -> Problem:
     one, `edge`, `symbol X NAME`, and the predicates that this program has. `FormatError`: any other line, such as one
     on bit-vectors or geometry.
     """
-    reader, number = Reader(), 0
+    reader = Reader()
     for number, tokens, line in lines_of(path):
         word = tokens[0]
         if word == "digraph":
-            taken(reader, number, tokens, line, lambda: graph(reader.problem, tokens))
+            taken(reader, number, tokens, line, lambda: graph(reader, tokens))
         elif word == "node":
-            taken(reader, number, tokens, line, lambda: node(reader.problem, tokens))
+            taken(reader, number, tokens, line, lambda: node(reader, tokens))
         elif word == "symbol":
             taken(reader, number, tokens, line, lambda: symbol(reader, tokens))
         elif word in SHARED or word == "c" or word.lstrip("-").isdigit():
             taken(reader, number, tokens, line)
         else:
             raise FormatError(number, f"`{word}` has no counterpart in this program's format")
-    if reader.open:
-        raise FormatError(number, "the last clause isn't ended by 0")
-    return reader.problem
+    return reader.finished()
 
 
 def lines_of(path: str | os.PathLike[str]) -> list[tuple[int, list[str], str]]:
     """The lines that aren't blank: numbers, tokens and texts."""
-    text = Path(path).read_text(encoding="utf-8", errors="replace")
-    split = ((number, BLANKS.split(line.strip(" \t\r")), line) for number, line in enumerate(text.split("\n"), 1))
+    rows = enumerate(text_of_file(path).split("\n"), 1)
+    split = ((number, BLANKS.split(line.strip(" \t\r")), line) for number, line in rows)
     return [(number, tokens, line) for number, tokens, line in split if tokens != [""]]
 
 
 def taken(reader: Reader, number: int, tokens: list[str], line: str, read: Any = None) -> Any:
     """What `read` gives, or else what the reader makes of the line. `FormatError`: it isn't understood."""
     try:
-        return reader.take(tokens, line) if read is None else read()
-    except (ValueError, KeyError, IndexError) as fault:
+        return reader.take(number, tokens, line) if read is None else read()
+    except ValueError as fault:
         raise FormatError(number, f"`{tokens[0]}`: {fault}") from fault
 
 
-def graph(problem: Problem, tokens: list[str]) -> None:
+def graph(reader: Reader, tokens: list[str]) -> None:
     """Reads `digraph [int] N M G [NAME]`."""
-    fields = tokens[2:] if tokens[1] == "int" else tokens[1:]
+    reader.require_closed()
+    fields = tokens[2:] if tokens[1:2] == ["int"] else tokens[1:]
     if len(fields) not in (3, 4) or not fields[0].isdigit():
         raise ValueError("only graphs with weights `int` are read: `digraph int N M G` and perhaps a name")
-    made = problem.declare_graph(natural(fields[2]), " ".join(fields[3:]))
-    made.add_nodes(natural(fields[0]))
-    natural(fields[1])
+    nodes, _, identity = map(natural, fields[:3])
+    reader.problem.declare_graph(identity, " ".join(fields[3:])).add_nodes(nodes)
 
 
-def node(problem: Problem, tokens: list[str]) -> None:
+def node(reader: Reader, tokens: list[str]) -> None:
     """Reads `node G N [NAME]`."""
+    reader.require_closed()
     if len(tokens) not in (3, 4):
         raise ValueError("it has another number of fields")
-    found, number = problem.graphs[natural(tokens[1])], natural(tokens[2])
+    found, number = reader.graph(natural(tokens[1])), natural(tokens[2])
     if number == len(found):
         found.add_node()
     if number > len(found):
         raise ValueError(f"node {number} comes before node {len(found)}")
-    found.names[number] = one_line(" ".join(tokens[3:]))
+    for name in tokens[3:]:
+        found.name_node(number, one_line(name))
 
 
 def symbol(reader: Reader, tokens: list[str]) -> None:
     """Reads `symbol X NAME`."""
+    reader.require_closed()
     if len(tokens) != 3:
         raise ValueError("it has another number of fields")
     number = whole(natural(tokens[1]), "a variable", MOST_VARIABLES, 1)

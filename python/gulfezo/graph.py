@@ -2,11 +2,12 @@
 
 from __future__ import annotations
 
+import copy
 from collections import defaultdict
 from collections.abc import Hashable, Iterable
 from typing import TYPE_CHECKING, Any
 
-from .literals import Edge, Kind, Literal, Predicate, WORDS, one_line, whole
+from .literals import Edge, Kind, Literal, Predicate, WITHOUT_BOUND, WITHOUT_ENDS, WORDS, one_line, whole
 
 if TYPE_CHECKING:
     from .problem import Problem
@@ -18,6 +19,14 @@ MOST_PREDICATES = 100_000
 
 # A node's name: a text, or coordinates.
 Name = str | tuple[Any, ...]
+
+
+def written(name: Name) -> str:
+    """A node's name as the file has it. `ValueError`: it isn't one line of text or coordinates."""
+    if not isinstance(name, (str, tuple)):
+        raise ValueError(f"a node's name is a text or coordinates, which {name!r} isn't; `key=` takes anything")
+    hash(name)  # `Graph.node` finds the node by it, which a list among coordinates would forbid
+    return one_line(name if isinstance(name, str) else ",".join(map(str, name)))
 
 
 class Node(int):
@@ -58,23 +67,28 @@ class Graph:
     def __bool__(self) -> bool:
         return True
 
+    def __deepcopy__(self, memo: dict[int, Any]) -> Graph:
+        """A copy that finds its nodes by the same keys, which are the user's own and may be such as can't be copied."""
+        made = memo[id(self)] = Graph.__new__(Graph)
+        for field, value in vars(self).items():
+            if field != "_by_key":
+                setattr(made, field, copy.deepcopy(value, memo))
+        nodes = {key: [Node(node, made) for node in found] for key, found in self._by_key.items()}
+        made._by_key = defaultdict(list, nodes)
+        return made
+
     def add_node(self, name: Name = "", key: Hashable = None) -> Node:
         """A further node: its number, from 0.
 
         `key` is anything hashable by which `node` finds it again; where it is left out, the name is. `ValueError`:
         another node of the graph has the key, or the name isn't one line of text or coordinates.
         """
-        if isinstance(name, tuple):
-            text = ",".join(map(str, name))
-        elif isinstance(name, str):
-            text = name
-        else:
-            raise ValueError(f"a node's name is a text or coordinates, which {name!r} isn't; `key=` takes anything")
-        if key is not None and key in self._by_key:
+        text = written(name)
+        if key is not None and self._by_key.get(key):
             raise ValueError(f"graph {self.identity} has a node {key!r} already")
         if self.problem.nodes == MOST_NODES:
             raise ValueError(f"a problem has at most {MOST_NODES} nodes")
-        self.names.append(one_line(text))
+        self.names.append(text)
         self.problem.nodes += 1
         node = Node(len(self.names) - 1, self)
         if key is None and name != "":
@@ -87,9 +101,21 @@ class Graph:
         """Further nodes, so many or one for each name: their numbers."""
         if isinstance(names, str):
             raise ValueError(f"add_nodes takes a number or a list of names; add_node takes the one name {names!r}")
-        if isinstance(names, Iterable):
-            return [self.add_node(name) for name in names]
-        return [self.add_node() for _ in range(whole(names, "a number of nodes", MOST_NODES))]
+        left, chosen = MOST_NODES - self.problem.nodes, list(names) if isinstance(names, Iterable) else None
+        count = whole(names if chosen is None else len(chosen), "a number of further nodes", left)
+        if chosen is None:
+            return [self.add_node() for _ in range(count)]
+        for name in chosen:
+            written(name)
+        return [self.add_node(name) for name in chosen]
+
+    def name_node(self, node: int, name: str) -> None:
+        """Gives a node of a file the name that stands there, by which `node` finds it from then on."""
+        known = self._by_key.get(self.names[node], [])
+        if node in known:
+            known.remove(Node(node, self))
+        self.names[node] = name
+        self._by_key[name].append(Node(node, self))
 
     def node(self, key: Hashable) -> Node:
         """The node with that key, or with that name where it was given no key. `ValueError`: none, or several have."""
@@ -170,13 +196,17 @@ class Graph:
     ) -> Predicate:
         """A predicate by its word in the files. Its variable is true exactly where it holds.
 
-        `bound` is from 0 to 2^53. `variable` is a new one where it is left out.
+        `ends` and `bound`, from 0 to 2^53, are None exactly where the word has none. `variable` is a new one where it
+        is left out.
         """
+        kind = WORDS[word][0] if word in WORDS else None
+        if kind is None or (ends is None) != (kind in WITHOUT_ENDS) or kind in WITHOUT_BOUND and bound is not None:
+            raise ValueError(f"there is no predicate {word!r} with the ends {ends} and the bound {bound}")
         if ends is not None:
             ends = self._own(ends[0]), self._own(ends[1])
-        if bound is not None:
+        if kind not in WITHOUT_BOUND:
             bound = whole(bound, "a bound", MOST_BOUND)
-        if WORDS[word][0] is Kind.MAXIMUM_FLOW and ends is not None and ends[0] == ends[1]:
+        if kind is Kind.MAXIMUM_FLOW and ends is not None and ends[0] == ends[1]:
             raise ValueError(f"a flow leads from one node to another, and not from {ends[0]} to itself")
         number = len(self.problem.predicates) + 1
         if number > MOST_PREDICATES:

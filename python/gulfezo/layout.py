@@ -63,15 +63,15 @@ def by_graphviz(graph: Graph) -> list[Place] | None:
 
 
 def by_networkx(graph: Graph) -> list[Place] | None:
-    """As networkx lays the graph out; None where it, or numpy, on which it stands, isn't installed."""
+    """As networkx lays the graph out; None where it, or what it needs for a graph of this size, isn't installed."""
     try:
         import networkx
-        import numpy  # noqa: F401
+
+        drawn = networkx.Graph(sorted(one_a_pair(graph.edges)))
+        drawn.add_nodes_from(range(len(graph)))
+        at = networkx.spring_layout(drawn, seed=1)
     except ImportError:
         return None
-    drawn = networkx.Graph(sorted(one_a_pair(graph.edges)))
-    drawn.add_nodes_from(range(len(graph)))
-    at = networkx.spring_layout(drawn, seed=1)
     return spread([(float(at[node][0]), float(at[node][1])) for node in range(len(graph))])
 
 

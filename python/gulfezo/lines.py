@@ -11,7 +11,10 @@ from .errors import FormatError
 BLANKS, NEWLINE = re.compile(rb"[ \t\r]+"), re.compile(rb"\n")
 CHAIN = re.compile(rb"[ \t\r]*chain(?=[ \t\r\n]|\Z)")
 SKIPPED = re.compile(rb"[ \t\r]*(?:\Z|\n|c(?:[ \t\r\n]|\Z))")  # how a blank line or a comment begins
-NUMBERS = re.compile(rb"[ \t\r]*([^ \t\r]+)((?:[ \t\r]+-?[0-9]+)*)[ \t\r]*")
+WORD = re.compile(rb"[ \t\r]*([^ \t\r]+)")
+# A token that is no number, and zeros before one. One pattern for a whole line would take many times its bytes.
+NO_NUMBER = re.compile(rb"[ \t\r](?!-?[0-9]+(?:[ \t\r]|\Z))[^ \t\r]")
+ZEROS = re.compile(rb"(?<![0-9])0+(?=[0-9])")
 # Where a text has none of these, and doesn't begin or end with a line of them, each of its lines counts.
 SIGNS_OF_SKIPPED = [b"\n" + sign for sign in (b"\n", b" ", b"\t", b"\r", b"c ", b"c\t", b"c\r", b"c\n")]
 
@@ -56,10 +59,22 @@ class Lines:
 
     def numbers(self, place: int) -> tuple[str, list[int]]:
         """The line's word and the numbers behind it. `FormatError`: something else stands behind it."""
-        found = NUMBERS.fullmatch(self.line(place))
-        if found is None:
+        line = self.line(place)
+        found = WORD.match(line)
+        if found is None or NO_NUMBER.search(line, found.end()):
             raise FormatError(self.number(place), "a whole number was expected")
-        return found[1].decode("utf-8", "replace"), list(map(int, found[2].split()))
+        word, rest = found[1].decode("utf-8", "replace"), line[found.end() :]
+        try:
+            return word, list(map(int, rest.split()))
+        except ValueError:  # Python reads no number of thousands of digits, and the first of these may be zeros
+            return word, self.without_zeros(place, rest)
+
+    def without_zeros(self, place: int, rest: bytes) -> list[int]:
+        """The numbers of that line's rest. `FormatError`: one has thousands of digits that count."""
+        try:
+            return list(map(int, ZEROS.sub(b"", rest).split()))
+        except ValueError as fault:
+            raise FormatError(self.number(place), "a number is greater than each limit of the format") from fault
 
     def text(self) -> str:
         """The whole text."""

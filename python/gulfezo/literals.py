@@ -17,8 +17,8 @@ UNPRINTABLE = ("Cc", "Zl", "Zp", "Cs")
 
 
 def one_line(name: str) -> str:
-    """The name, which goes into a comment of the file. `ValueError`: it has a line break or a control character."""
-    if any(unicodedata.category(character) in UNPRINTABLE for character in name):
+    """The name, which goes into a comment of the file. `ValueError`: it is no text, or has such a character."""
+    if not isinstance(name, str) or any(unicodedata.category(character) in UNPRINTABLE for character in name):
         raise ValueError(f"a name is one line of text without control characters, which {name!r} isn't")
     return name
 
@@ -30,15 +30,15 @@ def printable(name: Any) -> Any:
     return "".join("\ufffd" if unicodedata.category(letter) in UNPRINTABLE else letter for letter in name)
 
 
-def whole(value: Any, what: str, most: int | None = None, least: int = 0) -> int:
+def whole(value: Any, what: str, most: int | None = None, least: int | None = 0) -> int:
     """A whole number within its limits. `ValueError`: it isn't one; neither `True` nor `3.0` is."""
     try:
         number = None if isinstance(value, bool) else operator.index(value)
     except TypeError:
         number = None
-    if number is None or number < least or most is not None and number > most:
-        limits = f"from {least}" + ("" if most is None else f" to {most}")
-        raise ValueError(f"{what} is a whole number {limits}, which {value!r} isn't")
+    if number is None or least is not None and number < least or most is not None and number > most:
+        limits = ("" if least is None else f" from {least}") + ("" if most is None else f" to {most}")
+        raise ValueError(f"{what} is a whole number{limits}, which {value!r} isn't")
     return number
 
 
@@ -112,6 +112,8 @@ WORDS = {
     "mst_weight_lt": (Kind.MST_WEIGHT, -1),
     "acyclic": (Kind.ACYCLIC, 0),
 }
+WITHOUT_ENDS = (Kind.MST_WEIGHT, Kind.ACYCLIC)
+WITHOUT_BOUND = (Kind.REACH, Kind.ACYCLIC)
 
 
 @dataclass(frozen=True)

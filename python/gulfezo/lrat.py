@@ -71,6 +71,8 @@ def proof(problem: Problem, answer: Refutation, with_hints: bool = True) -> list
     numbers = [*range(1, len(clauses) + 1), *numbers_of(problem, answer)]
     lines = []
     for step in answer.steps:
+        if not all(0 < number <= len(clauses) for number in step.listed if step.predicate is None):
+            raise NoCounterpart(f"line {step.line} names a clause that isn't there: has `check` accepted this answer?")
         if step.predicate is None and with_hints:
             named = hints(step.clause, ((number, clauses[number - 1]) for number in step.listed))
             row = [*dict.fromkeys(step.clause), 0, *(numbers[number - 1] for number in named), 0]

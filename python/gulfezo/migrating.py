@@ -4,11 +4,13 @@ from __future__ import annotations
 
 import shutil
 import tempfile
+from collections.abc import Sequence
 from pathlib import Path
 from typing import TYPE_CHECKING
 
 from . import program as programs
 from .errors import RejectedAnswer, UnexpectedStatus
+from .problem import assume
 from .reasons import explained
 
 if TYPE_CHECKING:
@@ -18,10 +20,12 @@ if TYPE_CHECKING:
 VERSIONS = (1, 2)
 
 
-def migrated(answer: Model | Derivation, version: int, program: str | None) -> Path:
-    """A file with the answer in that version, in a new folder of its own, beside the problem's file and the answer's.
+def migrated(
+    answer: Model | Derivation, version: int, program: str | None, assumed: Sequence[int]
+) -> tuple[Path, Path]:
+    """A file of the problem, with what was assumed as clauses behind its own, and one of the answer in that version.
 
-    Errors are those of `Model.migrate`; those that name files leave the folder.
+    Both are in a new folder of their own. Errors are those of `Model.migrate`; those that name files leave the folder.
     """
     if version not in VERSIONS or isinstance(version, bool):
         raise ValueError(f"answers have the versions 1 and 2, and not {version!r}")
@@ -31,6 +35,7 @@ def migrated(answer: Model | Derivation, version: int, program: str | None) -> P
         file, old, new = place / "problem.gnf", place / "answer", place / "migrated"
         try:
             answer.problem.write(file)
+            assume(file, assumed)
             old.write_text(answer.text, encoding="utf-8")
             with open(new, "wb") as out:
                 status = programs.run([found, "migrate", str(file), str(old), str(version)], out)
@@ -41,6 +46,6 @@ def migrated(answer: Model | Derivation, version: int, program: str | None) -> P
         said = new.read_bytes()[:1000].decode("utf-8", "replace").strip()
         if status == 1:
             raise RejectedAnswer(f"migrate says '{said}'{explained(said, old)}", file, old)
-        reason = programs.NO_ANSWER.get(status, "this isn't an exit code of the program")
+        reason = programs.meaning(status)
         raise UnexpectedStatus(f"migrate ended with {status}: {reason}{explained(said, file)}", file, old)
-    return new
+    return file, new

@@ -7,7 +7,7 @@ from collections.abc import Iterable, Iterator, Sequence
 from typing import TYPE_CHECKING, Any
 
 from . import cardinality
-from .graph import Graph
+from .graph import Graph, MOST_NODES
 from .literals import Edge, Literal, Predicate, listed, one_line, printable, whole
 from .sums import Sum
 
@@ -24,7 +24,13 @@ MOST_GRAPHS = 1_024
 
 def count(bound: int) -> int:
     """A bound on a number of literals: any whole number, negative ones too."""
-    return whole(bound, "a bound on a number of literals", least=-(2**63))
+    return whole(bound, "a bound on a number of literals", least=None)
+
+
+def assume(file: str | os.PathLike[str], literals: Iterable[int]) -> None:
+    """Writes a clause for each literal, by its number, behind those of a problem's file."""
+    with open(file, "a", encoding="utf-8") as out:
+        out.writelines(f"{literal} 0\n" for literal in literals)
 
 
 class Problem:
@@ -68,7 +74,8 @@ class Problem:
 
     def add_variables(self, count: int) -> list[Literal]:
         """So many new variables."""
-        return [self.add_variable() for _ in range(whole(count, "a number of variables", MOST_VARIABLES))]
+        left = MOST_VARIABLES - self.variables
+        return [self.add_variable() for _ in range(whole(count, "a number of further variables", left))]
 
     def literal(self, number: int) -> Literal:
         """The literal with that number in the files: a variable, or the negation of one. `ValueError`: none has it."""
@@ -134,6 +141,7 @@ class Problem:
 
     def add_graph(self, name: str = "", nodes: int = 0) -> Graph:
         """A new graph with so many nodes, numbered from 0. It is written only once it has a node."""
+        nodes = whole(nodes, "a number of nodes", MOST_NODES - self.nodes)
         graph = self.declare_graph(max(self.graphs, default=-1) + 1, name)
         graph.add_nodes(nodes)
         return graph

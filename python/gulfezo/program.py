@@ -8,6 +8,7 @@ import os
 import shutil
 import signal
 import subprocess
+import tempfile
 import threading
 import time
 from collections.abc import Iterator, Sequence
@@ -28,6 +29,15 @@ NO_ANSWER = {
     126: "the program could not be built; see crates/mono_cmd/out/build.log",
     127: "the Rattle toolchain, which builds the program, is not on the PATH",
 }
+
+
+def meaning(status: int) -> str:
+    """What an exit code means where it is no answer, and what to do about it. A negative one is that of a signal."""
+    if status == -signal.SIGKILL:
+        return "the program was killed, as a system does that is short of memory"
+    if status < 0:
+        return f"the program was ended by signal {-status}"
+    return NO_ANSWER.get(status, "this isn't an exit code of the program")
 
 
 def find(program: str | None = None) -> str:
@@ -134,8 +144,7 @@ def verdict(
     With literals it is `check-with`, which judges as if each of them were a further clause behind the problem's.
     """
     words = [program, "check-with" if literals else "check", str(problem), str(answer), *map(str, literals)]
-    read, write = os.pipe()
-    with open(read, "rb") as said:
-        with open(write, "wb") as out:
-            run(words, out, deadline)
-        return said.read().decode("utf-8", "replace").strip()
+    with tempfile.TemporaryFile() as said:  # a pipe that nobody reads would hold up a program that writes much
+        run(words, said, deadline)
+        said.seek(0)
+        return said.read(1000).decode("utf-8", "replace").strip()

@@ -10,16 +10,25 @@ import re
 from pathlib import Path
 
 from .errors import FormatError
-from .literals import Kind, Literal, WORDS, whole
+from .graph import Graph
+from .literals import Literal, WITHOUT_BOUND, WITHOUT_ENDS, WORDS, whole
 from .problem import MOST_VARIABLES, Problem
+from .reasons import shown
 
 # What parts tokens, and a number as the files have it; Python's own ideas of blanks and numbers are wider.
 BLANKS, NATURAL = re.compile("[ \t\r]+"), re.compile("[0-9]+")
+MOST_DIGITS = 20  # of the greatest number that the format has
+NAMED_NUMBER = re.compile("[0-9]{1,10}")  # in a comment, which isn't refused whatever it says
 
 
 def read_problem(path: str | os.PathLike[str]) -> Problem:
     """The problem of a file. `FormatError` names a line that isn't understood."""
-    return parse_problem(Path(path).read_text(encoding="utf-8", errors="replace"))
+    return parse_problem(text_of_file(path))
+
+
+def text_of_file(path: str | os.PathLike[str]) -> str:
+    """The text of a file, in which a carriage return is a blank. Where Python reads text it would end a line."""
+    return Path(path).read_bytes().decode("utf-8", "replace")
 
 
 def parse_problem(text: str) -> Problem:
@@ -30,16 +39,21 @@ def parse_problem(text: str) -> Problem:
         if not tokens:
             continue
         try:
-            reader.take(tokens, line)
-        except (ValueError, KeyError, IndexError) as fault:
-            raise FormatError(number, f"{line.strip()!r}: {fault}; `gulfezo print FILE` names the fault") from fault
-    return reader.problem
+            reader.take(number, tokens, line)
+        except ValueError as fault:
+            said = f"{shown(line.strip())!r}: {fault}; `gulfezo print FILE` names the fault"
+            raise FormatError(number, said) from fault
+    return reader.finished()
 
 
 def natural(token: str) -> int:
-    """The number that the token writes in digits alone. `ValueError`: it doesn't."""
+    """The number that the token writes in digits alone. `ValueError`: it doesn't, or the format has none so great."""
     if NATURAL.fullmatch(token) is None:
-        raise ValueError(f"{token!r} is no natural number")
+        raise ValueError(f"{shown(token)!r} is no natural number")
+    if len(token) > MOST_DIGITS:  # Python reads no number of thousands of digits, and the first ones may be zeros
+        token = token.lstrip("0") or "0"
+        if len(token) > MOST_DIGITS:
+            raise ValueError(f"{shown(token)!r} is above each limit")
     return int(token)
 
 
@@ -54,25 +68,53 @@ class Reader:
     def __init__(self) -> None:
         self.problem = Problem()
         self.open: list[int] = []
+        self.last_literal = 0  # the line in which the last literal stands
 
-    def take(self, tokens: list[str], line: str) -> None:
-        """Reads a line that isn't blank."""
-        word = tokens[0]
-        if word == "c":
+    def take(self, number: int, tokens: list[str], line: str) -> None:
+        """Reads a line that isn't blank, by its number. `ValueError`: it isn't understood."""
+        if tokens[0] == "c":
             self.comment(tokens, line)
-        elif word == "p":
+        elif tokens[0][0] in "-0123456789":
+            self.numbers(number, list(map(literal, tokens)))
+        else:
+            self.require_closed()
+            self.statement(tokens)
+
+    def statement(self, tokens: list[str]) -> None:
+        """Reads a line that begins with a word."""
+        word, count = tokens[0], len(tokens)
+        if word == "p":
+            require(count == 4 and tokens[1] in ("cnf", "gnf"), "a header is `p gnf V C` or `p cnf V C`")
             self.use_variables(natural(tokens[2]))
         elif word == "digraph":
-            graph = self.problem.declare_graph(natural(tokens[-1]))
-            graph.add_nodes(natural(tokens[-3]))
+            require(count == 4 or count == 5 and tokens[1] == "int", "a graph is `digraph int N M G`")
+            nodes, _, identity = map(natural, tokens[-3:])
+            self.problem.declare_graph(identity).add_nodes(nodes)
         elif word == "edge":
+            require(count in (5, 6), "an edge is `edge G U V X` and perhaps a weight")
             identity, start, end, variable, *weight = map(natural, tokens[1:])
             self.use_variables(variable)
-            self.problem.graphs[identity].add_edge(start, end, weight[0] if weight else 1, Literal(variable))
+            self.graph(identity).add_edge(start, end, weight[0] if weight else 1, Literal(variable))
         elif word in WORDS:
             self.predicate(word, list(map(natural, tokens[1:])))
         else:
-            self.numbers(list(map(literal, tokens)))
+            raise ValueError(f"no line begins with {shown(word)!r}")
+
+    def finished(self) -> Problem:
+        """The problem, once all lines are read. `FormatError`: the last clause isn't ended."""
+        if self.open:
+            raise FormatError(self.last_literal, "the last clause isn't ended by 0")
+        return self.problem
+
+    def require_closed(self) -> None:
+        """`ValueError`: a clause is open, so no word may come."""
+        require(not self.open, "the clause before this line isn't ended by 0")
+
+    def graph(self, identity: int) -> Graph:
+        """The graph with that number. `ValueError`: none has it."""
+        if identity not in self.problem.graphs:
+            raise ValueError(f"there is no graph {identity}")
+        return self.problem.graphs[identity]
 
     def use_variables(self, number: int) -> None:
         """The variables up to this number are in use."""
@@ -81,36 +123,44 @@ class Reader:
     def predicate(self, word: str, fields: list[int]) -> None:
         """Reads a predicate's line."""
         kind = WORDS[word][0]
-        has_ends = kind not in (Kind.MST_WEIGHT, Kind.ACYCLIC)
-        has_bound = kind not in (Kind.REACH, Kind.ACYCLIC)
-        if len(fields) != 2 + 2 * has_ends + has_bound:
-            raise ValueError("it has another number of fields")
+        has_ends, has_bound = kind not in WITHOUT_ENDS, kind not in WITHOUT_BOUND
+        require(len(fields) == 2 + 2 * has_ends + has_bound, "it has another number of fields")
         identity, *rest = fields
         bound = rest.pop() if has_bound else None
         *ends, variable = rest
         self.use_variables(variable)
         pair = (ends[0], ends[1]) if has_ends else None
-        self.problem.graphs[identity].add_predicate(word, pair, bound, Literal(variable))
+        self.graph(identity).add_predicate(word, pair, bound, Literal(variable))
 
-    def numbers(self, numbers: list[int]) -> None:
+    def numbers(self, line: int, numbers: list[int]) -> None:
         """Reads literals, and the zeros that end clauses."""
         for number in numbers:
             if number:
                 self.use_variables(abs(number))
                 self.open.append(number)
+                self.last_literal = line
             else:
                 self.problem.clauses.append(tuple(self.open))
                 self.open = []
 
     def comment(self, tokens: list[str], line: str) -> None:
         """Reads a name out of a comment: `c variable X NAME`, `c graph G NAME`, `c node G N NAME`."""
-        if tokens[1:2] == ["variable"] and len(tokens) > 3 and tokens[2].isdigit():
-            self.problem.names[int(tokens[2])] = line.split(None, 3)[3].strip()
-        if tokens[1:2] == ["node"] and len(tokens) > 4 and tokens[2].isdigit() and tokens[3].isdigit():
-            graph = self.problem.graphs.get(int(tokens[2]))
-            if graph is not None and int(tokens[3]) < len(graph):
-                graph.names[int(tokens[3])] = line.split(None, 4)[4].strip()
-        if tokens[1:2] == ["graph"] and len(tokens) > 3 and tokens[2].isdigit():
-            graph = self.problem.graphs.get(int(tokens[2]))
-            if graph is not None:
-                graph.name = line.split(None, 3)[3].strip()
+        kind = " ".join(tokens[1:2])
+        place = {"variable": 3, "graph": 3, "node": 4}.get(kind, len(tokens))
+        if place >= len(tokens) or not all(map(NAMED_NUMBER.fullmatch, tokens[2:place])):
+            return
+        name = BLANKS.split(line.strip(" \t\r"), place)[place]
+        first, last = int(tokens[2]), int(tokens[place - 1])
+        graph = self.problem.graphs.get(first)
+        if kind == "variable":
+            self.problem.names[first] = name
+        elif graph is not None and kind == "graph":
+            graph.name = name
+        elif graph is not None and last < len(graph):
+            graph.name_node(last, name)
+
+
+def require(holds: bool, fault: str) -> None:
+    """`ValueError`: it doesn't hold."""
+    if not holds:
+        raise ValueError(fault)

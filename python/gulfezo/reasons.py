@@ -41,6 +41,11 @@ REASONS = {
 SHOWN = 200  # characters of a line
 
 
+def shown(text: str) -> str:
+    """The text, cut short where it is long."""
+    return text if len(text) <= SHOWN else text[:SHOWN] + " .."
+
+
 def explained(said: str, path: Path) -> str:
     """What is added to a message about `refused LINE FAULT` or `rejected LINE REASON`, said of that file."""
     words = said.split()
@@ -57,5 +62,4 @@ def text_of(path: Path, number: int) -> str:
     """The text of a file's line by its number from 1, cut short where it is long."""
     with open(path, "rb") as file:
         line = next(itertools.islice(file, number - 1, number), b"")
-    text = line.decode("utf-8", "replace").rstrip("\r\n")
-    return text if len(text) <= SHOWN else text[:SHOWN] + " .."
+    return shown(line.decode("utf-8", "replace").rstrip("\r\n"))

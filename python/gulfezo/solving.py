@@ -12,12 +12,12 @@ from pathlib import Path
 from typing import TypeVar
 
 from . import program as programs
-from .answer import Answer, read_answer
-from .errors import BudgetSpent, GulfezoError, NotSolved, RejectedAnswer, UnexpectedStatus
+from .answer import Answer, accepted
+from .errors import BudgetSpent, RejectedAnswer, RunError, UnexpectedStatus
 from .literals import Literal, whole
 from .model import Model
 from .phases import Phase
-from .problem import Problem
+from .problem import Problem, assume
 from .reasons import explained
 from .steps import Refutation
 
@@ -36,13 +36,14 @@ Result = TypeVar("Result")
 class Run:
     """How a problem is solved: the program, its budget, when its time is over, and whether lines tell of it.
 
-    `team` is empty, or has the number of workers and of rounds.
+    `form` is the word that is run; `team` is empty, or has the number of workers and of rounds.
     """
 
     program: str
     budget: int | None
     deadline: float | None
     progress: bool
+    form: str = "solve"
     team: list[int] = field(default_factory=list)
 
     def phase(self, note: str) -> Phase:
@@ -81,11 +82,14 @@ def solve(
 ) -> Model | Refutation:
     """See `Problem.solve`."""
     literals = assumed(problem, assumptions)
-    run = run_of(program, budget, seconds, progress)
+    team: list[int] = []
     if workers is not None:
         if budget is not None:
             raise ValueError("the budget of workers is their rounds, each of 1,000 learned clauses")
-        run.team = [whole(workers, "a number of workers", 8, 1), whole(rounds, "a number of rounds", 100, 1)]
+        team = [whole(workers, "a number of workers", 8, 1), whole(rounds, "a number of rounds", 100, 1)]
+    run = run_of(program, budget, seconds, progress)
+    if team:
+        run.form, run.team = "team", team
     return in_folder(folder, lambda place, keeps: solve_in(place, problem, run, keeps, literals))
 
 
@@ -102,10 +106,8 @@ def in_folder(folder: str | os.PathLike[str] | None, work: Callable[[Path, bool]
         place = Path(tempfile.mkdtemp(prefix="gulfezo-"))
         try:
             answer = work(place, False)
-        except GulfezoError as fault:
-            if isinstance(fault, NotSolved):
-                shutil.rmtree(place)
-            raise  # any other one names the files, so they stay
+        except RunError:
+            raise  # it names the files, so they stay
         except BaseException:
             shutil.rmtree(place)
             raise
@@ -124,9 +126,8 @@ def solve_in(place: Path, problem: Problem, run: Run, keeps: bool, literals: Seq
     if literals:
         given = place / "assumed.gnf"
         shutil.copy(file, given)
-        with open(given, "a", encoding="utf-8") as out:
-            out.writelines(f"{literal} 0\n" for literal in literals)
-    words = [run.program, "team" if run.team else "solve", str(given), *map(str, run.team)]
+        assume(given, literals)
+    words = [run.program, run.form, str(given), *map(str, run.team)]
     if run.budget is not None:
         words += ["--conflicts", str(run.budget)]
     with open(printed, "wb") as answer:
@@ -139,26 +140,31 @@ def solve_in(place: Path, problem: Problem, run: Run, keeps: bool, literals: Seq
     return checked(problem, status, run, file, printed, literals)
 
 
+def said_in(printed: Path) -> str:
+    """What a run wrote that is no answer."""
+    with open(printed, "rb") as text:
+        return text.read(1000).decode("utf-8", "replace").strip()
+
+
 def checked(
     problem: Problem, status: int, run: Run, file: Path, printed: Path, literals: Sequence[int] = ()
 ) -> Model | Refutation:
-    """The answer in the file, once `check` accepted it as what the exit code of `solve` says.
+    """The answer in the file, once `check` accepted it as what the exit code says.
 
     With assumptions it is `check-with`, which is given the problem's own file and the literals.
     """
     if status not in EXPECTED:
-        said = printed.read_bytes()[:1000].decode("utf-8", "replace").strip()
-        reason = programs.NO_ANSWER.get(status, "this isn't an exit code of the program")
-        raise UnexpectedStatus(f"solve ended with {status}: {reason}{explained(said, file)}", file, printed)
+        reason, said = programs.meaning(status), explained(said_in(printed), file)
+        raise UnexpectedStatus(f"{run.form} ended with {status}: {reason}{said}", file, printed)
     wanted, kind = EXPECTED[status]
     size = f"{printed.stat().st_size / 1e6:.1f} MB"
     with run.phase(f"checking the answer ({size})"):
         found = programs.verdict(run.program, file, printed, run.deadline, literals)
     if " ".join(found.split()[:2]) != wanted:
-        fault = f"solve ended with {status}, but check says '{found}' and not '{wanted}'"
+        fault = f"{run.form} ended with {status}, but check says '{found}' and not '{wanted}'"
         raise RejectedAnswer(fault + explained(found, printed), file, printed)
     with run.phase(f"reading the answer ({size})"):
-        answer = read_answer(problem, printed, len(literals))
+        answer = accepted(problem, file, printed, literals)
     if not isinstance(answer, (Model, Refutation)) or not isinstance(answer, kind):
-        raise UnexpectedStatus(f"solve ended with {status} and printed another answer", file, printed)
+        raise UnexpectedStatus(f"{run.form} ended with {status} and printed another answer", file, printed)
     return answer

@@ -93,11 +93,15 @@ class Steps(Sequence[Step]):
 
 
 class Derivation:
-    """Steps, each of which follows from the problem, what it was assumed with, and the steps before it."""
+    """Steps, each of which follows from the problem, what was assumed with it, and the steps before it.
 
-    def __init__(self, problem: Problem, steps: Steps) -> None:
+    `assumptions` are the numbers of the literals that were assumed: each is a further clause behind the problem's.
+    """
+
+    def __init__(self, problem: Problem, steps: Steps, assumptions: Sequence[int] = ()) -> None:
         self.problem = problem
         self.steps = steps
+        self.assumptions = tuple(assumptions)
 
     @property
     def text(self) -> str:
@@ -119,7 +123,8 @@ class Derivation:
     def migrate(self, version: int, program: str | None = None) -> Self:
         """The same steps in version 1 or 2 of the format of answers (docs/FORMATS.md), by the program's `migrate`.
 
-        The program judges the answer against the problem as it is now, and turns only what it accepts.
+        The program judges the answer against the problem as it is now, under what was assumed, and turns only what it
+        accepts.
         `RejectedAnswer`: it doesn't, as where the problem has grown since. `UnexpectedStatus`: it printed something
         else. Both name the files, which stay. `ProgramMissing`: there is no program.
         """

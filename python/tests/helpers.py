@@ -28,14 +28,14 @@ def program() -> str:
 def stand_in(
     folder: str, status: int, text: str, verdict: str = "", seconds: float = 0, check_seconds: float = 0
 ) -> str:
-    """A program that, asked to solve, prints a text and ends with a status, and, asked to check, prints a verdict.
+    """A program that prints a text and ends with a status, and, asked to check, also under literals, prints a verdict.
 
     It takes so many seconds for either. The file `pid` beside it has its process's number.
     """
     path = Path(folder) / "stand-in"
     path.write_text(
         f"#!{sys.executable}\nimport os, sys, time\nopen({str(Path(folder, 'pid'))!r}, 'w').write(str(os.getpid()))\n"
-        f"if sys.argv[1] == 'check':\n    time.sleep({check_seconds})\n    print({verdict!r})\n"
+        f"if sys.argv[1] in ('check', 'check-with'):\n    time.sleep({check_seconds})\n    print({verdict!r})\n"
         f"else:\n    time.sleep({seconds})\n    sys.stdout.write({text!r})\n    sys.exit({status})\n"
     )
     path.chmod(0o755)

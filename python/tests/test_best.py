@@ -9,8 +9,9 @@ import sys
 import tempfile
 import unittest
 from pathlib import Path
+from unittest import mock
 
-from gulfezo import Best, BudgetSpent, Problem, Refutation, UnexpectedStatus
+from gulfezo import Best, BudgetSpent, NoBound, Problem, ProgramMissing, Refutation, UnexpectedStatus
 from gulfezo.draw import drawing
 from helpers import REPOSITORY, program, stand_in
 
@@ -57,6 +58,31 @@ model = solved(best)[1].splitlines()[1]
 print(f"c best {{best}}\\nc {{model}}\\n" + solved(best - 1 if low else best + 1)[1], end="")
 sys.exit(10)
 """
+
+# A program that writes this of each best bound, asks for one as the program does, and accepts each answer.
+TELLS = """#!{python}
+import sys
+word, file, *rest = sys.argv[1:]
+text = open(file).read()
+if word == "best":
+    print({told!r}, end="")
+    sys.exit(10)
+if word == "check":
+    print("accepted model" if "s SAT" in open(rest[0]).read() else "accepted refutation")
+if word == "ask":
+    variable = int(text.split()[2]) + 1
+    asked = [line for line in text.splitlines() if "_leq" in line or "_geq" in line][int(rest[0]) - 1].split()
+    print(text, *asked[:4], variable, min(int(rest[1]), 2**53))
+    print(variable, 0)
+"""
+
+
+def tells(folder: str, told: str) -> str:
+    """That program."""
+    path = Path(folder) / "tells"
+    path.write_text(TELLS.format(python=sys.executable, told=told))
+    path.chmod(0o755)
+    return str(path)
 
 
 def triangle() -> tuple[Problem, list]:
@@ -119,12 +145,48 @@ class Bests(unittest.TestCase):
 
 
 class StandIns(unittest.TestCase):
+    def test_the_model_of_a_least_sum_is_one_of_the_problem(self):
+        problem = Problem()
+        x = problem.add_variable()
+        costs = problem.add_sum([(x, 3)])
+        problem.require(x)
+        before = problem.text()
+        self.assertEqual(problem.variables, 3)
+        with tempfile.TemporaryDirectory() as folder:
+            told = "c best 3\nc v 1 2 -3 -4 5 0\ns UNSATISFIABLE\nchain 0 1\n"
+            found = problem.minimise(costs, program=tells(folder, told), progress=False)
+        self.assertEqual((found.value, found.model.text), (3, "s SATISFIABLE\nv 1 2 -3 0\n"))
+        self.assertEqual((found.kept.problem.text(), problem.text()), (before, before))
+        self.assertIn("<svg", drawing(found.kept.problem, found.kept))
+        with self.assertRaisesRegex(ValueError, "solve again"):
+            found.model[problem.add_variable()]
+
+    def test_nothing_stays_of_a_question_without_an_answer(self):
+        problem = Problem()
+        graph = problem.add_graph(nodes=2)
+        edge = graph.add_edge(0, 1, 2**64 - 1)
+        flow = graph.maximum_flow_geq(0, 1, 1)
+        with tempfile.TemporaryDirectory() as folder:
+            path = tells(folder, f"c beyond\ns SATISFIABLE\nv {edge.number} {flow.number} 3 0\n")
+            text = Path(folder, "text")
+            text.write_text("no program")
+            text.chmod(0o755)
+            made = Path(folder, "made")
+            for found, error in ((path, NoBound), (str(text), ProgramMissing)):
+                made.mkdir()
+                with mock.patch("tempfile.mkdtemp", lambda prefix: str(made)), self.assertRaises(error):
+                    problem.best(flow, program=found, progress=False)
+                self.assertFalse(made.exists())
+
     def test_what_is_refused(self):
         problem, _ = triangle()
         way = problem.graphs[0].weighted_distance_leq(0, 2, 7)
         for status, text, error in [
             (0, "c open 4\ns UNKNOWN\n", BudgetSpent),
             (10, "c best 3\nc v 1 0\ns UNSATISFIABLE\n", UnexpectedStatus),  # `ask` ends with 10 too
+            (10, "c best\ns UNSATISFIABLE\n", UnexpectedStatus),
+            (10, "c best x\ns UNSATISFIABLE\n", UnexpectedStatus),
+            (0, "c open\n", BudgetSpent),
             (20, "s UNSATISFIABLE\n", UnexpectedStatus),
             (3, "refused 0 BadAtom\n", UnexpectedStatus),
         ]:
@@ -133,6 +195,9 @@ class StandIns(unittest.TestCase):
         for wrong in (problem.graphs[0].reach(0, 1), problem.add_variable(), triangle()[0].graphs[0].mst_weight_leq(1)):
             with self.assertRaises(ValueError):
                 problem.best(wrong)
+        for wrong in (way, problem.add_variable(), 3, Problem().add_sum([])):
+            with self.assertRaisesRegex(ValueError, "no sum of this problem"):
+                problem.minimise(wrong)
 
 
 if __name__ == "__main__":

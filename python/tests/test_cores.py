@@ -1,5 +1,6 @@
 """Solving under assumptions, and cores: with the program, and with programs that stand in for a faulty one."""
 
+import shutil
 import subprocess
 import tempfile
 import unittest
@@ -35,6 +36,7 @@ class WithTheProgram(unittest.TestCase):
         self.assertEqual(first.number, len(clauses) + 3)
         self.assertEqual(answer.step(first.number), first)
         self.assertEqual(answer.step(first.number + len(answer.steps) - 1).clause, ())
+        self.assertEqual(answer.migrate(2, self.program).migrate(1, self.program).text, answer.text)
         self.assertEqual(problem.clauses, clauses)
         self.assertTrue(problem.solve(program=self.program))
 
@@ -83,11 +85,33 @@ class StandIns(unittest.TestCase):
             (20, core, "accepted model", RejectedAnswer),
             (20, core, "accepted refutation", RejectedAnswer),  # of the needs, which are to be models
             (20, core.replace("c core", "c cores"), "accepted refutation", UnexpectedStatus),
+            *(
+                (20, core.replace(*change), "accepted refutation", UnexpectedStatus)
+                for change in [
+                    ("core -1 -2", "core -1 -3"),
+                    ("core -1 -2", "core -2 -1"),
+                    ("core -1 -2 0", "core -1 -2"),
+                    ("c needed -2 -1 2 3 4 5 0\n", ""),
+                    ("needed -1", "needed x"),
+                    ("needed -1 1 -2 3 4 5", "open -1 -3"),
+                ]
+            ),
             (10, "s SATISFIABLE\nv 1 0\n", "rejected 2 ClauseFalse 1", RejectedAnswer),
             (3, "refused 0 TooMany\n", "", UnexpectedStatus),
         ]:
             with self.subTest(status=status, verdict=verdict), self.assertRaises(error):
                 self.core(status, text, verdict)
+
+    def test_a_refutation_is_migrated_under_its_assumptions(self):
+        problem, absent = square()
+        with tempfile.TemporaryDirectory() as folder:
+            path = stand_in(folder, 20, "s UNSATISFIABLE\nchain 0 1\n", "accepted refutation")
+            answer = problem.solve(assumptions=absent[:2], program=path, progress=False)
+            self.assertEqual(answer.assumptions, (-1, -2))
+            with self.assertRaises(RejectedAnswer) as fault:
+                answer.migrate(2, stand_in(folder, 1, "rejected 2 NotCovered\n"))
+        self.assertEqual(fault.exception.problem.read_text(), problem.text() + "-1 0\n-2 0\n")
+        shutil.rmtree(fault.exception.problem.parent)
 
     def test_what_no_assumption_is(self):
         problem, absent = square()

@@ -22,8 +22,8 @@ from gulfezo.cubes import main
 from gulfezo.cubes.auditing import NotAccepted, judge_folder
 from gulfezo.cubes.engines import Local
 from gulfezo.cubes.folder import Folder, FolderError
-from gulfezo.cubes.judging import said
-from gulfezo.cubes.page import page
+from gulfezo.cubes.judging import checksum, said
+from gulfezo.cubes.page import names_of, page
 from gulfezo.cubes.run import NotJudged, Plan, Run
 from gulfezo.cubes.splitting import Splitting
 from gulfezo.cubes.tree import Tree, cover, refutation_of_cover
@@ -87,6 +87,7 @@ class Trees(unittest.TestCase):
         tree.split(tree.cube(2), 2)
         tree.split(tree.cube(4), 1)
         self.assertIsNone(by_learned.choice(tree.cube(6), ()))
+        self.assertEqual(Splitting(b"--1 0\n-\n1-2 0\n" + b"0" * 5000 + b"1 0\n-3 0\n").frequent, (3,))
 
     def test_a_page_shows_names_as_text(self):
         tree = Tree()
@@ -96,6 +97,60 @@ class Trees(unittest.TestCase):
         for wanted in ("a &lt;b&gt;", "split on x &amp; y", "not x &amp; y", "variable 2", "3 cubes"):
             self.assertIn(wanted, shown)
         self.assertNotIn("<b>", shown)
+        self.assertEqual(names_of(b"c variable 7 x & y\r\nc variable " + b"9" * 5000 + b" z\n"), {7: "x & y"})
+
+
+class Folders(unittest.TestCase):
+    """Without the program."""
+
+    def setUp(self):
+        folder = tempfile.TemporaryDirectory()
+        self.addCleanup(folder.cleanup)
+        self.root = Path(folder.name)
+
+    def test_what_is_no_line_of_a_log_is_cut_off(self):
+        folder = Folder(self.root, b"1 0\n")
+        folder.tree.split(folder.tree.cube(1), 1)
+        folder.tell(folder.tree.cube(1), 0.5, on=1)
+        folder.close()
+        log = self.root / "log"
+        told = log.read_bytes()
+        for more in (b"\xff\xfe\n", b"\0\0\0", b'{"cube": 9}\n', b'{"cube": 1, "is"', b"[]\n" + told):
+            log.write_bytes(told + more)
+            folder = Folder(self.root, b"1 0\n")
+            self.assertEqual(len(folder.tree.cubes), 3)
+            folder.close()
+            self.assertEqual(log.read_bytes(), told)
+
+    def test_the_folder_lies_beside_its_file(self):
+        file, solver = self.root / "problem.gnf", self.root / "solver"
+        file.write_text("1 0\n")
+        solver.write_text("#!/bin/sh\nexit 9\n")
+        solver.chmod(0o755)
+        told = io.StringIO()
+        with mock.patch.dict(os.environ, {"GULFEZO": str(solver)}), contextlib.redirect_stderr(told):
+            self.assertEqual(main.main([str(file), "--quiet", "--workers", "1"]), 1)
+        self.assertIn("has no accepted answer after 5 runs: solve ended with 9", told.getvalue())
+        self.assertTrue(Path(f"{file}.cubes", "log").is_file())
+
+    def test_a_run_that_goes_on_does_not_believe_its_log(self):
+        file, solver = self.root / "problem.gnf", self.root / "solver"
+        file.write_text("1 0\n-1 0\n")
+        solver.write_text(
+            "#!/bin/sh\ncase $1 in check*) grep -q wrong \"$3\" && echo rejected || echo accepted refutation ;;\n"
+            "*) echo s UNSATISFIABLE; echo chain 0 1 2; exit 20 ;; esac\n"
+        )
+        solver.chmod(0o755)
+        log, answer = Path(f"{file}.cubes", "log"), Path(f"{file}.cubes", "answers", "1")
+        for wrong, runs in (("", 1), ("", 1), ("wrong", 2)):
+            if wrong:
+                row = json.loads(log.read_text())
+                answer.write_text(wrong)
+                log.write_text(json.dumps({**row, "sha256": checksum(answer)}) + "\n")
+            with mock.patch.dict(os.environ, {"GULFEZO": str(solver)}), contextlib.redirect_stdout(io.StringIO()):
+                self.assertEqual(main.main([str(file), "--quiet", "--workers", "1"]), 20)
+            self.assertEqual(answer.read_text(), "s UNSATISFIABLE\nchain 0 1 2\n")
+            self.assertEqual(log.read_text().count('"refuted"'), runs)
 
 
 class Case(unittest.TestCase):

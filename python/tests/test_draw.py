@@ -108,9 +108,19 @@ class Drawings(unittest.TestCase):
             lambda: draw.drawing(self.problem, answer),
             lambda: draw.drawing(self.problem, answer, lemma=1),
             lambda: draw.drawing(self.problem, None, graph=5),
+            lambda: draw.drawing(parse_problem("digraph 0 0 0\n"), None, graph=0),
         ]:
             with self.assertRaises(ValueError):
                 wrong()
+
+
+    def test_the_first_lemma_of_a_graph(self):
+        problem = parse_problem(GRAPH + "digraph 2 1 7\nedge 7 0 1 8\nreach 7 0 1 9\n")
+        answer = parse_answer(problem, f"s UNSATISFIABLE\n{LEMMAS[0]}\ncut 5 8 -9 0 0\n")
+        self.assertIn("path lemma, clause 1: reach 0 to 2 holds", texts(draw.drawing(problem, answer)))
+        self.assertIn("cut lemma, clause 2: reach 0 to 1 fails", texts(draw.drawing(problem, answer, graph=7)))
+        with self.assertRaisesRegex(ValueError, "no lemma about graph 7"):
+            draw.drawing(problem, parse_answer(problem, f"s UNSATISFIABLE\n{LEMMAS[0]}\n"), graph=7)
 
 
 class Layouts(unittest.TestCase):
@@ -127,6 +137,9 @@ class Layouts(unittest.TestCase):
         self.assertEqual(len(layout.places(graph)), 4)
         with mock.patch("shutil.which", lambda _: None):
             self.assertEqual(len(layout.places(graph)), 4)
+            for missing in ("networkx", "numpy", "scipy"):
+                with mock.patch.dict("sys.modules", {missing: None}):
+                    self.assertEqual(len(layout.places(graph)), 4)
             with mock.patch.dict("sys.modules", {"networkx": None}):
                 self.assertEqual(layout.places(graph), layout.in_a_ring(4))
 
@@ -150,6 +163,16 @@ class Command(unittest.TestCase):
             self.assertEqual(draw.main([str(file), str(answer), "-o", str(out), "--unchecked", "--lemma", "2"]), 0)
             self.assertIn("cut lemma, clause 2: reach 0 to 2 fails", texts(out.read_text()))
             told = io.StringIO()
+            for text in (
+                "s UNSATISFIABLE\ncut 9 1 -4 0 0\n",
+                "s UNSATISFIABLE\ncut 0 1 -4 0 0\n",
+                "s UNSATISFIABLE\npath 1 -1 4 0 77\n",
+                "s SATISFIABLE\nv -1 -2 -3 4 -5 -6 -7 0\n",
+            ):
+                answer.write_text(text)
+                with self.subTest(text), contextlib.redirect_stderr(told):
+                    self.assertEqual(draw.main([str(file), str(answer), "-o", str(out), "--unchecked"]), 1)
+            self.assertIn("doesn't fit the problem", told.getvalue())
             program = mock.Mock(find=lambda: "x", verdict=lambda *_: "rejected 1 NotAnswer")
             with contextlib.redirect_stderr(told), mock.patch("gulfezo.draw.program", program):
                 self.assertEqual(draw.main([str(file), str(answer), "-o", str(out)]), 1)

@@ -39,6 +39,7 @@ class Files(unittest.TestCase):
             ("1 0\n2\n", 2, "isn't ended by 0"),
             ("1 x 0\n", 1, "no natural number"),
             ("p wcnf 1 1 1\n", 1, "`p cnf`"),
+            ("1 0\n2\nc x\n", 2, "isn't ended by 0"),
         )
 
     def test_monosat(self):
@@ -64,7 +65,14 @@ class Files(unittest.TestCase):
             ("symbol 0 a\n", 1, "from 1"),
             ("solve\n", 1, "`solve`"),
             ("1 2\n", 1, "isn't ended by 0"),
+            ("1 2\ndigraph 1 0 0\n", 2, "isn't ended by 0"),
         )
+        self.assertEqual(found.graphs[0].node("a"), 0)
+
+    def test_a_carriage_return_ends_no_line(self):
+        for by in (read_dimacs, read_monosat):
+            self.file.write_bytes(b"c not\r5 0\r\n1\r2 0\n")
+            self.assertEqual(by(self.file).clauses, [(1, 2)])
 
 
 class Plain:

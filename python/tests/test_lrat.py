@@ -105,6 +105,13 @@ class ByHand(unittest.TestCase):
                 self.assertEqual(lrat.main([str(file), str(answer)]), 1)
             self.assertIn("is no refutation", told.getvalue())
 
+    def test_a_clause_that_is_not_there(self):
+        problem = parse_problem("1 0\n-1 0\n")
+        for number in (0, 3, 99):
+            answer = parse_answer(problem, f"s UNSATISFIABLE\nchain 0 {number} 1\n")
+            with self.assertRaisesRegex(lrat.NoCounterpart, "line 2 names a clause that isn't there"):
+                lrat.proof(problem, answer)
+
     def test_the_checkers_of_this_test_refuse(self):
         cnf = "p cnf 2 4\n1 2 0\n-1 2 0\n1 -2 0\n-1 -2 0\n"
         self.assertTrue(accepts_lrat(cnf, "5 2 0 2 1 0\n6 0 5 4 3 0\n"))

@@ -8,6 +8,7 @@ import os
 import subprocess
 import sys
 import tempfile
+import threading
 import unittest
 import xml.dom.minidom
 from pathlib import Path
@@ -129,7 +130,7 @@ class Numbers(Mistakes):
             calls += [lambda: graph.add_link(0, 1, wrong), lambda: graph.add_nodes(wrong)]
             calls += [lambda: problem.add_variables(wrong)]
             self.refused((ValueError, TypeError), *calls)
-        for wrong in (1.5, True, 3.0, "1", -1, 2**53 + 1):
+        for wrong in (1.5, True, 3.0, "1", None, -1, 2**53 + 1):
             self.refused(
                 ValueError,
                 lambda: graph.distance_leq(0, 1, wrong),
@@ -138,7 +139,26 @@ class Numbers(Mistakes):
             )
         for wrong in (1.5, True, 3.0, "1", None):
             self.refused(ValueError, lambda: problem.at_most(wrong, [x]), lambda: problem.at_least(wrong, [x]))
-        self.refused(ValueError, lambda: problem.solve(budget=1.0), lambda: problem.declare_graph(2**32))
+        self.refused(
+            ValueError,
+            lambda: problem.solve(budget=1.0),
+            lambda: problem.declare_graph(2**32),
+            lambda: graph.add_predicate("reach", (0, 1), 5),
+            lambda: graph.add_predicate("mst_weight_leq", (0, 1), 5),
+            lambda: graph.add_predicate("reach", None, None),
+            lambda: graph.add_predicate("reaches", (0, 1), None),
+            lambda: problem.add_graph(nodes=-1),
+            lambda: graph.add_nodes(999_999),
+            lambda: problem.add_variables(999_999),
+        )
+        self.assertEqual(list(problem.graphs), [0])
+
+    def test_counts_of_any_size(self):
+        problem = self.problem
+        problem.at_least(2**70, [self.x])
+        problem.at_most(-(2**70), [self.x])
+        problem.at_most(2**70, [self.x])
+        self.assertEqual(problem.clauses, [(), ()])
 
 
 class Gates(unittest.TestCase):
@@ -179,7 +199,19 @@ class Names(Mistakes):
             lambda: graph.node("shown"),
             lambda: graph.node("none"),
             lambda: graph.add_node(5),
+            lambda: graph.add_nodes(["fine", 5]),
+            lambda: self.problem.add_variable(5),
+            lambda: self.problem.add_graph(3),
         )
+        self.refused(TypeError, lambda: graph.add_node(([1], 2)), lambda: graph.add_node(key=[1]))
+
+    def test_a_copy_finds_nodes_by_the_same_keys(self):
+        key, lock = object(), threading.Lock()
+        nodes = [self.graph.add_node(key=key), self.graph.add_node("named", key=lock)]
+        copied = copy.deepcopy(self.problem).graphs[0]
+        self.assertEqual([copied.node(key), copied.node(lock)], nodes)
+        self.assertIsInstance(copied.add_edge(copied.node(key), copied.node(lock)), Edge)
+        self.assertEqual(self.graph.edges, [])
 
     def test_names_with_control_characters(self):
         graph, problem = self.graph, self.problem

@@ -120,10 +120,27 @@ class Texts(Fixture):
 
     def test_what_is_no_answer(self):
         short, no_number = "s SATISFIABLE\nv 1 0\n", "s UNSATISFIABLE\nchain x 0\n"
-        for text, line in [("", 1), ("s MAYBE\n", 1), (short, 2), (no_number, 2), ("s UNKNOWN\n\npath\n", 3)]:
-            with self.assertRaises(FormatError) as fault:
+        other = f"s SATISFIABLE\nv {' '.join(map(str, range(2, 12)))} 0\n"
+        wide = f"s UNSATISFIABLE\nc\nchain 0 {'9' * 5000}\n"
+        for text, line in [
+            ("", 1),
+            ("s MAYBE\n", 1),
+            (short, 2),
+            (other, 2),
+            (no_number, 2),
+            (wide, 3),
+            ("s UNKNOWN\n\npath\n", 3),
+            ("s UNKNOWN\nchain 0 1\x0b2\n", 2),
+        ]:
+            with self.subTest(text[:40]), self.assertRaises(FormatError) as fault:
                 parse_answer(self.problem, text)
             self.assertEqual(fault.exception.line, line)
+
+    def test_zeros_before_a_number(self):
+        zeros = "0" * 5000
+        answer = parse_answer(self.problem, f"s UNSATISFIABLE\nflow 3 -{zeros}1 8 {zeros} {zeros}1 0\nchain -0 1\n")
+        self.assertEqual((answer.steps[0].clause, answer.steps[0].pairs), ((-1, 8), [(1, 0)]))
+        self.assertEqual((answer.steps[1].clause, answer.steps[1].listed), ((), (1,)))
 
 
 class Sums(unittest.TestCase):

@@ -2,12 +2,14 @@
 
 import doctest
 import itertools
+import tempfile
 import unittest
+from pathlib import Path
 from unittest import mock
 
 import gulfezo
 import gulfezo.problem
-from gulfezo import FormatError, Problem, cardinality, parse_problem
+from gulfezo import FormatError, Problem, cardinality, parse_problem, read_problem
 from helpers import assignments, every_form, satisfies
 
 
@@ -60,10 +62,38 @@ class Texts(unittest.TestCase):
             ("digraph int 3 0 0\nreach 0 0 1 2 3\n", 2),
             ("digraph 1 0 0\nacyclic 0 1 2\n", 2),
             ("x y\n", 1),
+            ("1 0\n2 3\nc the end\n\n", 2),
+            ("1 2\nc x\ndigraph 1 0 0\n3 0\n", 3),
+            ("digraph 1 0 0\nedge 0 0 0 1 1 1\n", 2),
+            ("digraph float 1 0 0\n", 1),
+            ("p gnf 1\n", 1),
+            ("9" * 5000 + " 0\n", 1),
         ]:
-            with self.assertRaises(FormatError) as fault:
+            with self.subTest(text[:40]), self.assertRaises(FormatError) as fault:
                 parse_problem(text)
             self.assertEqual(fault.exception.line, line)
+            self.assertLess(len(str(fault.exception)), 600)
+
+    def test_numbers_and_comments_of_any_kind(self):
+        self.assertEqual(parse_problem("0" * 5000 + "1 -0\n").clauses, [(1,)])
+        wide = f"c graph {'9' * 5000} x"
+        for comment in ("c variable 1 \x0b", "c variable \u00b2 x", "c variable 1", "c node 0 0 x", wide):
+            self.assertEqual(parse_problem(f"{comment}\n1 0\n").clauses, [(1,)])
+        problem = Problem()
+        problem.add_variable("\u00a0a \u00a0")
+        self.assertEqual(parse_problem(problem.text()).text(), problem.text())
+
+    def test_a_carriage_return_ends_no_line(self):
+        with tempfile.TemporaryDirectory() as folder:
+            file = Path(folder, "f")
+            file.write_bytes(b"c not\r5 0\n1\r2 0\r\n")
+            self.assertEqual(read_problem(file).clauses, [(1, 2)])
+
+    def test_nodes_are_found_by_the_names_in_a_file(self):
+        graph = parse_problem("digraph 3 0 0\nc node 0 0 a\nc node 0 1 hub@3,1\nc node 0 0 b\n").graphs[0]
+        self.assertEqual((graph.node("b"), graph.node("hub@3,1"), graph.names), (0, 1, ["b", "hub@3,1", ""]))
+        self.assertRaises(ValueError, graph.node, "a")
+        self.assertEqual(graph.add_node("a"), 3)
 
 
 class Refusals(unittest.TestCase):

@@ -69,9 +69,11 @@ class StandIns(unittest.TestCase):
         for status, text, verdict, error in [
             (10, "s SATISFIABLE\nv 1 0\n", "rejected 2 ClauseFalse 1", RejectedAnswer),
             (10, "s SATISFIABLE\nv 1 0\n", "", RejectedAnswer),
+            (10, "s SATISFIABLE\nv 1 0\n", "accepted " * 50_000, RejectedAnswer),
             (10, "s UNSATISFIABLE\nchain 0 1\n", "accepted refutation", RejectedAnswer),
             (20, "s UNSATISFIABLE\nchain 0 1\n", "rejected 2 NotCovered", RejectedAnswer),
             (20, "s SATISFIABLE\nv 1 0\n", "accepted refutation", UnexpectedStatus),
+            (10, "s SATISFIABLE\nv 0\n", "accepted model", UnexpectedStatus),
             (3, "refused 1 UnknownWord\n", "", UnexpectedStatus),
             (6, "", "", UnexpectedStatus),
             (99, "", "", UnexpectedStatus),
@@ -91,6 +93,15 @@ class StandIns(unittest.TestCase):
         with self.assertRaisesRegex(RejectedAnswer, "the model makes the clause of this number false") as fault:
             self.solve(10, "s SATISFIABLE\nv -1 0\n", "rejected 2 ClauseFalse 1")
         self.assertIn(f"line 2 of {self.folder}/answer: v -1 0\n", str(fault.exception))
+
+    def test_a_program_that_is_killed(self):
+        for number, said in ((9, "short of memory"), (11, "ended by signal 11")):
+            path = Path(self.folder, "killed")
+            path.write_text(f"#!/bin/sh\nkill -{number} $$\n")
+            path.chmod(0o755)
+            ended = f"solve ended with -{number}: .*{said}"
+            with self.subTest(number), self.assertRaisesRegex(UnexpectedStatus, ended):
+                one_variable().solve(folder=self.folder, program=str(path), progress=False)
 
     def test_each_fault_and_reason_of_the_formats_has_its_words(self):
         text = (REPOSITORY / "docs" / "FORMATS.md").read_text()

@@ -17,8 +17,8 @@ class Workers(unittest.TestCase):
             team = stand_in(folder, 10, "s SATISFIABLE\nv 1 0\n", "accepted model")
             self.assertTrue(problem.solve(program=team, workers=2, progress=False))
             script = Path(team)
-            asked = "assert sys.argv[1] != 'solve'\nif sys.argv[1] =="
-            script.write_text(script.read_text().replace("if sys.argv[1] ==", asked))
+            asked = "assert sys.argv[1] != 'solve'\nif sys.argv[1] in"
+            script.write_text(script.read_text().replace("if sys.argv[1] in", asked))
             self.assertTrue(problem.solve(program=team, workers=8, rounds=100, progress=False))
             team = stand_in(folder, 10, "s SATISFIABLE\nv 1 0\n", "rejected 2 ClauseFalse 1")
             self.assertRaises(RejectedAnswer, problem.solve, None, folder, team, workers=1, progress=False)

@@ -7,12 +7,10 @@ use Rattle.std.proofs.lemmas.Int.{ints}
 use Rattle.mono_base.specs.declared.limits.TheConstants.{MAX_VARS}
 use Rattle.mono_text.specs.Text.{spaced}
 use Rattle.mono_steps.specs.declared.lemma.Witness.{Witness}
-use Rattle.mono_steps.specs.declared.lemma.Witness.TheVariants as witness
 use Rattle.mono_steps.specs.declared.step.Step.{Step}
 use Rattle.mono_steps.specs.declared.step.Step.TheVariants as step
 use Rattle.mono_answer.specs.declared.kind.Kind.TheVariants as kind
 use Rattle.mono_answer.specs.declared.word.Word.{Word}
-use Rattle.mono_answer.specs.declared.word.Word.TheVariants as word
 use Rattle.mono_answer.specs.declared.item.Item.{Item}
 use Rattle.mono_answer.specs.declared.item.Item.TheVariants as item
 use Rattle.mono_answer.specs.declared.answer.Answer.{Answer}

@@ -32,6 +32,8 @@ pub fn predicates_with_another_bound()
     ensures distance { with_bound (kind.Distance 1 0 (pos 2)) (negsuc 0) ≡ kind.Distance 1 0 (negsuc 0) }
     ensures flow { with_bound (kind.Flow 0 1 (pos 2)) (pos 7) ≡ kind.Flow 0 1 (pos 7) }
     ensures tree { with_bound (kind.Tree (pos 2)) (pos 7) ≡ kind.Tree (pos 7) }
+    ensures no_bound_of_reach { with_bound (kind.Reach 0 1) (pos 7) ≡ kind.Reach 0 1 }
+    ensures no_bound_of_acyclic { with_bound kind.Acyclic (pos 7) ≡ kind.Acyclic }
 {}
 
 /// A flow's bound is from 0 to 2^53 + 1, each other bound from -1 to 2^53.
@@ -56,6 +58,9 @@ pub fn stronger_bounds()
     ensures fewer_steps { beyond (kind.Steps 0 1 (pos 2)) (pos 7) ≡ pos 6 }
     ensures less_distance { beyond (kind.Distance 0 1 (pos 2)) (pos 0) ≡ negsuc 0 }
     ensures third_flow { bound_at (kind.Flow 0 1 (pos 2)) 3 ≡ pos 3 }
+    ensures third_steps { bound_at (kind.Steps 0 1 (pos 2)) 3 ≡ pos (MAX_BOUND - 3) }
+    ensures third_distance { bound_at (kind.Distance 0 1 (pos 2)) 3 ≡ pos (MAX_BOUND - 3) }
+    ensures third_tree { bound_at (kind.Tree (pos 2)) 3 ≡ pos (MAX_BOUND - 3) }
     ensures better_flow { IsBetter (kind.Flow 0 1 (pos 2)) (pos 8) (pos 7) }
     ensures better_tree { IsBetter (kind.Tree (pos 2)) (pos 6) (pos 7) }
     ensures worse_tree { IsBetter (kind.Tree (pos 2)) (pos 8) (pos 7) → ⊥ }

@@ -47,6 +47,21 @@ pub fn verdict(alloc: Global, problem: &Problem, answer: &[u8]) -> Result<Verdic
     judge.finish(problem)
 }
 
+/// The verdict on the text of an answer, with the values that a model gives to the variables, in their order.
+pub(crate) fn verdict_with_values(
+    alloc: Global,
+    problem: &Problem,
+    answer: &[u8],
+) -> Result<(Verdict, Vec<bool>), AllocError>
+    ensures verdict { IfOk result (λ found. IsVerdict problem.now answer.now found.0) }
+    ensures values { IfOk result (λ found. found.0 ≡ Verdict.Model
+        → (end : Option ℕ) × (last : ℕ) × (outcome_of problem.now answer.now ≡ ended_outcome problem.now end last found.1.items)) }
+{
+    let mut judge = Judge::new(alloc);
+    judge.feed(problem, answer)?;
+    judge.end_with_values(problem)
+}
+
 /// The bytes up to the first line feed, and those behind it: `None` where there is no line feed.
 fn split_line(bytes: &[u8]) -> Option<(&[u8], &[u8])>
     ensures parts { IfSome result (λ parts. bytes.now ≡ parts.0.now ++ 10 ∷ parts.1.now) }
@@ -194,15 +209,12 @@ impl Judge {
     }
 
     /// Ends the text and says the verdict, with the values that a model gives to the variables, in their order.
-    pub(crate) fn finish_with_values(
-        mut self,
-        problem: &Problem,
-    ) -> Result<(Verdict, Vec<bool>), AllocError>
-        requires kept { IsKept problem.now self }
-        requires few { size_of self < 2 ^ 63 }
-        ensures verdict { IfOk result (λ found. IsOutcome problem.now (later_by problem.now (judging self) []) found.0) }
+    fn end_with_values(&mut self, problem: &Problem) -> Result<(Verdict, Vec<bool>), AllocError>
+        requires kept { IsKept problem.now self.old }
+        requires few { size_of self.old < 2 ^ 63 }
+        ensures verdict { IfOk result (λ found. IsOutcome problem.now (later_by problem.now (judging self.old) []) found.0) }
         ensures values { IfOk result (λ found. found.0 ≡ Verdict.Model
-            → (end : Option ℕ) × (last : ℕ) × (later_by problem.now (judging self) [] ≡ ended_outcome problem.now end last found.1.items)) }
+            → (end : Option ℕ) × (last : ℕ) × (later_by problem.now (judging self.old) [] ≡ ended_outcome problem.now end last found.1.items)) }
     {
         self.end_text(problem)?;
         let verdict = self.said.verdict(self.alloc, problem)?;

@@ -4,7 +4,7 @@ ghost use Rattle.std.specs.Prelude.{IfOk};
 ghost use Rattle.mono_check.specs.Migrations.{IsMigrated};
 
 use crate::held::held_steps;
-use crate::judge::Judge;
+use crate::judge::verdict_with_values;
 use crate::{Migrated, Verdict};
 use mono_answer::{Answer, Version, print_answer_as};
 use mono_base::Row;
@@ -24,9 +24,7 @@ pub fn migrate(
 ) -> Result<Migrated, AllocError>
     ensures { IfOk result (IsMigrated problem.now answer.now version) }
 {
-    let mut judge = Judge::new(alloc);
-    judge.feed(problem, answer)?;
-    let (verdict, values) = judge.finish_with_values(problem)?;
+    let (verdict, values) = verdict_with_values(alloc, problem, answer)?;
     let held = match verdict {
         Verdict::Rejected { line, reason } => return Ok(Migrated::Rejected { line, reason }),
         Verdict::Model => Answer::Model(Row::from_vec(values)),

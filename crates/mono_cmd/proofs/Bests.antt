@@ -50,7 +50,7 @@ use Rattle.mono_cmd.specs.Runs.{IsBounded, IsAsked, ComesTo, Runs, Bounds, Asks,
 use Rattle.mono_cmd.proofs.Format.{steps_within}
 use Rattle.mono_cmd.proofs.Notes.{KeepsSteps, keeps_both, keeps_note, keeps_model, open_word}
 use Rattle.mono_cmd.proofs.Solutions.{printed_model, printed_steps, few_steps}
-use Rattle.mono_cmd.proofs.Replies.{is_reply, not_both, end_behind, appended, shown}
+use Rattle.mono_cmd.proofs.Replies.{is_reply, not_both, end_behind, appended, shown, said}
 
 -- ---- the lines before the answer
 
@@ -174,20 +174,16 @@ bound_shows p n (bounded.Beyond model) ok h = tt
 bound_shows p n (bounded.Unknown b steps) ok h = h.2.right.progress.few
 
 -- what is said of its text
-its_text : (p : Instance) (n : ℕ) (written : List ℕ) (o : BestOutcome) → IsInstance p → IsFound p n o → best_text o ≡ written → IsBestBy (best_status o) p n written
-its_text p n written (bounded.Best b model steps) ok h is =
-    inl (b, model, steps, h.2.right, optimal p n b model steps ok h.0 h.1 h.2.right, sym is, subst (λ (text : List ℕ). IsVerdict (asking p n (beyond (predicate_of p n) b)) text verdict.Refutation) is h.2.accepted)
-its_text p n written (bounded.Never steps) ok h is =
-    (steps, never_met p n steps ok h.0 h.1 h.2.right, sym is, subst (λ (text : List ℕ). IsVerdict (asking p n (weakest (predicate_of p n))) text verdict.Refutation) is h.2.accepted)
-its_text p n written (bounded.Beyond model) ok h is =
-    inr (model, h.2.right, sym is, subst (λ (text : List ℕ). IsVerdict (asking p n (pos (MAX_BOUND + 1))) text verdict.Model) is h.2.accepted)
-its_text p n written (bounded.Unknown b steps) ok h is = (
+its_text : (p : Instance) (n : ℕ) (o : BestOutcome) → IsInstance p → IsFound p n o → IsBestBy (best_status o) p n (best_text o)
+its_text p n (bounded.Best b model steps) ok h = inl (b, model, steps, h.2.right, optimal p n b model steps ok h.0 h.1 h.2.right, refl, h.2.accepted)
+its_text p n (bounded.Never steps) ok h = (steps, never_met p n steps ok h.0 h.1 h.2.right, refl, h.2.accepted)
+its_text p n (bounded.Beyond model) ok h = inr (model, h.2.right, refl, h.2.accepted)
+its_text p n (bounded.Unknown b steps) ok h = (
   b,
   steps,
   h.2.right,
-  sym is,
-  subst (λ (text : List ℕ). IsVerdict (asking p n b) text (verdict.Progress DEFAULT_BUDGET)) is
-      (subst (λ (k : ℕ). IsVerdict (asking p n b) (best_text (bounded.Unknown b steps)) (verdict.Progress k)) h.2.right.progress.chains h.2.accepted),
+  refl,
+  subst (λ (k : ℕ). IsVerdict (asking p n b) (best_text (bounded.Unknown b steps)) (verdict.Progress k)) h.2.right.progress.chains h.2.accepted,
 )
 
 -- ---- as clauses of a run of `best`
@@ -201,11 +197,9 @@ module _ (found : Option Command) (old new : ShelfView) (s : Status) (before now
   well_formed : IsInstance p
   well_formed = stands_well_formed bounds.text p bounds.stands
 
-  by_outcome : (Claim : Status → Type 0) → ((o : BestOutcome) → IsFound p n o → now ≡ append_known before (best_text o) → Claim (best_status o)) → (t : Status) → is_reply t ≡ true → s ≡ t → Claim t
-  by_outcome = shown found old new s before now runs BestOutcome (λ o. ending.Bounded o) (IsFound p n) came
-
   shows : (t : Status) → is_reply t ≡ true → s ≡ t → Shows p n t
-  shows = by_outcome (Shows p n) (λ o h w. bound_shows p n o well_formed h)
+  shows =
+      shown found old new s before now runs BestOutcome (λ o. ending.Bounded o) (IsFound p n) came (Shows p n) (λ o h w. bound_shows p n o well_formed h)
 
   pub best_is_never_met : s ≡ status.Unsatisfiable → IsNeverMet p n
   best_is_never_met = shows status.Unsatisfiable refl
@@ -214,16 +208,9 @@ module _ (found : Option Command) (old new : ShelfView) (s : Status) (before now
   best_unknown = shows status.Unknown refl
 
   pub its_bound : (there written : List ℕ) → before ≡ Some there → now ≡ Some (there ++ written) → IsBestBy s p n written
-  its_bound there written held wrote = by_status s refl
-    where
-      whole : (t : Status) → is_reply t ≡ true → s ≡ t → IsBestBy t p n written
-      whole = by_outcome (λ t. IsBestBy t p n written) (λ o h w. its_text p n written o well_formed h (appended before now there written (best_text o) held wrote w))
-
-      by_status : (t : Status) → s ≡ t → IsBestBy t p n written
-      by_status status.Satisfiable is = whole status.Satisfiable refl is
-      by_status status.Unsatisfiable is = whole status.Unsatisfiable refl is
-      by_status status.Unknown is = whole status.Unknown refl is
-      by_status t is = tt
+  its_bound =
+      said found old new s before now runs BestOutcome (λ o. ending.Bounded o) (IsFound p n) came
+      (λ t text. IsBestBy t p n text) (λ text. (tt, tt, tt, tt, tt, tt)) (λ o h. its_text p n o well_formed h)
 
 -- ---- as a clause of a run of `ask`
 

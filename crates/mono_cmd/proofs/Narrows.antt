@@ -1,6 +1,5 @@
 -- What a run of `core` shows of the problem that FILE stands for, under the assumptions.
-use Rattle.std.proofs.Common.{◌≡◌, ◌⊎◌, ℕ, Bool, true, List, ◌++◌, Option, Some, ℤ, refl, sym, ap, subst, inl, inr}
-use Rattle.std.specs.Io.KnownBytes.{append_known}
+use Rattle.std.proofs.Common.{◌≡◌, ◌⊎◌, ℕ, Bool, true, List, ◌++◌, Option, Some, ℤ, refl, ap, subst, inl, inr}
 use Rattle.mono_base.specs.Literal.{value_in}
 use Rattle.mono_problem.specs.Instance.{Instance}
 use Rattle.mono_problem.specs.WellFormed.{IsInstance}
@@ -24,7 +23,7 @@ use Rattle.mono_cmd.specs.Endings.{status_of, outcome_status}
 use Rattle.mono_cmd.specs.Solved.{IsNarrowing}
 use Rattle.mono_cmd.specs.Runs.{IsBeyond, IsNarrowed, ComesTo, Runs, Narrows, IsCoreBy}
 use Rattle.mono_cmd.proofs.Cores.{core_excludes}
-use Rattle.mono_cmd.proofs.Replies.{is_reply, not_both, end_behind, appended, shown}
+use Rattle.mono_cmd.proofs.Replies.{is_reply, not_both, end_behind, shown, said}
 
 -- what was found under the assumptions, for which there is room
 abbrev IsFound : Instance → List ℤ → CoreOutcome → Type 0
@@ -47,13 +46,11 @@ outcome_shows p lits (outcome.Core some steps needs) ok h = core_excludes p DEFA
 outcome_shows p lits (outcome.Unknown steps) ok h = tt
 
 -- what is said of its text
-its_text : (p : Instance) (lits : List ℤ) (written : List ℕ) (o : CoreOutcome) → IsFound p lits o → outcome_text o ≡ written → IsCoreBy (outcome_status o) p lits written
-its_text p lits written (outcome.Model values) h is = subst (λ (text : List ℕ). IsVerdict (assuming p lits) text verdict.Model) is h.1.accepted
-its_text p lits written (outcome.Core some steps needs) h is =
-    (some, needs, steps, h.1.right, sym is, subst (λ (text : List ℕ). IsVerdict (assuming p some) text verdict.Refutation) is h.1.accepted)
-its_text p lits written (outcome.Unknown steps) h is =
-    subst (λ (text : List ℕ). IsVerdict (assuming p lits) text (verdict.Progress DEFAULT_BUDGET)) is
-    (subst (λ (n : ℕ). IsVerdict (assuming p lits) (outcome_text (outcome.Unknown steps)) (verdict.Progress n)) h.1.right.chains h.1.accepted)
+its_text : (p : Instance) (lits : List ℤ) (o : CoreOutcome) → IsFound p lits o → IsCoreBy (outcome_status o) p lits (outcome_text o)
+its_text p lits (outcome.Model values) h = h.1.accepted
+its_text p lits (outcome.Core some steps needs) h = (some, needs, steps, h.1.right, refl, h.1.accepted)
+its_text p lits (outcome.Unknown steps) h =
+    subst (λ (n : ℕ). IsVerdict (assuming p lits) (outcome_text (outcome.Unknown steps)) (verdict.Progress n)) h.1.right.chains h.1.accepted
 
 -- ---- as clauses of a run
 
@@ -63,11 +60,10 @@ module _ (found : Option Command) (old new : ShelfView) (s : Status) (before now
       let over : ComesTo (Some (command.Core narrows.file lits)) old new e = subst (λ (c : Option Command). ComesTo c old new e) narrows.is comes in
       narrowed_as p lits e (end_behind narrows.file narrows.text old new e p (λ q. IsBeyond q lits e ⊎ IsNarrowed q lits e) narrows.told narrows.stands reply over) reply
 
-  by_outcome : (Claim : Status → Type 0) → ((o : CoreOutcome) → IsFound p lits o → now ≡ append_known before (outcome_text o) → Claim (outcome_status o)) → (t : Status) → is_reply t ≡ true → s ≡ t → Claim t
-  by_outcome = shown found old new s before now runs CoreOutcome (λ o. ending.Narrowed o) (IsFound p lits) came
-
   shows : (t : Status) → is_reply t ≡ true → s ≡ t → Shows p lits t
-  shows = by_outcome (Shows p lits) (λ o h w. outcome_shows p lits o (stands_well_formed narrows.text p narrows.stands) h)
+  shows =
+      shown found old new s before now runs CoreOutcome (λ o. ending.Narrowed o) (IsFound p lits) came (Shows p lits)
+      (λ o h w. outcome_shows p lits o (stands_well_formed narrows.text p narrows.stands) h)
 
   pub core_satisfiable : s ≡ status.Satisfiable → (a : ℕ → Bool) × Satisfies (assuming p lits) a
   core_satisfiable = shows status.Satisfiable refl
@@ -76,13 +72,6 @@ module _ (found : Option Command) (old new : ShelfView) (s : Status) (before now
   core_unsatisfiable = shows status.Unsatisfiable refl
 
   pub its_core : (there written : List ℕ) → before ≡ Some there → now ≡ Some (there ++ written) → IsCoreBy s p lits written
-  its_core there written held wrote = by_status s refl
-    where
-      whole : (t : Status) → is_reply t ≡ true → s ≡ t → IsCoreBy t p lits written
-      whole = by_outcome (λ t. IsCoreBy t p lits written) (λ o h w. its_text p lits written o h (appended before now there written (outcome_text o) held wrote w))
-
-      by_status : (t : Status) → s ≡ t → IsCoreBy t p lits written
-      by_status status.Satisfiable is = whole status.Satisfiable refl is
-      by_status status.Unsatisfiable is = whole status.Unsatisfiable refl is
-      by_status status.Unknown is = whole status.Unknown refl is
-      by_status t is = tt
+  its_core =
+      said found old new s before now runs CoreOutcome (λ o. ending.Narrowed o) (IsFound p lits) came
+      (λ t text. IsCoreBy t p lits text) (λ text. (tt, tt, tt, tt, tt, tt)) (its_text p lits)

@@ -37,6 +37,19 @@ is_reply s = true
 pub not_both : (s t : Status) → s ≡ t → is_reply s ≡ true → is_reply t ≡ false → ⊥
 not_both s t is reply none = absurd (let h = sym reply ∙ ap is_reply is ∙ none in cc)
 
+-- what is said of replies alone: with each other status it holds anyway
+abbrev pub IsOfReplies : (Status → Type 0) → Type 0
+IsOfReplies Says = Says status.Words × Says status.Refused × Says status.ReadFault × Says status.WriteFault × Says status.Memory × Says status.TooLong
+
+by_status : (s : Status) (Says : Status → Type 0) → IsOfReplies Says → ((t : Status) → is_reply t ≡ true → s ≡ t → Says t) → Says s
+by_status status.Words Says none says = none.0
+by_status status.Refused Says none says = none.1
+by_status status.ReadFault Says none says = none.2
+by_status status.WriteFault Says none says = none.3
+by_status status.Memory Says none says = none.4
+by_status status.TooLong Says none says = none.5
+by_status s Says none says = says s refl refl
+
 pub answer_reply : (a : Answer) → is_reply (answer_status a) ≡ true
 answer_reply (answer.Model values) = refl
 answer_reply (answer.Refutation steps) = refl
@@ -155,3 +168,15 @@ shown found old new s before now runs Outcome made Right came Shows shows t repl
     let comes = ends_else found old new runs.ending (λ memory. not_both t status.Memory (w.0 ∙ ap status_of memory) reply refl) runs.ends in
     let end = came runs.ending comes (ap is_reply (sym w.0) ∙ reply) in
     subst Shows (sym (w.0 ∙ ap status_of end.1)) (shows end.0 end.2 (w.1 ∙ ap (λ (d : Ending). append_known before (text_of d)) end.1))
+
+-- What is said of each outcome's text by its status, and of replies alone, holds of what a run wrote by the run's status.
+pub said : (found : Option Command) (old new : ShelfView) (s : Status) (before now : Option (List ℕ)) → Runs found old new s before now
+    → (Outcome : Type 0) (made : Outcome → Ending) (Right : Outcome → Type 0)
+    → ((e : Ending) → ComesTo found old new e → is_reply (status_of e) ≡ true → (o : Outcome) × (e ≡ made o) × Right o)
+    → (Says : Status → List ℕ → Type 0) → ((text : List ℕ) → IsOfReplies (λ t. Says t text))
+    → ((o : Outcome) → Right o → Says (status_of (made o)) (text_of (made o)))
+    → (there written : List ℕ) → before ≡ Some there → now ≡ Some (there ++ written) → Says s written
+said found old new s before now runs Outcome made Right came Says none says there written held wrote =
+    by_status s (λ t. Says t written) (none written)
+    (shown found old new s before now runs Outcome made Right came (λ t. Says t written)
+    (λ o h w. subst (λ (text : List ℕ). Says (status_of (made o)) text) (appended before now there written (text_of (made o)) held wrote w) (says o h)))

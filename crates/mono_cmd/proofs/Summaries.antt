@@ -1,7 +1,6 @@
 -- What a run of `gen` with `--solve` shows of the problem that the generated input stands for.
-use Rattle.std.proofs.Common.{◌≡◌, ◌<◌, ◌^◌, ℕ, Bool, true, List, ◌++◌, length, Option, Some, refl, sym, ap, subst, ◌∙◌}
+use Rattle.std.proofs.Common.{◌≡◌, ◌<◌, ◌^◌, ℕ, Bool, true, List, ◌++◌, length, Option, Some, refl, ap, subst, ◌∙◌}
 use Rattle.std.specs.Prelude.{codes}
-use Rattle.std.specs.Io.KnownBytes.{append_known}
 use Rattle.std.proofs.lemmas.List.{append-nil}
 use Rattle.mono_problem.specs.Instance.{Instance, edges_total}
 use Rattle.mono_problem.specs.Holds.{HasNoModel, Satisfies}
@@ -25,7 +24,7 @@ use Rattle.mono_cmd.specs.declared.ending.Ending.TheVariants as ending
 use Rattle.mono_cmd.specs.Endings.{status_of, answer_status, result_word, verdict_text, progress_text, summary_lines, summary_text}
 use Rattle.mono_cmd.specs.Solved.{IsSolution, IsSummary, verdict_of}
 use Rattle.mono_cmd.specs.Runs.{ComesTo, Runs, SumsUp, SolvesGenerated, summary_of, IsSummaryBy}
-use Rattle.mono_cmd.proofs.Replies.{is_reply, same_problem, appended, shown}
+use Rattle.mono_cmd.proofs.Replies.{is_reply, same_problem, shown, said}
 use Rattle.mono_cmd.proofs.Solves.{Shows, solution_shows}
 
 -- ---- the text
@@ -45,12 +44,12 @@ right_text p s right =
     ∙ ap (λ (v : Verdict). text_with p.vars (length p.clauses) (edges_total p) (length p.atoms) v s.answer) judged))))
 
 abbrev IsText : Instance → List ℕ → Answer → Type 0
-IsText p written a = written ≡ summary_of p (result_word a) (verdict_text (verdict_of a)) ++ progress_text a
+IsText p text a = text ≡ summary_of p (result_word a) (verdict_text (verdict_of a)) ++ progress_text a
 
-its_text : (p : Instance) (written : List ℕ) (a : Answer) → IsSolution p DEFAULT_BUDGET a → IsText p written a → IsSummaryBy (answer_status a) p written
-its_text p written (answer.Model values) h is = is ∙ append-nil (summary_of p (codes "satisfiable") (codes "accepted model\n"))
-its_text p written (answer.Refutation steps) h is = is ∙ append-nil (summary_of p (codes "unsatisfiable") (codes "accepted refutation\n"))
-its_text p written (answer.Progress steps) h is =
+its_text : (p : Instance) (text : List ℕ) (a : Answer) → IsSolution p DEFAULT_BUDGET a → IsText p text a → IsSummaryBy (answer_status a) p text
+its_text p text (answer.Model values) h is = is ∙ append-nil (summary_of p (codes "satisfiable") (codes "accepted model\n"))
+its_text p text (answer.Refutation steps) h is = is ∙ append-nil (summary_of p (codes "unsatisfiable") (codes "accepted refutation\n"))
+its_text p text (answer.Progress steps) h is =
     (steps, h.right, is ∙ ap (λ (n : ℕ). summary_of p (codes "unknown") (verdict_text (verdict.Progress n)) ++ answer_text (answer.Progress steps)) h.right.chains)
 
 -- ---- as clauses of a run
@@ -63,11 +62,10 @@ module _ (found : Option Command) (old new : ShelfView) (s : Status) (before now
       let same = same_problem (generated solves.kind solves.size solves.seed) sums.problem p sums.stands solves.stands in
       (sums.summary, sums.is, subst (λ (q : Instance). IsSummary q DEFAULT_BUDGET sums.summary) same sums.right)
 
-  by_summary : (Claim : Status → Type 0) → ((t : Summary) → IsSummary p DEFAULT_BUDGET t → now ≡ append_known before (summary_text t) → Claim (answer_status t.answer)) → (t : Status) → is_reply t ≡ true → s ≡ t → Claim t
-  by_summary = shown found old new s before now runs Summary (λ t. ending.Summed t) (λ t. IsSummary p DEFAULT_BUDGET t) came
-
   shows : (t : Status) → is_reply t ≡ true → s ≡ t → Shows p DEFAULT_BUDGET t
-  shows = by_summary (Shows p DEFAULT_BUDGET) (λ t h w. solution_shows p DEFAULT_BUDGET t.answer (stands_well_formed (generated solves.kind solves.size solves.seed) p solves.stands) h.solves)
+  shows =
+      shown found old new s before now runs Summary (λ t. ending.Summed t) (λ t. IsSummary p DEFAULT_BUDGET t) came (Shows p DEFAULT_BUDGET)
+      (λ t h w. solution_shows p DEFAULT_BUDGET t.answer (stands_well_formed (generated solves.kind solves.size solves.seed) p solves.stands) h.solves)
 
   pub gen_satisfiable : s ≡ status.Satisfiable → (a : ℕ → Bool) × Satisfies p a
   gen_satisfiable = shows status.Satisfiable refl
@@ -79,13 +77,6 @@ module _ (found : Option Command) (old new : ShelfView) (s : Status) (before now
   gen_unknown = shows status.Unknown refl
 
   pub summed : (there written : List ℕ) → before ≡ Some there → now ≡ Some (there ++ written) → IsSummaryBy s p written
-  summed there written held wrote = by_status s refl
-    where
-      whole : (t : Status) → is_reply t ≡ true → s ≡ t → IsSummaryBy t p written
-      whole = by_summary (λ t. IsSummaryBy t p written) (λ t h w. its_text p written t.answer h.solves (sym (appended before now there written (summary_text t) held wrote w) ∙ right_text p t h))
-
-      by_status : (t : Status) → s ≡ t → IsSummaryBy t p written
-      by_status status.Satisfiable is = whole status.Satisfiable refl is
-      by_status status.Unsatisfiable is = whole status.Unsatisfiable refl is
-      by_status status.Unknown is = whole status.Unknown refl is
-      by_status t is = tt
+  summed =
+      said found old new s before now runs Summary (λ t. ending.Summed t) (λ t. IsSummary p DEFAULT_BUDGET t) came
+      (λ t text. IsSummaryBy t p text) (λ text. (tt, tt, tt, tt, tt, tt)) (λ t h. its_text p (summary_text t) t.answer h.solves (right_text p t h))

@@ -1,20 +1,16 @@
 -- What a run of `team` shows of the problem that FILE stands for.
-use Rattle.std.proofs.Common.{◌≡◌, ℕ, Bool, true, List, ◌++◌, Option, Some, refl, sym, subst}
-use Rattle.std.specs.Io.KnownBytes.{append_known}
+use Rattle.std.proofs.Common.{◌≡◌, ℕ, Bool, true, List, ◌++◌, Option, Some, refl, subst}
 use Rattle.mono_base.specs.Literal.{value_in}
 use Rattle.mono_problem.specs.Instance.{Instance}
 use Rattle.mono_problem.specs.WellFormed.{IsInstance}
 use Rattle.mono_problem.specs.Holds.{HasNoModel, Satisfies}
 use Rattle.mono_steps.specs.declared.step.Step.{Step}
-use Rattle.mono_steps.specs.Journals.{chain_count}
 use Rattle.mono_steps.proofs.StepTruth.{refutation_excludes}
 use Rattle.mono_portfolio.specs.Outcomes.{IsBoardOfRounds}
 use Rattle.mono_gnf.proofs.WellFormedReading.{stands_well_formed}
 use Rattle.mono_answer.specs.declared.answer.Answer.{Answer}
 use Rattle.mono_answer.specs.declared.answer.Answer.TheVariants as answer
 use Rattle.mono_answer.specs.Printed.{answer_text}
-use Rattle.mono_check.specs.declared.verdict.Verdict.TheVariants as verdict
-use Rattle.mono_check.specs.Verdicts.{IsVerdict}
 use Rattle.mono_io.specs.Shelf.{ShelfView}
 use Rattle.mono_cmd.specs.declared.command.Command.{Command}
 use Rattle.mono_cmd.specs.declared.command.Command.TheVariants as command
@@ -25,7 +21,7 @@ use Rattle.mono_cmd.specs.declared.ending.Ending.TheVariants as ending
 use Rattle.mono_cmd.specs.Endings.{status_of, answer_status}
 use Rattle.mono_cmd.specs.Teams.{IsTeamed, IsTeamSolution, PlaysTeam, IsTeamTextBy}
 use Rattle.mono_cmd.specs.Runs.{ComesTo, Runs}
-use Rattle.mono_cmd.proofs.Replies.{is_reply, end_behind, appended, shown}
+use Rattle.mono_cmd.proofs.Replies.{is_reply, end_behind, shown, said}
 
 -- what an answer of a team shows, by its status
 abbrev Shows : Instance → ℕ → ℕ → Status → Type 0
@@ -40,10 +36,10 @@ team_shows p workers rounds (answer.Refutation steps) ok h = refutation_excludes
 team_shows p workers rounds (answer.Progress board) ok h = (board, h.right)
 
 -- the verdict on its text
-its_text : (p : Instance) (workers rounds : ℕ) (written : List ℕ) (a : Answer) → IsTeamSolution p workers rounds a → answer_text a ≡ written → IsTeamTextBy (answer_status a) p workers rounds written
-its_text p workers rounds written (answer.Model values) h is = subst (λ (text : List ℕ). IsVerdict p text verdict.Model) is h.accepted
-its_text p workers rounds written (answer.Refutation steps) h is = subst (λ (text : List ℕ). IsVerdict p text verdict.Refutation) is h.accepted
-its_text p workers rounds written (answer.Progress board) h is = (board, h.right, sym is, subst (λ (text : List ℕ). IsVerdict p text (verdict.Progress (chain_count board))) is h.accepted)
+its_text : (p : Instance) (workers rounds : ℕ) (a : Answer) → IsTeamSolution p workers rounds a → IsTeamTextBy (answer_status a) p workers rounds (answer_text a)
+its_text p workers rounds (answer.Model values) h = h.accepted
+its_text p workers rounds (answer.Refutation steps) h = h.accepted
+its_text p workers rounds (answer.Progress board) h = (board, h.right, refl, h.accepted)
 
 -- ---- as clauses of a run
 
@@ -54,11 +50,10 @@ module _ (found : Option Command) (old new : ShelfView) (s : Status) (before now
       let teamed = end_behind plays.file plays.text old new e p (λ q. IsTeamed q workers rounds e) plays.told plays.stands reply over in
       (teamed.answer, teamed.is, teamed.right)
 
-  by_answer : (Claim : Status → Type 0) → ((a : Answer) → IsTeamSolution p workers rounds a → now ≡ append_known before (answer_text a) → Claim (answer_status a)) → (t : Status) → is_reply t ≡ true → s ≡ t → Claim t
-  by_answer = shown found old new s before now runs Answer (λ a. ending.Solved a) (λ a. IsTeamSolution p workers rounds a) came
-
   shows : (t : Status) → is_reply t ≡ true → s ≡ t → Shows p workers rounds t
-  shows = by_answer (Shows p workers rounds) (λ a h w. team_shows p workers rounds a (stands_well_formed plays.text p plays.stands) h)
+  shows =
+      shown found old new s before now runs Answer (λ a. ending.Solved a) (λ a. IsTeamSolution p workers rounds a) came (Shows p workers rounds)
+      (λ a h w. team_shows p workers rounds a (stands_well_formed plays.text p plays.stands) h)
 
   pub team_satisfiable : s ≡ status.Satisfiable → (a : ℕ → Bool) × Satisfies p a
   team_satisfiable = shows status.Satisfiable refl
@@ -70,13 +65,6 @@ module _ (found : Option Command) (old new : ShelfView) (s : Status) (before now
   team_unknown = shows status.Unknown refl
 
   pub its_board : (there written : List ℕ) → before ≡ Some there → now ≡ Some (there ++ written) → IsTeamTextBy s p workers rounds written
-  its_board there written held wrote = by_status s refl
-    where
-      whole : (t : Status) → is_reply t ≡ true → s ≡ t → IsTeamTextBy t p workers rounds written
-      whole = by_answer (λ t. IsTeamTextBy t p workers rounds written) (λ a h w. its_text p workers rounds written a h (appended before now there written (answer_text a) held wrote w))
-
-      by_status : (t : Status) → s ≡ t → IsTeamTextBy t p workers rounds written
-      by_status status.Satisfiable is = whole status.Satisfiable refl is
-      by_status status.Unsatisfiable is = whole status.Unsatisfiable refl is
-      by_status status.Unknown is = whole status.Unknown refl is
-      by_status t is = tt
+  its_board =
+      said found old new s before now runs Answer (λ a. ending.Solved a) (λ a. IsTeamSolution p workers rounds a) came
+      (λ t text. IsTeamTextBy t p workers rounds text) (λ text. (tt, tt, tt, tt, tt, tt)) (its_text p workers rounds)

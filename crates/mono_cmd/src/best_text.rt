@@ -23,6 +23,7 @@ pub(crate) fn print_best(alloc: Global, outcome: &BestOutcome) -> Result<Vec<u8>
     Ok(out)
 }
 
+/// The text of what was found, behind what is there.
 fn push_outcome(out: &mut Vec<u8>, outcome: &BestOutcome) -> Result<(), AllocError>
     ensures { OnOk result (out.new.items ≡ out.old.items ++ best_text outcome.now) }
 {

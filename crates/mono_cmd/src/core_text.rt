@@ -26,6 +26,7 @@ pub(crate) fn print_outcome(alloc: Global, outcome: &CoreOutcome) -> Result<Vec<
     Ok(out)
 }
 
+/// The text of what was found, behind what is there.
 fn push_outcome(out: &mut Vec<u8>, outcome: &CoreOutcome) -> Result<(), AllocError>
     ensures { OnOk result (out.new.items ≡ out.old.items ++ outcome_text outcome.now) }
 {
@@ -85,6 +86,7 @@ fn push_need(out: &mut Vec<u8>, lit: Lit, need: &Need) -> Result<(), AllocError>
     }
 }
 
+/// The number of a literal.
 fn push_literal(out: &mut Vec<u8>, lit: Lit) -> Result<(), AllocError>
     ensures { OnOk result (out.new.items ≡ out.old.items ++ signed_decimal lit) }
 {

@@ -24,6 +24,7 @@ use mono_io::ReadRefusal;
 use std::alloc::{AllocError, Global};
 use std::borrow::CowSlice;
 
+/// The one line that names all commands.
 const USAGE: &[u8] =
     b"usage: solve FILE [--conflicts N] | check FILE ANSWER | print FILE | gen KIND SIZE SEED [--solve] | migrate FILE ANSWER VERSION | core FILE LIT.. | check-with FILE ANSWER LIT.. | best FILE ATOM | ask FILE ATOM B | team FILE K R\n";
 
@@ -38,7 +39,7 @@ pub enum Ending {
     Memory,
     /// A file has more bytes than its limit.
     TooLong,
-    /// The input's first malformed line, and what is wrong with it.
+    /// The input's first malformed line, and what is wrong with it; line 0 where the assumptions find no room.
     Refused { line: u64, fault: GnfFault },
     /// An answer to the problem.
     Solved(Answer),
@@ -46,7 +47,7 @@ pub enum Ending {
     Judged(Verdict),
     /// A generated input that was solved, summed up.
     Summed(Summary),
-    /// The printed form of the input, a generated input, or a migrated answer.
+    /// The printed form of the input or of one that asks for a bound, a generated input, or a migrated answer.
     Printed(Row<u8>),
     /// What was found of the input under assumptions.
     Narrowed(CoreOutcome),
@@ -143,12 +144,14 @@ impl Ending {
     }
 }
 
+/// A text of constants, as it is.
 fn fixed(text: &'static [u8]) -> CowSlice<'static, u8>
     ensures { cow_slice_items result ≡ text.now }
 {
     CowSlice::Borrowed(text)
 }
 
+/// How a run ends that comes to this answer.
 fn answer_status(answer: &Answer) -> Status
     ensures { result ≡ status_of_answer answer.now }
 {
@@ -159,6 +162,7 @@ fn answer_status(answer: &Answer) -> Status
     }
 }
 
+/// How a run of `core` ends that comes to this outcome.
 fn outcome_status(outcome: &CoreOutcome) -> Status
     ensures { result ≡ status_of_outcome outcome.now }
 {
@@ -173,6 +177,7 @@ fn outcome_status(outcome: &CoreOutcome) -> Status
     }
 }
 
+/// How a run of `best` ends that comes to this outcome.
 fn best_status(outcome: &BestOutcome) -> Status
     ensures { result ≡ status_of_best outcome.now }
 {
@@ -188,6 +193,7 @@ fn best_status(outcome: &BestOutcome) -> Status
     }
 }
 
+/// How a run ends that comes to this verdict.
 fn verdict_status(verdict: Verdict) -> Status
     ensures { result ≡ status_of_verdict verdict }
 {
@@ -197,6 +203,7 @@ fn verdict_status(verdict: Verdict) -> Status
     }
 }
 
+/// The line of the input's fault.
 fn refused_text(alloc: Global, line: u64, fault: GnfFault) -> Result<Vec<u8>, AllocError>
     ensures { IfOk result (λ text. text.items ≡ text_of (Ending.Refused line fault)) }
 {
@@ -221,12 +228,14 @@ pub(crate) fn verdict_text(
     Ok(CowSlice::Owned(text))
 }
 
+/// The line of accepted progress of so many learned clauses.
 fn progress_text(alloc: Global, count: u64) -> Result<Vec<u8>, AllocError>
     ensures { IfOk result (λ text. text.items ≡ text_of_verdict (Verdict.Progress count)) }
 {
     Ok(format!(in alloc; "accepted progress {count}\n")?.into_bytes())
 }
 
+/// The line of a rejection whose reason carries a number.
 fn numbered_text(
     alloc: Global,
     line: u64,
@@ -239,6 +248,7 @@ fn numbered_text(
     Ok(format!(in alloc; "rejected {line} {name} {number}\n")?.into_bytes())
 }
 
+/// The line of a rejection.
 fn rejected_text(alloc: Global, line: u64, reason: Reason) -> Result<Vec<u8>, AllocError>
     ensures { IfOk result (λ text. text.items ≡ text_of_verdict (Verdict.Rejected line reason)) }
 {

@@ -49,22 +49,30 @@ use std::alloc::{AllocError, Global};
 /// Runs the program: reads the files that the words name from the shelf, and writes the answer to the sink.
 ///
 /// - `Words` comes exactly where the words are no command.
-/// - `Refused` comes exactly where FILE was read whole and has a first fault; its line and name are written.
-/// - `Satisfiable` comes only with the text of a satisfying model, `Unsatisfiable` only with that of a justified refutation,
-///   `Unknown` only with that of justified progress: exactly as many nonempty learned clauses as the budget, each new, and
-///   only where the budget is below 3^V, V being the number of variables. So it is of `team`, whose `Unknown` comes with the
-///   board of all rounds.
-/// - `Accepted` and `Rejected` come by the verdict on ANSWER for the problem that FILE stands for, `Printed` with its
-///   printed form, with an accepted ANSWER's text in a version, or with the generated input of a kind, a size and a seed.
+/// - `Refused` comes exactly where FILE was read whole and has a first fault, whose line and name are written; and, with line 0,
+///   where there is no room for the assumptions of `core` and `check-with`, or where `best` and `ask` can't ask for a bound of
+///   the predicate.
+/// - With `solve`, `Satisfiable` comes only with the text of a satisfying model, `Unsatisfiable` only with that of a justified
+///   refutation, `Unknown` only with that of justified progress: exactly as many nonempty learned clauses as the budget, each
+///   new, and only where the budget is below 3^V, V being the number of variables. So it is of `team`, whose `Unknown` comes
+///   with the board of all rounds.
 /// - `gen` with `--solve` ends as `solve` does on the generated input, with the six lines of its summary. The last one is
 ///   the checker's verdict on the answer; with `Unknown` the progress follows.
+/// - With `core`, `Satisfiable` comes only with a model under all assumptions, `Unsatisfiable` only with a core of them, what
+///   was found of each literal of it and a refutation under it, `Unknown` only with progress under all of them.
+/// - With `best`, `Satisfiable` comes only with the best bound, values that meet it and a refutation of the next one, or with
+///   values whose flow is beyond every bound; `Unsatisfiable` only with a refutation of the weakest bound; `Unknown` only with
+///   the bound on which the budget was spent, and progress.
+/// - `Accepted` and `Rejected` come by the verdict on ANSWER for the problem that FILE stands for, with `check-with` for
+///   that problem under the assumptions. `Printed` comes with the problem's printed form, with that of the one that asks for a
+///   bound, with an accepted ANSWER's text in a version, or with the generated input of a kind, a size and a seed.
 /// - `ReadFault` comes only where exactly one call of the shelf failed, at FILE, or at ANSWER where FILE has no fault. Over a
 ///   steady shelf it comes only for a file that the shelf lacks.
 /// - `TooLong` comes only for a file with more bytes than its limit: the shelf's place is limit + 1 then.
 /// - `WriteFault` comes only where exactly one write failed; a prefix of the text that was due was written.
 /// - With `Memory` nothing was written, no call of the shelf or the sink had failed, and of the file that was begun last no
 ///   byte beyond its limit was read. It never comes in place of `Words`, `ReadFault`, `TooLong` or `Printed`, nor of an
-///   accepted model or refutation: those texts take no memory.
+///   accepted model or refutation or a bound that is refused: those texts take no memory.
 pub fn run<S: Shelf, K: Sink>(alloc: Global, words: &[String], shelf: &mut S, out: &mut K) -> Status
     // The run comes to an ending in the order above, and writes its text.
     ensures runs { Runs (command_of (map string_bytes words.now)) (S.seen shelf.old) (S.seen shelf.new) result (K.written out.old) (K.written out.new) }
@@ -179,6 +187,7 @@ fn ending_of<S: Shelf>(alloc: Global, words: &[String], shelf: &mut S) -> Ending
     }
 }
 
+/// What the command of the words comes to. Where a step ends the run, its ending is the error.
 fn carry_out<S: Shelf>(alloc: Global, words: &[String], shelf: &mut S) -> Result<Ending, Ending>
     ensures { let ends = Ends (command_of (map string_bytes words.now)) (S.seen shelf.old) (S.seen shelf.new) in MatchResult result ends ends }
 {

@@ -6,21 +6,21 @@ ghost use Rattle.mono_cmd.specs.Statuses.{code_of};
 /// How a run ends. Each status has a number of its own kind that the process ends with.
 #[derive(Clone, Copy, Debug, PartialEq, Eq)]
 pub enum Status {
-    /// The text is a satisfying model.
+    /// A satisfying model was found.
     Satisfiable,
-    /// The text is a justified refutation.
+    /// A justified refutation was found.
     Unsatisfiable,
-    /// The budget was spent: the text is justified progress.
+    /// The budget, or all rounds of a team, were spent on justified progress.
     Unknown,
     /// The answer is a satisfying model, a justified refutation or justified progress.
     Accepted,
-    /// The input was printed.
+    /// The input, one that asks for a bound, a generated one or a migrated answer was printed.
     Printed,
     /// The answer isn't accepted.
     Rejected,
     /// The words are no command.
     Words,
-    /// The input has a first fault.
+    /// The input has a first fault, or the assumptions or the bound can't be asked of it.
     Refused,
     /// A file could not be read.
     ReadFault,

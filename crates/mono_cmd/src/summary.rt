@@ -102,6 +102,7 @@ fn push_size(alloc: Global, out: &mut Vec<u8>, word: &str, size: u32) -> Result<
     Ok(())
 }
 
+/// The word that the fifth line says of an answer.
 fn result_word(answer: &Answer) -> &'static [u8]
     ensures { result.now ≡ word_of answer.now }
 {

@@ -71,6 +71,7 @@ fn is_file_name(word: &str) -> bool
     }
 }
 
+/// The name of a file, as the word spells it.
 fn name(alloc: Global, word: &str) -> Result<Name, AllocError>
     ensures { IfOk result (λ name. name ≡ word.now) }
 {

@@ -7,15 +7,20 @@ ghost use Rattle.mono_gnf.specs.declared.refusal.GnfRefusal.TheVariants as form;
 ghost use Rattle.mono_answer.specs.declared.answer.Answer.TheVariants as answer;
 ghost use Rattle.mono_gen.specs.declared.kind.GenKind.TheVariants as kind;
 ghost use Rattle.mono_check.specs.declared.reason.Reason.TheVariants as reason;
+ghost use Rattle.mono_check.specs.declared.refusal.CheckRefusal.TheVariants as judging;
 ghost use Rattle.mono_check.specs.declared.verdict.Verdict.TheVariants as verdict;
+ghost use Rattle.mono_problem.specs.Instance.{Instance};
+ghost use Rattle.mono_core.specs.Worked.{one_clause};
+ghost use Rattle.mono_best.specs.Worked.{weighed};
 ghost use Rattle.mono_cmd.specs.declared.command.Command.TheVariants as command;
 ghost use Rattle.mono_cmd.specs.declared.status.Status.TheVariants as status;
 ghost use Rattle.mono_cmd.specs.declared.ending.Ending.TheVariants as ending;
 ghost use Rattle.mono_answer.specs.declared.version.Version.TheVariants as version;
 ghost use Rattle.mono_cmd.specs.Commands.{command_of, files_of};
 ghost use Rattle.mono_cmd.specs.Statuses.{code_of};
-ghost use Rattle.mono_cmd.specs.Endings.{status_of, text_of, progress_text, unread_ending, refused_ending};
-ghost use Rattle.mono_cmd.specs.Runs.{Writes, CheckWrote, IsHeld, IsHeldWithin, HasNoFault, EachReached, IsCarriedOut, AreAlike, begun_for};
+ghost use Rattle.mono_cmd.specs.Endings.{status_of, text_of, progress_text, unread_ending, unjudged_ending, refused_ending};
+ghost use Rattle.mono_cmd.specs.Runs.{Writes, CheckWrote, IsHeld, IsHeldWithin, HasNoFault, EachReached, IsCarriedOut, AreAlike, Solves, SolvesGenerated, begun_for, summary_of};
+ghost use Rattle.mono_cmd.specs.Teams.{PlaysTeam};
 ghost use Rattle.mono_cmd.specs.Worked.{empty_problem};
 
 /// Words, and the files that they name.
@@ -104,6 +109,21 @@ pub fn worked_commands()
     ensures two_begun { begun_for (codes "f" ∷ codes "a" ∷ []) 3 ≡ 5 }
 {}
 
+/// Options and names of files where no other row has them, and the least and the greatest numbers.
+pub fn worked_words()
+    ensures conflicts_of_another { command_of (codes "print" ∷ codes "f" ∷ codes "--conflicts" ∷ codes "1" ∷ []) ≡ None }
+    ensures conflicts_with_dash { command_of (codes "solve" ∷ codes "-f" ∷ codes "--conflicts" ∷ codes "1" ∷ []) ≡ None }
+    ensures migrate_with_dash { command_of (codes "migrate" ∷ codes "-f" ∷ codes "a" ∷ codes "2" ∷ []) ≡ None }
+    ensures best_with_dash { command_of (codes "best" ∷ codes "-f" ∷ codes "1" ∷ []) ≡ None }
+    ensures ask_with_dash { command_of (codes "ask" ∷ codes "-f" ∷ codes "1" ∷ codes "1" ∷ []) ≡ None }
+    ensures solve_of_another { command_of (codes "print" ∷ codes "grid" ∷ codes "10" ∷ codes "7" ∷ codes "--solve" ∷ []) ≡ None }
+    ensures least_size { command_of (codes "gen" ∷ codes "grid" ∷ codes "2" ∷ codes "7" ∷ []) ≡ Some (command.Gen kind.Grid 2 7 false) }
+    ensures greatest_seed { command_of (codes "gen" ∷ codes "grid" ∷ codes "10" ∷ codes "18446744073709551615" ∷ [])
+        ≡ Some (command.Gen kind.Grid 10 18446744073709551615 false) }
+    ensures seed_beyond { command_of (codes "gen" ∷ codes "grid" ∷ codes "10" ∷ codes "18446744073709551616" ∷ []) ≡ None }
+    ensures one_worker { command_of (codes "team" ∷ codes "f" ∷ codes "1" ∷ codes "1" ∷ []) ≡ Some (command.Team (codes "f") 1 1) }
+{}
+
 /// Each status has its number.
 pub fn worked_statuses()
     ensures satisfiable { code_of status.Satisfiable ≡ 10 }
@@ -139,6 +159,9 @@ pub fn worked_endings()
     ensures not_read { unread_ending reading.Fault ≡ ending.ReadFault }
     ensures not_found { unread_ending reading.Memory ≡ ending.Memory }
     ensures beyond { unread_ending reading.TooLong ≡ ending.TooLong }
+    ensures answer_not_read { unjudged_ending judging.Fault ≡ ending.ReadFault }
+    ensures answer_not_found { unjudged_ending judging.Memory ≡ ending.Memory }
+    ensures answer_beyond { unjudged_ending judging.TooLong ≡ ending.TooLong }
     ensures out_of_memory { refused_ending form.Memory ≡ ending.Memory }
     ensures at_line { refused_ending (form.At 3 fault.UnknownWord) ≡ ending.Refused 3 fault.UnknownWord }
 {}
@@ -157,6 +180,7 @@ pub fn worked_texts()
     ensures progress { text_of (ending.Judged (verdict.Progress 12)) ≡ codes "accepted progress 12\n" }
     ensures rejected { text_of (ending.Judged (verdict.Rejected 2 reason.BadLine)) ≡ codes "rejected 2 BadLine\n" }
     ensures clause_false { text_of (ending.Judged (verdict.Rejected 2 (reason.ClauseFalse 5))) ≡ codes "rejected 2 ClauseFalse 5\n" }
+    ensures atom_wrong { text_of (ending.Judged (verdict.Rejected 2 (reason.AtomWrong 5))) ≡ codes "rejected 2 AtomWrong 5\n" }
     ensures printed { text_of (ending.Printed (codes "p gnf 0 0\n")) ≡ codes "p gnf 0 0\n" }
     ensures summary { text_of (ending.Summed (record {
       vars = 9;
@@ -168,6 +192,16 @@ pub fn worked_texts()
       verdict = verdict.Refutation;
     }))
         ≡ codes "variables 9\nclauses 3\nedges 8\npredicates 1\nresult unsatisfiable\nverdict accepted refutation\n" }
+    ensures summary_of_a_model { text_of (ending.Summed (record {
+      vars = 1;
+      clauses = 0;
+      edges = 2;
+      predicates = 0;
+      answer = answer.Model (true ∷ []);
+      progress = progress_text (answer.Model (true ∷ []));
+      verdict = verdict.Model;
+    }))
+        ≡ codes "variables 1\nclauses 0\nedges 2\npredicates 0\nresult satisfiable\nverdict accepted model\n" }
     ensures summary_of_progress { text_of (ending.Summed (record {
       vars = 9;
       clauses = 3;
@@ -178,6 +212,8 @@ pub fn worked_texts()
       verdict = verdict.Progress 0;
     }))
         ≡ codes "variables 9\nclauses 3\nedges 8\npredicates 1\nresult unknown\nverdict accepted progress 0\ns UNKNOWN\n" }
+    ensures sizes_of_a_problem { summary_of (weighed ([] ∷ [] ∷ [] ∷ [])) (codes "unknown") (codes "accepted progress 0\n")
+        ≡ codes "variables 5\nclauses 3\nedges 2\npredicates 1\nresult unknown\nverdict accepted progress 0\n" }
 {}
 
 /// The text is written whole, a prefix of it where a write failed, and nothing where memory was wanting.
@@ -238,4 +274,17 @@ pub fn worked_needs()
         (command.Check (codes "f") (codes "a")) }
     ensures both { EachReached (IsHeld (Some ((codes "f", codes "") ∷ (codes "a", codes "") ∷ []))) (Some ((codes "f", codes "")
         ∷ (codes "a", codes "") ∷ [])) (command.Check (codes "f") (codes "a")) }
+{}
+
+/// What a run shows is said of its command, and of the problem that its FILE stands for where that is told.
+pub fn worked_told()
+    ensures solve { Solves (Some (command.Solve (codes "f") 7)) (Some ((codes "f", codes "") ∷ [])) empty_problem 7 }
+    ensures other_budget { ¬ Solves (Some (command.Solve (codes "f") 7)) (Some ((codes "f", codes "") ∷ [])) empty_problem 8 }
+    ensures other_command { ¬ Solves (Some (command.Print (codes "f"))) (Some ((codes "f", codes "") ∷ [])) empty_problem 7 }
+    ensures other_problem { ¬ Solves (Some (command.Solve (codes "f") 7)) (Some ((codes "f", codes "") ∷ [])) one_clause 7 }
+    ensures untold { ¬ Solves (Some (command.Solve (codes "f") 7)) None empty_problem 7 }
+    ensures missing { ¬ Solves (Some (command.Solve (codes "f") 7)) (Some []) empty_problem 7 }
+    ensures team { PlaysTeam (Some (command.Team (codes "f") 2 3)) (Some ((codes "f", codes "") ∷ [])) empty_problem 2 3 }
+    ensures exchanged { ¬ PlaysTeam (Some (command.Team (codes "f") 2 3)) (Some ((codes "f", codes "") ∷ [])) empty_problem 3 2 }
+    ensures not_solved { (p : Instance) → ¬ SolvesGenerated (Some (command.Gen kind.Wall 2 7 false)) p }
 {}

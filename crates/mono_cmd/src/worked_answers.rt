@@ -1,10 +1,11 @@
 //! Worked rows: what `solve` may answer, and what it may not.
 
-ghost use Rattle.std.specs.Prelude.{[], ◌∷◌, true, false};
+ghost use Rattle.std.specs.Prelude.{◌≡◌, [], ◌∷◌, true, false};
 ghost use Rattle.mono_answer.specs.declared.answer.Answer.TheVariants as answer;
+ghost use Rattle.mono_check.specs.declared.verdict.Verdict.TheVariants as verdict;
 ghost use Rattle.mono_steps.specs.WorkedLemmas.{barred, with_two_lemmas, with_one_lemma};
 ghost use Rattle.mono_search.specs.Worked.{two_clauses, first_learned};
-ghost use Rattle.mono_cmd.specs.Solved.{IsAnswer};
+ghost use Rattle.mono_cmd.specs.Solved.{IsAnswer, verdict_of};
 
 /// Progress has as many learned clauses as the budget says, no fewer and no more.
 pub fn worked_progress()
@@ -24,4 +25,11 @@ pub fn worked_refutation()
 pub fn worked_model()
     ensures model { IsAnswer two_clauses 1 (answer.Model (true ∷ false ∷ [])) }
     ensures false_clause { IsAnswer two_clauses 1 (answer.Model (false ∷ true ∷ [])) → ⊥ }
+{}
+
+/// The verdict of `check` on the text of what `solve` answers.
+pub fn worked_verdicts()
+    ensures model_accepted { verdict_of (answer.Model (true ∷ [])) ≡ verdict.Model }
+    ensures refutation_accepted { verdict_of (answer.Refutation with_one_lemma) ≡ verdict.Refutation }
+    ensures learned_clauses_count { verdict_of (answer.Progress first_learned) ≡ verdict.Progress 1 }
 {}

@@ -67,6 +67,8 @@ pub fn worked_narrowings()
     ensures judged_under_all { judged_under (pos 1 ∷ pos 2 ∷ []) (outcome.Unknown []) ≡ pos 1 ∷ pos 2 ∷ [] }
     ensures judged_under_the_core { judged_under (pos 1 ∷ pos 2 ∷ []) (outcome.Core (pos 2 ∷ []) [] []) ≡ pos 2 ∷ [] }
     ensures learned_clauses_count { outcome_verdict (outcome.Unknown first_learned) ≡ verdict.Progress 1 }
+    ensures model_accepted { outcome_verdict (outcome.Model (true ∷ [])) ≡ verdict.Model }
+    ensures core_refuted { outcome_verdict (outcome.Core [] [] []) ≡ verdict.Refutation }
 
     ensures core_refused { IsCarriedOut (command.Core (codes "f") (pos 1 ∷ [])) status.Refused }
     ensures core_unknown { IsCarriedOut (command.Core (codes "f") (pos 1 ∷ [])) status.Unknown }

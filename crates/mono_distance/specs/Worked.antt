@@ -59,6 +59,17 @@ rows_with looked labels = side.Rows (record {
   due = [];
 })
 
+-- the same two rows, of two atoms: they ask for node 1 within 7, and for node 0 within 4
+abbrev pub labels_with : List ℕ → SureLabels
+labels_with labels = record {
+  rows = record { rows = row_of_labels (3 ∷ 3 ∷ []) ∷ row_of_labels labels ∷ []; row_of = 1 ∷ 1 ∷ []; lasts = 1 ∷ 0 ∷ [] };
+  limits = limit.Weight (pos 7) ∷ limit.Weight (pos 4) ∷ [];
+}
+
+-- rows from nodes 1 and 0, with labels up to 9
+abbrev pub rows_up_to_9 : List Costs
+rows_up_to_9 = row_of_labels (9 ∷ 0 ∷ []) ∷ row_of_labels (0 ∷ 9 ∷ []) ∷ []
+
 -- what searches found of it with the surely present edges
 abbrev pub searched : Stage → EitherSide SureLabels
 searched at = side.Searches (record (showing at None) { possible = false })

@@ -9,7 +9,7 @@ ghost use Rattle.mono_problem.specs.declared.atom.Atom.{Atom};
 ghost use Rattle.mono_theory.specs.Evidences.{Decides};
 ghost use Rattle.mono_theory.specs.Frames.{AreAtomsOf};
 ghost use Rattle.mono_theory.specs.Supports.{AreCovered, facts_in};
-ghost use Rattle.mono_theory.specs.Theories.{atom_of};
+ghost use Rattle.mono_theory.specs.Theories.{ForceIs, atom_of};
 ghost use Rattle.mono_theory.specs.EitherSides.{IsEitherKept};
 ghost use Rattle.mono_distance.specs.Distances.{is_distance};
 ghost use Rattle.mono_distance.specs.Readings.{AreBothDecided, DistanceView, labels_in, IsPossiblyRight, IsRightSide};
@@ -38,7 +38,9 @@ pub fn labels_stay_while_literals_come()
 /// Asks what is forced. Where the answer is Quiet, what is kept decides each predicate, with the surely present edges and with
 /// the possibly present ones.
 pub fn quiet_decides(theory: &mut DistanceTheory) -> Result<Force, AllocError>
-    ensures { IfOk result (λ answer. answer ≡ Force.Quiet → AreBothDecided theory.new) }
+    ensures same { facts_in theory.new ≡ facts_in theory.old }
+    ensures answer { IfOk result (ForceIs theory.old.graph theory.old.atoms theory.old.seen) }
+    ensures decided { IfOk result (λ answer. answer ≡ Force.Quiet → AreBothDecided theory.new) }
 {
     let answer = theory.force()?;
     Ok(answer)

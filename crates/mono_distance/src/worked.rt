@@ -7,8 +7,9 @@ ghost use Rattle.mono_problem.specs.declared.atom.Predicate.TheVariants as kind;
 ghost use Rattle.mono_steps.specs.declared.lemma.Witness.TheVariants as by;
 ghost use Rattle.mono_theory.specs.declared.stage.Stage.TheVariants as stage;
 ghost use Rattle.mono_distance.specs.Readings.{AreBothDecided, IsLeast, IsReached, labels_in};
+ghost use Rattle.mono_distance.specs.SureLabels.{shows_last, IsRowFor};
 ghost use Rattle.mono_theory.specs.PossibleRows.{AreTargetsOf};
-ghost use Rattle.mono_distance.specs.Worked.{along_the_edge, facts_with, keeping, labelled, possibly, rows_with, searched, to_node_1, tree_rows, tree_view, trees_with, ways_from, within_7};
+ghost use Rattle.mono_distance.specs.Worked.{along_the_edge, facts_with, keeping, labelled, labels_with, possibly, rows_up_to_9, rows_with, searched, to_node_1, tree_rows, tree_view, trees_with, ways_from, within_7};
 
 /// Where a node has a label with the surely present edges, some walk costs at most so much, and the label is within the bound.
 pub fn nodes_reached()
@@ -47,6 +48,25 @@ pub fn labels_with_surely_present_edges()
     ensures found_elsewhere { (labels_in (keeping within_7 (searched (stage.Forcing 1)) (labelled [])) 4 0).under ≡ None }
     ensures stands { (labels_in (keeping within_7 (searched stage.Supported) (labelled [])) 4 1).under ≡ None }
     ensures waits { (labels_in (keeping within_7 (searched stage.Waits) (labelled [])) 4 1).under ≡ None }
+{}
+
+/// Rows show an atom where the label of its own last node is within its own limit.
+pub fn atoms_shown_by_rows()
+    ensures below { shows_last (labels_with (5 ∷ 6 ∷ [])) 0 ≡ true }
+    ensures at_the_bound { shows_last (labels_with (5 ∷ 7 ∷ [])) 0 ≡ true }
+    ensures beyond { shows_last (labels_with (0 ∷ 8 ∷ [])) 0 ≡ false }
+    ensures of_the_second_at_the_bound { shows_last (labels_with (4 ∷ 8 ∷ [])) 1 ≡ true }
+    ensures of_the_second_beyond { shows_last (labels_with (5 ∷ 0 ∷ [])) 1 ≡ false }
+{}
+
+/// A row serves a predicate where it is from its first node, by its measure, and has labels beyond its bound.
+pub fn rows_of_predicates()
+    ensures its { IsRowFor (1 ∷ 0 ∷ []) rows_up_to_9 1 within_7 }
+    ensures just_beyond { IsRowFor (1 ∷ 0 ∷ []) rows_up_to_9 1 (kind.Distance 0 1 (pos 8)) }
+    ensures up_to_the_bound { IsRowFor (1 ∷ 0 ∷ []) rows_up_to_9 1 (kind.Distance 0 1 (pos 9)) → ⊥ }
+    ensures of_steps { IsRowFor (1 ∷ 0 ∷ []) rows_up_to_9 1 (kind.Steps 0 1 (pos 7)) → ⊥ }
+    ensures from_another_node { IsRowFor (1 ∷ 0 ∷ []) rows_up_to_9 0 within_7 → ⊥ }
+    ensures no_row { IsRowFor (1 ∷ 0 ∷ 0 ∷ []) rows_up_to_9 2 within_7 → ⊥ }
 {}
 
 /// With the possibly present edges the label is that of the list that was shown, up to one more than the bound, and 0 while

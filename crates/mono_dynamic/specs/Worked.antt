@@ -1,9 +1,11 @@
 -- Arrivals, targets, and parts that grow or shrink for the worked rows.
 use Rattle.std.specs.Prelude.{ℕ, zero, suc, Bool, pos, List, [], ◌∷◌, Option}
+use Rattle.mono_graph.specs.declared.limit.Limit.{Limit}
 use Rattle.mono_graph.specs.declared.limit.Limit.TheVariants as limit
 use Rattle.mono_graph.specs.Worked.{both, first_alone, last_alone, neither}
 use Rattle.mono_dynamic.specs.declared.arrival.Arrival.{Arrival}
 use Rattle.mono_dynamic.specs.declared.change.Change.{Change}
+use Rattle.mono_dynamic.specs.declared.cost_source.CostSource.{CostSource}
 use Rattle.mono_dynamic.specs.declared.walk_target.WalkTarget.{WalkTarget}
 use Rattle.mono_dynamic.specs.Arrivals.{at_source}
 use Rattle.mono_dynamic.specs.Costs.{Costs}
@@ -40,6 +42,10 @@ lowered_by cs = record { limit = limit.Weight (pos 9); cap = 10; labels = 0 ∷ 
 -- by the dearer edge in the first step, and by the cheaper one in the second
 abbrev pub lowered_twice : Costs
 lowered_twice = lowered_by (change 1 1 0 10 4 1 ∷ change 1 0 1 4 1 2 ∷ [])
+
+-- walks from a node that are measured so, up to a cap
+abbrev pub walks_from : ℕ → Limit → ℕ → CostSource
+walks_from u l cap = record { node = u; limit = l; cap = cap }
 
 -- both of two edges, until the first of them goes with the first step
 abbrev pub first_goes : ℕ → List Bool

@@ -2,12 +2,15 @@
 
 ghost use Rattle.std.specs.Prelude.{◌≡◌, ◌∷◌, [], ℕ, pos, true, false, None, Some};
 ghost use Rattle.mono_graph.specs.Worked.{pipe, parallel, round_trip, looped, both, first_alone, last_alone, neither};
-ghost use Rattle.mono_dynamic.specs.Arrivals.{at_source, is_reached, is_by, within, AreReached, AreReachedAlong};
-ghost use Rattle.mono_dynamic.specs.Costs.{AreLeast, AreLeastAlong, labels_after};
+ghost use Rattle.mono_dynamic.specs.Arrivals.{after, at_source, is_reached, is_by, within, AreReached, AreReachedAlong};
+ghost use Rattle.mono_dynamic.specs.Costs.{AreLeast, AreLeastAlong, labels_after, made_by};
+ghost use Rattle.mono_dynamic.specs.LeastRows.{cost_slot, costs_back, costs_from};
+ghost use Rattle.mono_dynamic.specs.Rows.{alone, back_to};
 ghost use Rattle.mono_dynamic.specs.SearchTrees.{IsSearchTree, RestsOn};
-ghost use Rattle.mono_dynamic.specs.Targets.{is_lacking, is_settled, AreTold};
-ghost use Rattle.mono_dynamic.specs.Ways.{AreWaysTo, IsTargetOf};
-ghost use Rattle.mono_dynamic.specs.Worked.{arrival, one_by_one, at_once, change, first_goes, known_by, last_first, lowered_by, lowered_twice, with_way, within_weight, without_way};
+ghost use Rattle.mono_dynamic.specs.Sources.{AreApart};
+ghost use Rattle.mono_dynamic.specs.Targets.{is_lacking, is_settled, unsearched, AreTold};
+ghost use Rattle.mono_dynamic.specs.Ways.{first_ways, AreWaysTo, IsTargetOf};
+ghost use Rattle.mono_dynamic.specs.Worked.{arrival, one_by_one, at_once, change, first_goes, known_by, last_first, lowered_by, lowered_twice, walks_from, with_way, within_weight, without_way};
 
 use mono_graph::Limit;
 
@@ -51,6 +54,13 @@ pub fn arrivals_up_to_a_stamp()
     ensures never { (n : ℕ) → is_by None n ≡ false }
     ensures before { is_by (Some 2) 1 ≡ false }
     ensures at { is_by (Some 2) 2 ≡ true }
+{}
+
+/// The arrivals of later steps are those that going back takes away, at 0 all but the source, and at the last number none.
+pub fn arrivals_beyond_a_stamp()
+    ensures all { after 0 (at_source 0 ∷ arrival 1 0 0 1 ∷ arrival 2 1 1 2 ∷ []) ≡ arrival 1 0 0 1 ∷ arrival 2 1 1 2 ∷ [] }
+    ensures some { after 1 (at_source 0 ∷ arrival 1 0 0 1 ∷ arrival 2 1 1 2 ∷ []) ≡ arrival 2 1 1 2 ∷ [] }
+    ensures none { after 2 (at_source 0 ∷ arrival 1 0 0 1 ∷ arrival 2 1 1 2 ∷ []) ≡ [] }
 {}
 
 /// A search tree has the ways to all targets that are reached, and nothing else.
@@ -137,4 +147,58 @@ pub fn least_costs_step_by_step()
     ensures after_none { labels_after 0 lowered_twice ≡ 0 ∷ 10 ∷ [] }
     ensures after_one { labels_after 1 lowered_twice ≡ 0 ∷ 4 ∷ [] }
     ensures after_both { labels_after 2 lowered_twice ≡ 0 ∷ 1 ∷ [] }
+{}
+
+/// Going back keeps the changes of the first steps, at 0 none, and at the last number all.
+pub fn changes_up_to_a_stamp()
+    ensures none { made_by 0 lowered_twice.changes ≡ [] }
+    ensures some { made_by 1 lowered_twice.changes ≡ change 1 1 0 10 4 1 ∷ [] }
+    ensures all { made_by 2 lowered_twice.changes ≡ change 1 1 0 10 4 1 ∷ change 1 0 1 4 1 2 ∷ [] }
+{}
+
+/// A node has three slots, one for each measure, whatever the bound and the cap.
+pub fn slots_of_sources()
+    ensures free { cost_slot (walks_from 0 Limit.Free 1) ≡ 0 }
+    ensures steps { cost_slot (walks_from 0 (Limit.Steps (pos 5)) 6) ≡ 1 }
+    ensures weight { cost_slot (walks_from 0 (Limit.Weight (pos 5)) 6) ≡ 2 }
+    ensures next_node { cost_slot (walks_from 1 Limit.Free 1) ≡ 3 }
+    ensures last { cost_slot (walks_from 2 (Limit.Weight (pos 7)) 9) ≡ 8 }
+{}
+
+/// Sources are apart where no two have one node and one measure. Bounds and caps don't tell them apart.
+pub fn sources_apart()
+    ensures alone { AreApart cost_slot (walks_from 0 Limit.Free 1 ∷ []) }
+    ensures by_node { AreApart cost_slot (walks_from 0 Limit.Free 1 ∷ walks_from 1 Limit.Free 1 ∷ []) }
+    ensures by_measure { AreApart cost_slot (walks_from 0 (Limit.Steps (pos 5)) 6 ∷ walks_from 0 (Limit.Weight (pos 5)) 6 ∷ []) }
+    ensures by_bound_alone { AreApart cost_slot (walks_from 0 (Limit.Steps (pos 5)) 6 ∷ walks_from 0 (Limit.Steps (pos 7)) 8 ∷ []) → ⊥ }
+    ensures twice { AreApart cost_slot (walks_from 1 Limit.Free 1 ∷ walks_from 0 Limit.Free 1 ∷ walks_from 1 Limit.Free 1 ∷ []) → ⊥ }
+{}
+
+/// Before any step the source has the label 0, and each other node the cap.
+pub fn costs_at_first()
+    ensures first { costs_from 3 (walks_from 0 (Limit.Weight (pos 9)) 10)
+        ≡ record { limit = Limit.Weight (pos 9); cap = 10; labels = 0 ∷ 10 ∷ 10 ∷ []; changes = [] } }
+    ensures last { costs_from 3 (walks_from 2 (Limit.Steps (pos 4)) 5)
+        ≡ record { limit = Limit.Steps (pos 4); cap = 5; labels = 5 ∷ 5 ∷ 0 ∷ []; changes = [] } }
+    ensures lone { costs_from 1 (walks_from 0 Limit.Free 1) ≡ record { limit = Limit.Free; cap = 1; labels = 0 ∷ []; changes = [] } }
+{}
+
+/// A row that goes back has what was there after so many steps.
+pub fn rows_that_go_back()
+    ensures reached { back_to 1 (record { nodes = 3; source = 0; arrivals = at_source 0 ∷ arrival 1 0 0 1 ∷ arrival 2 1 1 2 ∷ [] })
+        ≡ record { nodes = 3; source = 0; arrivals = at_source 0 ∷ arrival 1 0 0 1 ∷ [] } }
+    ensures costs { costs_back 1 lowered_twice
+        ≡ record { limit = Limit.Weight (pos 9); cap = 10; labels = 0 ∷ 4 ∷ []; changes = change 1 1 0 10 4 1 ∷ [] } }
+{}
+
+/// Before any search the tree is the source alone, and nothing is known of what it lacks. Where walks cost nothing no node has a
+/// label, and the cap is 1.
+pub fn ways_at_first()
+    ensures free { first_ways 2 (walks_from 1 Limit.Free 1) ≡ record { limit = Limit.Free; cap = 1; tree = alone 2 1; labels = [] } }
+    ensures in_steps { first_ways 2 (walks_from 1 (Limit.Steps (pos 4)) 5)
+        ≡ record { limit = Limit.Steps (pos 4); cap = 5; tree = alone 2 1; labels = 5 ∷ 0 ∷ [] } }
+    ensures by_weight { first_ways 2 (walks_from 0 (Limit.Weight (pos 9)) 10)
+        ≡ record { limit = Limit.Weight (pos 9); cap = 10; tree = record { nodes = 2; source = 0; arrivals = at_source 0 ∷ [] }; labels = 0 ∷ 10 ∷ [] } }
+    ensures unsearched { unsearched 2 (walks_from 1 Limit.Free 1)
+        ≡ record { ways = first_ways 2 (walks_from 1 Limit.Free 1); targets = []; since = None; lost = None } }
 {}

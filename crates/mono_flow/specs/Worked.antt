@@ -1,5 +1,5 @@
 -- Small sides of flows for the worked rows.
-use Rattle.std.specs.Prelude.{true, false, pos, List, [], ◌∷◌, Some}
+use Rattle.std.specs.Prelude.{true, false, pos, List, [], ◌∷◌, None, Some}
 use Rattle.mono_graph.specs.declared.amount.Amount.{Amount}
 use Rattle.mono_graph.specs.Worked.{edge, single}
 use Rattle.mono_problem.specs.declared.atom.Predicate.TheVariants as kind
@@ -42,4 +42,19 @@ keeping surely possibly = record {
   seen = [];
   surely = record surely { possible = false };
   possibly = record possibly { possible = true };
+}
+
+-- an atom that waits, and of which nothing is kept, stands before those of the side
+abbrev pub behind_another : SideView → SideView
+behind_another side = record side {
+  supports = None ∷ side.supports;
+  shown = None ∷ side.shown;
+  watchers = [] ∷ side.watchers;
+  stages = stage.Waits ∷ side.stages;
+}
+
+-- what a theory over one edge keeps of two atoms with the numbers 2 and 4: of the second one each on its own side
+abbrev pub keeping_second : SideView → SideView → GraphTheoryView SideView SideView
+keeping_second surely possibly = record (keeping (behind_another surely) (behind_another possibly)) {
+  atoms = record { number = 2; graph = 0; var = 2; predicate = kind.Flow 0 1 (pos 5) } ∷ (keeping surely possibly).atoms;
 }

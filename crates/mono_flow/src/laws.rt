@@ -5,8 +5,8 @@ ghost use Rattle.mono_graph.specs.Digraph.{Digraph, IsGraph};
 ghost use Rattle.mono_problem.specs.Quiet.{under, over};
 ghost use Rattle.mono_theory.specs.Frames.{AreAtomsOf};
 ghost use Rattle.mono_theory.specs.Stages.{NoneWaits};
-ghost use Rattle.mono_theory.specs.Supports.{AreCovered, IsKeptBy, IsSide, IsSideFor, SideView, atom_at, gone_back};
-ghost use Rattle.mono_theory.specs.Theories.{Facts};
+ghost use Rattle.mono_theory.specs.Supports.{AreCovered, IsKeptBy, IsSide, IsSideFor, SideView, atom_at, facts_in, gone_back};
+ghost use Rattle.mono_theory.specs.Theories.{Facts, ForceIs};
 ghost use Rattle.mono_flow.specs.Flowing.{is_flow_predicate};
 ghost use Rattle.mono_flow.specs.KeptFlows.{AreBothDecided, IsDecidedBy, LosesFlow, carried_at, over_flow, under_flow};
 
@@ -37,7 +37,9 @@ pub fn kept_flows_stay()
 /// Asks what is forced. Where the answer is Quiet, what is kept decides each predicate, with the surely present edges and with
 /// the possibly present ones.
 pub fn quiet_decides(theory: &mut FlowTheory) -> Result<Force, AllocError>
-    ensures { IfOk result (λ answer. answer ≡ Force.Quiet → AreBothDecided theory.new) }
+    ensures same { facts_in theory.new ≡ facts_in theory.old }
+    ensures answer { IfOk result (ForceIs theory.old.graph theory.old.atoms theory.old.seen) }
+    ensures decided { IfOk result (λ answer. answer ≡ Force.Quiet → AreBothDecided theory.new) }
 {
     let answer = theory.force()?;
     Ok(answer)

@@ -6,7 +6,7 @@ ghost use Rattle.mono_problem.specs.declared.atom.Predicate.TheVariants as kind;
 ghost use Rattle.mono_steps.specs.WorkedLemmas.{minus};
 ghost use Rattle.mono_theory.specs.declared.stage.Stage.TheVariants as stage;
 ghost use Rattle.mono_flow.specs.KeptFlows.{AreBothDecided, IsDecidedBy, IsFlowFor, LosesFlow, flows_in};
-ghost use Rattle.mono_flow.specs.Worked.{at_stage, keeping, side_of, standing};
+ghost use Rattle.mono_flow.specs.Worked.{at_stage, keeping, keeping_second, side_of, standing};
 
 /// A flow keeps to the weights of present edges, whatever the predicate's bound is.
 pub fn flows_told()
@@ -50,6 +50,16 @@ pub fn flows_of_an_edge()
     ensures other_edge { flows_in (keeping (side_of (stage.Forcing 0) [] (amount 0 2 ∷ [])) (side_of stage.Supported (amount 0 3 ∷ []) [])) 4 0
         ≡ record { under = 0; over = 0 } }
     ensures other_atom { flows_in (keeping (side_of (stage.Forcing 0) [] (amount 1 2 ∷ [])) (side_of stage.Supported (amount 1 3 ∷ []) [])) 0 0
+        ≡ record { under = 0; over = 0 } }
+{}
+
+/// An atom stands at a place of its own among the atoms, whatever the place of the edge is.
+pub fn flows_of_two_atoms()
+    ensures second { flows_in (keeping_second (side_of (stage.Forcing 0) [] (amount 1 2 ∷ [])) (side_of stage.Supported (amount 1 3 ∷ []) [])) 4 0
+        ≡ record { under = 2; over = 3 } }
+    ensures first { flows_in (keeping_second (side_of (stage.Forcing 0) [] (amount 1 2 ∷ [])) (side_of stage.Supported (amount 1 3 ∷ []) [])) 2 0
+        ≡ record { under = 0; over = 0 } }
+    ensures no_edge { flows_in (keeping_second (side_of (stage.Forcing 0) [] (amount 1 2 ∷ [])) (side_of stage.Supported (amount 1 3 ∷ []) [])) 4 1
         ≡ record { under = 0; over = 0 } }
 {}
 

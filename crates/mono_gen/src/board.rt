@@ -72,7 +72,7 @@ impl Board {
     }
 }
 
-// The node in a row and a column, both from 0.
+/// The node in a row and a column, both from 0.
 fn node(size: u32, row: u32, column: u32) -> u32
     requires size { size ≤ 100 }
     requires row { row ≤ 100 }
@@ -82,7 +82,7 @@ fn node(size: u32, row: u32, column: u32) -> u32
     row * size + column
 }
 
-// Appends the edge, where it exists.
+/// Appends the edge, where it exists.
 fn push_where(
     edges: &mut Vec<(u32, u32)>,
     exists: bool,
@@ -97,7 +97,7 @@ fn push_where(
     Ok(())
 }
 
-// The edges of a node: right, down, left and up.
+/// The edges of a node: right, down, left and up.
 fn push_edges_from(
     edges: &mut Vec<(u32, u32)>,
     size: u32,
@@ -129,7 +129,7 @@ fn push_row(edges: &mut Vec<(u32, u32)>, size: u32, row: u32) -> Result<(), Allo
     Ok(())
 }
 
-// The edges of the board, row by row.
+/// The edges of the board, row by row.
 fn edges_of(alloc: Global, size: u32) -> Result<Vec<(u32, u32)>, AllocError>
     requires { size ≤ 100 }
     ensures { IfOk result (λ edges. edges.items ≡ edges_of size) }

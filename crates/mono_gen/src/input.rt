@@ -16,7 +16,7 @@ use rand_core::utils::NextWord;
 use rand_pcg::Lcg64Xsh32;
 use std::alloc::{AllocError, Global};
 
-// A draw below a number takes the generator's next word.
+/// A draw below a number takes the generator's next word.
 fn draw(words: &mut Lcg64Xsh32, below: u32) -> u32
     requires { 0 < below }
     ensures value { result ≡ draw below words.old }
@@ -34,7 +34,7 @@ fn push_board(out: &mut Vec<u8>, board: &Board) -> Result<(), AllocError>
     push_line(out, b"digraph int", &[nodes, edges, 0])
 }
 
-// A new text that begins with the header and the board.
+/// A new text that begins with the header and the board.
 fn head(alloc: Global, board: &Board, vars: u32, clauses: u32) -> Result<Vec<u8>, AllocError>
     ensures { IfOk result (λ text. text.items ≡ head_text board.now vars clauses) }
 {
@@ -44,7 +44,7 @@ fn head(alloc: Global, board: &Board, vars: u32, clauses: u32) -> Result<Vec<u8>
     Ok(out)
 }
 
-// The lines of the edges, whose weights are drawn in this order.
+/// The lines of the edges, whose weights are drawn in this order.
 fn push_edges(
     out: &mut Vec<u8>,
     edges: &[(u32, u32)],
@@ -71,7 +71,7 @@ fn push_edges(
     Ok(())
 }
 
-// A variable of one of the edges.
+/// A variable of one of the edges.
 fn draw_variable(words: &mut Lcg64Xsh32, edges: u32) -> Lit
     requires some { 0 < edges }
     requires few { edges ≤ MAX_VARS }
@@ -81,7 +81,7 @@ fn draw_variable(words: &mut Lcg64Xsh32, edges: u32) -> Lit
     Lit::of(1 + draw(words, edges), true)
 }
 
-// A variable of one of the edges, and its sign.
+/// A variable of one of the edges, and its sign.
 fn draw_literal(words: &mut Lcg64Xsh32, edges: u32) -> Lit
     requires some { 0 < edges }
     requires few { edges ≤ MAX_VARS }
@@ -131,7 +131,7 @@ fn push_drawn_clauses(
     Ok(())
 }
 
-// The walk from the first to the last node.
+/// The walk from the first to the last node.
 fn push_walk(out: &mut Vec<u8>, board: &Board) -> Result<(), AllocError>
     ensures { OnOk result (out.new.items ≡ out.old.items ++ walk_line board.now) }
 {
@@ -140,7 +140,7 @@ fn push_walk(out: &mut Vec<u8>, board: &Board) -> Result<(), AllocError>
     push_line(out, b"reach", &[0, 0, nodes - 1, edges + 1])
 }
 
-// The walk from the last column of the first row to the first column of the last.
+/// The walk from the last column of the first row to the first column of the last.
 fn push_cross_walk(out: &mut Vec<u8>, board: &Board) -> Result<(), AllocError>
     ensures { OnOk result (out.new.items ≡ out.old.items ++ cross_line board.now) }
 {
@@ -149,7 +149,7 @@ fn push_cross_walk(out: &mut Vec<u8>, board: &Board) -> Result<(), AllocError>
     push_line(out, b"reach", &[0, side - 1, side * side - side, edges + 2])
 }
 
-// The flow of 2 from the first to the last node.
+/// The flow of 2 from the first to the last node.
 fn push_flow(out: &mut Vec<u8>, board: &Board) -> Result<(), AllocError>
     ensures { OnOk result (out.new.items ≡ out.old.items ++ flow_line board.now) }
 {
@@ -158,7 +158,7 @@ fn push_flow(out: &mut Vec<u8>, board: &Board) -> Result<(), AllocError>
     push_line(out, b"maximum_flow_geq", &[0, 0, nodes - 1, edges + 3, 2])
 }
 
-// The clause of a predicate's variable.
+/// The clause of a predicate's variable.
 fn push_unit(out: &mut Vec<u8>, variable: u32) -> Result<(), AllocError>
     requires low { 0 < variable }
     requires high { variable ≤ MAX_VARS }
@@ -167,7 +167,7 @@ fn push_unit(out: &mut Vec<u8>, variable: u32) -> Result<(), AllocError>
     push_clause(out, &[Lit::of(variable, true)])
 }
 
-// The predicates of a grid.
+/// The predicates of a grid.
 fn push_predicates(out: &mut Vec<u8>, board: &Board) -> Result<(), AllocError>
     ensures { OnOk result (out.new.items ≡ out.old.items ++ walk_line board.now ++ cross_line board.now ++ flow_line board.now) }
 {
@@ -176,7 +176,7 @@ fn push_predicates(out: &mut Vec<u8>, board: &Board) -> Result<(), AllocError>
     push_flow(out, board)
 }
 
-// The clauses of the predicates of a grid.
+/// The clauses of the predicates of a grid.
 fn push_units(out: &mut Vec<u8>, edges: u32) -> Result<(), AllocError>
     requires { edges ≤ 39600 }
     ensures { OnOk result (out.new.items
@@ -201,7 +201,7 @@ fn grid(alloc: Global, board: &Board, words: &mut Lcg64Xsh32) -> Result<Vec<u8>,
     Ok(out)
 }
 
-// The clauses of the edges from a column to the next: each edge is absent.
+/// The clauses of the edges from a column to the next: each edge is absent.
 fn push_wall_clauses(
     out: &mut Vec<u8>,
     size: u32,
@@ -219,7 +219,7 @@ fn push_wall_clauses(
     Ok(())
 }
 
-// The clause of the edge at a place, if it leads from the column to the next.
+/// The clause of the edge at a place, if it leads from the column to the next.
 fn push_wall_clause(
     out: &mut Vec<u8>,
     size: u32,

@@ -3,8 +3,9 @@
 //! Each kind of line has a function that appends one such line. The order of lines is that of the printed form: the
 //! header, graphs, edges by their numbers, predicates, clauses.
 
-ghost use Rattle.std.specs.Prelude.{◌≡◌, ◌<◌, ◌≤◌, ◌++◌, IfOk, IfSome, OnOk, codes, length, map, flat_map};
+ghost use Rattle.std.specs.Prelude.{◌≡◌, ◌<◌, ◌≤◌, ◌++◌, IfOk, IfSome, OnOk, OnErr, codes, length, map, flat_map};
 ghost use Rattle.std.specs.Fmt.{signed_decimal};
+ghost use Rattle.std.specs.Io.{StartsWith};
 ghost use Rattle.mono_text.specs.Text.{spaced};
 ghost use Rattle.mono_graph.specs.Digraph.{IsGraph, place_of};
 ghost use Rattle.mono_problem.specs.declared.atom.Predicate.TheVariants as kind;
@@ -59,7 +60,7 @@ fn push_edge(out: &mut Vec<u8>, id: u32, edge: Edge) -> Result<(), AllocError>
     push_line(out, b"edge", &[u64::from(id), from, to, var, edge.weight])
 }
 
-// The place of the edge of a number, which is looked for first at the place `near`.
+/// The place of the edge of a number, which is looked for first at the place `near`.
 fn place_near(graph: &Graph, near: u32, number: u32) -> Option<u32>
     requires { IsGraph graph.now }
     ensures place { result ≡ place_of graph.now number }
@@ -72,7 +73,7 @@ fn place_near(graph: &Graph, near: u32, number: u32) -> Option<u32>
     graph.place(number)
 }
 
-// The line of the edge of a number. `next` has for each graph the place behind its last edge that was written.
+/// The line of the edge of a number. `next` has for each graph the place behind its last edge that was written.
 fn push_edge_numbered(
     out: &mut Vec<u8>,
     problem: &Problem,
@@ -97,7 +98,7 @@ fn push_edge_numbered(
     }
 }
 
-// The edges in order of their numbers. Those of one graph stand in that order there, so one place is kept for each graph.
+/// The edges in order of their numbers. Those of one graph stand in that order there, so one place is kept for each graph.
 fn push_edges(alloc: Global, out: &mut Vec<u8>, problem: &Problem) -> Result<(), AllocError>
     requires { IsInstance problem.now }
     ensures { OnOk result (out.new.items ≡ out.old.items ++ flat_map spaced (map edge_line (edges_up_to problem.now (edges_total problem.now)))) }
@@ -109,7 +110,7 @@ fn push_edges(alloc: Global, out: &mut Vec<u8>, problem: &Problem) -> Result<(),
     Ok(())
 }
 
-// Of two words, the one of a bound from above.
+/// Of two words, the one of a bound from above.
 fn word_of_most<'a>(leq: &'a [u8], lt: &'a [u8], most: i64) -> &'a [u8]
     ensures { result.now ≡ most_word leq.now lt.now most }
 {
@@ -122,7 +123,7 @@ fn number_of_most(most: i64) -> u64
     if most < 0 { 0 } else { most as u64 }
 }
 
-// Of two words, the one of a bound from below.
+/// Of two words, the one of a bound from below.
 fn word_of_least<'a>(geq: &'a [u8], gt: &'a [u8], least: i64) -> &'a [u8]
     ensures { result.now ≡ least_word geq.now gt.now least }
 {
@@ -141,7 +142,7 @@ fn number_of_least(least: i64) -> u64
     }
 }
 
-// The line of a flow of at least so much.
+/// The line of a flow of at least so much.
 fn push_flow(
     out: &mut Vec<u8>,
     id: u64,
@@ -194,7 +195,7 @@ fn push_predicate(
     }
 }
 
-// The line of the predicate of a number.
+/// The line of the predicate of a number.
 fn push_atom(out: &mut Vec<u8>, problem: &Problem, number: u32) -> Result<(), AllocError>
     requires instance { IsInstance problem.now }
     requires low { 0 < number }
@@ -215,18 +216,20 @@ fn push_atoms(out: &mut Vec<u8>, problem: &Problem) -> Result<(), AllocError>
     Ok(())
 }
 
-// A number and a space.
+/// A number and a space.
 fn push_literal(out: &mut Vec<u8>, lit: Lit) -> Result<(), AllocError>
-    ensures { OnOk result (out.new.items ≡ out.old.items ++ signed_decimal lit ++ codes " ") }
+    ensures ok { OnOk result (out.new.items ≡ out.old.items ++ signed_decimal lit ++ codes " ") }
+    ensures err { OnErr result (StartsWith out.new.items out.old.items) }
 {
     push_signed(out, i64::from(lit.number()))?;
     out.push(b' ')?;
     Ok(())
 }
 
-// A number and a space, for each of the literals.
+/// A number and a space, for each of the literals.
 fn push_literals(out: &mut Vec<u8>, lits: &[Lit]) -> Result<(), AllocError>
-    ensures { OnOk result (out.new.items ≡ out.old.items ++ flat_map (λ l. signed_decimal l ++ codes " ") lits.now) }
+    ensures ok { OnOk result (out.new.items ≡ out.old.items ++ flat_map (λ l. signed_decimal l ++ codes " ") lits.now) }
+    ensures err { OnErr result (StartsWith out.new.items out.old.items) }
 {
     for lit in lits {
         push_literal(out, *lit)?;
@@ -234,10 +237,11 @@ fn push_literals(out: &mut Vec<u8>, lits: &[Lit]) -> Result<(), AllocError>
     Ok(())
 }
 
-/// Appends the line of a clause: each literal and a space, a 0 and a line feed. Where memory is wanting, a part of the
-/// line may stand behind what was there.
+/// Appends the line of a clause: each literal and a space, a 0 and a line feed. Where memory is wanting, what was there
+/// stays, and more may stand behind it.
 pub fn push_clause(out: &mut Vec<u8>, lits: &[Lit]) -> Result<(), AllocError>
-    ensures { OnOk result (out.new.items ≡ out.old.items ++ spaced (clause_line lits.now)) }
+    ensures ok { OnOk result (out.new.items ≡ out.old.items ++ spaced (clause_line lits.now)) }
+    ensures err { OnErr result (StartsWith out.new.items out.old.items) }
 {
     push_literals(out, lits)?;
     out.extend_from_slice(b"0\n")?;

@@ -50,7 +50,7 @@ impl Model for Reader {
     ghost invariant = { λ r. literals_total r.draft + length r.row.items ≤ MAX_LITERALS };
 }
 
-// Whether a graph of so many nodes has the nodes that the predicate names.
+/// Whether a graph of so many nodes has the nodes that the predicate names.
 fn has_nodes(nodes: u32, predicate: Predicate) -> bool
     ensures { result ≡ has_ends nodes predicate }
 {
@@ -68,7 +68,7 @@ fn has_nodes(nodes: u32, predicate: Predicate) -> bool
     }
 }
 
-// Whether the predicate is a flow from a node to itself.
+/// Whether the predicate is a flow from a node to itself.
 fn same_ends(predicate: Predicate) -> bool
     ensures { result ≡ has_same_ends predicate }
 {
@@ -281,7 +281,7 @@ impl Reader {
         Ok(())
     }
 
-    // What the tokens of a line say that is blank, a comment or a word line. The line is that of the number.
+    /// What the tokens of a line say that is blank, a comment or a word line. The line is that of the number.
     fn read_words(&mut self, mut tokens: Tokens<'_>, line: u64) -> Result<(), Stop>
         requires { begins_number_line tokens ≡ false }
         ensures { Moves (read_tokens line self.old tokens.entry) self.new result }

@@ -178,7 +178,7 @@ fn digraph(mut tokens: Tokens<'_>) -> Result<Statement, GnfFault>
     })
 }
 
-// What an edge line says by its ends and its variable, and its weight.
+/// What an edge line says by its ends and its variable, and its weight.
 fn edge_from(
     ends: Result<[u64; 4], FieldRefusal>,
     weight: Result<u64, NumberRefusal>,
@@ -199,7 +199,7 @@ fn edge_from(
     })
 }
 
-// An edge's weight is the field behind its ends and its variable, or 1 where the line ends there.
+/// An edge's weight is the field behind its ends and its variable, or 1 where the line ends there.
 fn edge(mut tokens: Tokens<'_>) -> Result<Statement, GnfFault>
     ensures value { result ≡ edge_of tokens.entry }
     ensures within { IfOk result IsWithin }
@@ -229,7 +229,7 @@ fn reach(tokens: Tokens<'_>) -> Result<Statement, GnfFault>
     })
 }
 
-// The greatest number within the bound, which is -1 where 0 is excluded.
+/// The greatest number within the bound, which is -1 where 0 is excluded.
 fn most(strict: bool, bound: u64) -> i64
     requires { bound ≤ MAX_BOUND }
     ensures value { result ≡ at_most strict bound }
@@ -242,7 +242,7 @@ fn most(strict: bool, bound: u64) -> i64
     }
 }
 
-// The least number within the bound.
+/// The least number within the bound.
 fn least(strict: bool, bound: u64) -> i64
     requires { bound ≤ MAX_BOUND }
     ensures value { result ≡ at_least strict bound }

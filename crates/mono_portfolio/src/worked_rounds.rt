@@ -20,8 +20,13 @@ pub fn short_ones()
 /// They are taken in order, behind what was taken before. One that finds no room is passed over.
 pub fn taken_by_all()
     ensures behind { taking two_clauses learned_behind_a_lemma (4 ∷ []) (3 ∷ 4 ∷ []) ≡ 4 ∷ 3 ∷ 4 ∷ [] }
+    ensures last { taking two_clauses learned_behind_a_lemma (4 ∷ []) (3 ∷ []) ≡ 4 ∷ 3 ∷ [] }
     ensures no_room { (p : Instance) (board : List Step) (n : ℕ) → passes_limits (extended p board (n ∷ [])) ≡ true → taking p board [] (n ∷ []) ≡ [] }
     ensures room { (p : Instance) (board : List Step) (n : ℕ) → passes_limits (extended p board (n ∷ [])) ≡ false → taking p board [] (n ∷ []) ≡ n ∷ [] }
+    ensures no_room_beside { (p : Instance) (board : List Step) (m n : ℕ) → passes_limits (extended p board (m ∷ n ∷ [])) ≡ true
+        → taking p board (m ∷ []) (n ∷ []) ≡ m ∷ [] }
+    ensures passed_over { (p : Instance) (board : List Step) (m n k : ℕ) → passes_limits (extended p board (m ∷ n ∷ [])) ≡ true
+        → passes_limits (extended p board (m ∷ k ∷ [])) ≡ false → taking p board (m ∷ []) (n ∷ k ∷ []) ≡ m ∷ k ∷ [] }
 {}
 
 /// In one round two workers that each learn one clause add two pieces, the second behind the first.

@@ -26,7 +26,7 @@ impl Model for ClauseList {
     ghost invariant = { λ c. AreEnds 0 c.ends.items (length c.lits.items) };
 }
 
-// Where the list at a place begins, which is where the one before it ends, and where it ends.
+/// Where the list at a place begins, which is where the one before it ends, and where it ends.
 fn bounds_of(ends: &[u32], place: usize, len: usize) -> (usize, usize)
     requires ends { AreEnds 0 ends.now len }
     requires place { place < length ends.now }

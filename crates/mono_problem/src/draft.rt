@@ -54,7 +54,7 @@ impl Model for Draft {
     }) d.node_count d.homes.items };
 }
 
-// The greatest variable of the literals, or `vars` where it is greater.
+/// The greatest variable of the literals, or `vars` where it is greater.
 fn greatest_var(vars: u32, lits: &[Lit]) -> u32
     requires { vars ≤ MAX_VARS }
     ensures value { result ≡ greatest_of vars lits.now }
@@ -69,7 +69,7 @@ fn greatest_var(vars: u32, lits: &[Lit]) -> u32
     most
 }
 
-// Adds the edge to the graph at a place.
+/// Adds the edge to the graph at a place.
 fn add_to(graphs: &mut IndexMap<u32, Graph>, place: u32, edge: Edge) -> Result<(), AllocError>
     requires place { place < length graphs.old.entries }
     requires new { IsNewEdge (slice_index_or graphs.old.entries place no_graph).1 edge }
@@ -86,7 +86,7 @@ fn add_to(graphs: &mut IndexMap<u32, Graph>, place: u32, edge: Edge) -> Result<(
     }
 }
 
-// Adds the uses of the edges of the graph at a place.
+/// Adds the uses of the edges of the graph at a place.
 fn push_edges(all: &mut Vec<VarUse>, graph: &Graph, place: u32) -> Result<(), AllocError>
     ensures { OnOk result (all.new.items ≡ all.old.items ++ graph_uses place graph.now) }
 {
@@ -102,7 +102,7 @@ fn push_edges(all: &mut Vec<VarUse>, graph: &Graph, place: u32) -> Result<(), Al
     Ok(())
 }
 
-// The graph at a place.
+/// The graph at a place.
 fn held_at(graphs: &IndexMap<u32, Graph>, place: usize) -> &Graph
     requires { place < length graphs.now.entries }
     ensures { result.now ≡ (slice_index_or graphs.now.entries place no_graph).1 }
@@ -113,7 +113,7 @@ fn held_at(graphs: &IndexMap<u32, Graph>, place: usize) -> &Graph
     }
 }
 
-// The identity of the graph at a place.
+/// The identity of the graph at a place.
 fn id_at(graphs: &IndexMap<u32, Graph>, place: usize) -> u32
     requires { place < length graphs.now.entries }
     ensures { result ≡ (slice_index_or graphs.now.entries place no_graph).0 }
@@ -124,7 +124,7 @@ fn id_at(graphs: &IndexMap<u32, Graph>, place: usize) -> u32
     }
 }
 
-// The uses of all edges, graph after graph.
+/// The uses of all edges, graph after graph.
 fn edges_used(alloc: Global, graphs: &IndexMap<u32, Graph>) -> Result<Vec<VarUse>, AllocError>
     requires { length graphs.now.entries ≤ MAX_GRAPHS }
     ensures { IfOk result (λ all. all.items ≡ uses_of_edges graphs.now.entries (length graphs.now.entries)) }
@@ -136,7 +136,7 @@ fn edges_used(alloc: Global, graphs: &IndexMap<u32, Graph>) -> Result<Vec<VarUse
     Ok(all)
 }
 
-// Adds the uses of the predicates.
+/// Adds the uses of the predicates.
 fn push_atoms(all: &mut Vec<VarUse>, atoms: &[Atom]) -> Result<(), AllocError>
     ensures { OnOk result (all.new.items ≡ all.old.items ++ map atom_use atoms.now) }
 {
@@ -153,7 +153,7 @@ fn push_atoms(all: &mut Vec<VarUse>, atoms: &[Atom]) -> Result<(), AllocError>
 
 // The uses of all variables: those of the edges, then those of the predicates.
 //
-// It borrows what a draft holds, so that a draft is dropped at one place only.
+/// It borrows what a draft holds, so that a draft is dropped at one place only.
 fn all_uses(
     alloc: Global,
     graphs: &IndexMap<u32, Graph>,
@@ -169,7 +169,7 @@ fn all_uses(
     Ok(uses)
 }
 
-// How many nodes the graphs have.
+/// How many nodes the graphs have.
 fn node_count(graphs: &IndexMap<u32, Graph>) -> u32
     requires { sum_by (λ g. g.1.nodes) graphs.now.entries ≤ MAX_NODES }
     ensures { result ≡ sum_by (λ g. g.1.nodes) graphs.now.entries }
@@ -181,7 +181,7 @@ fn node_count(graphs: &IndexMap<u32, Graph>) -> u32
     count
 }
 
-// Copies of the graphs, beside their identities.
+/// Copies of the graphs, beside their identities.
 fn copied_graphs(
     alloc: Global,
     graphs: &IndexMap<u32, Graph>,

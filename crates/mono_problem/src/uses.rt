@@ -46,7 +46,7 @@ impl Model for UseTable {
     ghost invariant = { λ t. (length t.vars.items ≡ length t.uses.items) × IsNonDecreasingBy (λ v. v) t.vars.items };
 }
 
-// Sorted by variable. The uses of one variable keep their order.
+/// Sorted by variable. The uses of one variable keep their order.
 fn sorted_by_var(mut all: Vec<VarUse>) -> Result<Vec<VarUse>, AllocError>
     ensures sorted { IfOk result (λ us. IsNonDecreasingBy (λ u. u.var) us.items) }
     ensures stable { IfOk result (λ us. (x : ℕ) → filter (λ u. u.var == x) us.items ≡ filter (λ u. u.var == x) all.items) }
@@ -67,7 +67,7 @@ fn ats_of(alloc: Global, all: &[VarUse]) -> Result<Vec<Use>, AllocError>
     all.iter().map(|used| used.at).collect(alloc)
 }
 
-// Where the places of a variable begin and end.
+/// Where the places of a variable begin and end.
 fn range_of(vars: &[u32], var: u32) -> (usize, usize)
     requires { IsNonDecreasingBy (λ v. v) vars.now }
     ensures range { IsRangeOf vars.now var result.0 result.1 }

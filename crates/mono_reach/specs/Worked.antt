@@ -58,6 +58,10 @@ rows_with looked arrivals = side.Rows (record {
   due = false ∷ [];
 })
 
+-- the same two rows, of two atoms that ask for node 1 and for node 0 itself
+abbrev pub marks_with : List Arrival → SureMarks
+marks_with arrivals = record { rows = alone 2 1 ∷ from_node_0 arrivals ∷ []; row_of = 1 ∷ 1 ∷ []; lasts = 1 ∷ 0 ∷ [] }
+
 -- The atom's row of the possibly present edges is the second of two: these arrivals are in its tree. What the tree lacks is out
 -- of reach since so many literals, if that is known, and an edge of the tree went with one, if it did.
 abbrev pub trees_with : ℕ → Option ℕ → Option ℕ → List Arrival → EitherSide PossibleView

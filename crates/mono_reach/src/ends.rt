@@ -4,6 +4,7 @@ ghost use Rattle.std.specs.Prelude.{◌≡◌, ◌<◌, All, IfOk, IsTrue, lengt
 ghost use Rattle.mono_graph.specs.Digraph.{Digraph};
 ghost use Rattle.mono_problem.specs.WellFormed.{IsOver};
 ghost use Rattle.mono_dynamic.specs.Rows.{IsSource};
+ghost use Rattle.mono_dynamic.specs.Sources.{AreApart};
 ghost use Rattle.mono_theory.specs.Asked.{AreOfAtoms, HasFirst};
 ghost use Rattle.mono_theory.specs.Supports.{AreCovered};
 ghost use Rattle.mono_reach.specs.Marks.{first_node, last_node, HaveRows};
@@ -47,6 +48,7 @@ fn first_nodes(alloc: Global, frame: &Frame) -> Result<Vec<u32>, AllocError>
 pub(crate) fn sources_of(alloc: Global, frame: &Frame) -> Result<Sources<u32>, AllocError>
     requires { AreCovered is_reach frame.now.atoms }
     ensures known { IfOk result (λ s. All (IsSource frame.now.graph.nodes) s.rows.items) }
+    ensures apart { IfOk result (λ s. AreApart (λ u. u) s.rows.items) }
     ensures rows { IfOk result (λ s. HaveRows frame.now.atoms (length frame.now.atoms) s.row_of.items s.rows.items) }
 {
     let _ = frame.atom_count();

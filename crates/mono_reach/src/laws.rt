@@ -3,6 +3,7 @@
 ghost use Rattle.std.specs.Prelude.{◌≡◌, ℕ, ℤ, IfOk};
 ghost use Rattle.mono_theory.specs.EitherSides.{IsEitherKept};
 ghost use Rattle.mono_theory.specs.Supports.{facts_in};
+ghost use Rattle.mono_theory.specs.Theories.{ForceIs};
 ghost use Rattle.mono_reach.specs.Readings.{AreBothDecided, ReachView, marks_at};
 
 use crate::ReachTheory;
@@ -19,7 +20,9 @@ pub fn literals_change_no_mark()
 /// Asks what is forced. Where the answer is Quiet, what is kept decides each predicate, with the surely present edges and with
 /// the possibly present ones.
 pub fn quiet_decides(theory: &mut ReachTheory) -> Result<Force, AllocError>
-    ensures { IfOk result (λ answer. answer ≡ Force.Quiet → AreBothDecided theory.new) }
+    ensures same { facts_in theory.new ≡ facts_in theory.old }
+    ensures answer { IfOk result (ForceIs theory.old.graph theory.old.atoms theory.old.seen) }
+    ensures decided { IfOk result (λ answer. answer ≡ Force.Quiet → AreBothDecided theory.new) }
 {
     let answer = theory.force()?;
     Ok(answer)

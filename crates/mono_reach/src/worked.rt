@@ -5,8 +5,9 @@ ghost use Rattle.std.specs.Prelude.{◌≡◌, [], ◌∷◌, None, Some, false,
 ghost use Rattle.mono_steps.specs.declared.lemma.Witness.TheVariants as by;
 ghost use Rattle.mono_theory.specs.declared.stage.Stage.TheVariants as stage;
 ghost use Rattle.mono_theory.specs.declared.either_side.EitherSide.TheVariants as side;
+ghost use Rattle.mono_reach.specs.Marks.{shows_last};
 ghost use Rattle.mono_reach.specs.Readings.{AreBothDecided, marks_at};
-ghost use Rattle.mono_reach.specs.Worked.{along_the_edge, cut_off, keeping, lazily, rows_with, searched, showing, trees_with};
+ghost use Rattle.mono_reach.specs.Worked.{along_the_edge, cut_off, keeping, lazily, marks_with, rows_with, searched, showing, trees_with};
 
 /// A node is known to be reached where the atom's row has it. Where a search found a walk, the last node alone is.
 pub fn nodes_known_to_be_reached()
@@ -18,6 +19,13 @@ pub fn nodes_known_to_be_reached()
     ensures stands { (marks_at (keeping (searched stage.Supported) (cut_off stage.Waits None)) 0 1).under ≡ false }
     ensures waits { (marks_at (keeping (searched stage.Waits) (cut_off stage.Waits None)) 0 1).under ≡ false }
     ensures undecided { (marks_at (keeping (side.Searches (lazily (showing false (stage.Forcing 1) None))) (cut_off stage.Waits None)) 0 1).under ≡ false }
+{}
+
+/// Rows show an atom where its own row has its own last node.
+pub fn atoms_shown_by_rows()
+    ensures reached { shows_last (marks_with along_the_edge) 0 ≡ true }
+    ensures in_another_row_alone { shows_last (marks_with []) 0 ≡ false }
+    ensures source { shows_last (marks_with []) 1 ≡ true }
 {}
 
 /// A node is known to be cut off where a search showed a set that lacks it.

@@ -1,5 +1,5 @@
 -- What a propagation by the clauses keeps of a state, and why a false clause is a conflict.
-use Rattle.std.proofs.Common.{◌≡◌, ℕ, zero, suc, ◌-◌, ◌<◌, ◌≤◌, Bool, false, List, [], ◌∷◌, ◌++◌, take, filter, get_or, length, All, refl, sym, ap, subst, ◌∙◌, inl, inr, ℤ, pos, neg_ℤ, nat_abs, Some, arith, length-append}
+use Rattle.std.proofs.Common.{◌≡◌, ℕ, zero, suc, ◌-◌, ◌<◌, ◌≤◌, Bool, List, [], ◌∷◌, ◌++◌, take, filter, get_or, length, All, refl, sym, ap, subst, ◌∙◌, inl, inr, ℤ, pos, neg_ℤ, nat_abs, Some, arith, length-append}
 use Rattle.std.specs.Prelude.{IsTrue}
 use Rattle.std.specs.List.{list_all, list_any}
 use Rattle.std.specs.Ordering.{int_eq}

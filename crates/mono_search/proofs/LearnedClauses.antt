@@ -1,6 +1,6 @@
 -- Going back: after a restart, and after a clause was learned.
 use Rattle.std.proofs.Common.{zero, suc, ◌≡◌, ◌≢◌, ℕ, ◌+◌, ◌-◌, ◌<◌, ◌≤◌, true, not, List, [], ◌∷◌, ◌++◌, length, take, drop, min, map, arith, refl, sym, ◌∙◌, ap, get_or, subst, ◌⊎◌, inl, inr, ℤ, pos, negsuc, neg_ℤ, nat_abs, append_assoc, All, length-append, add-one}
-use Rattle.std.specs.Prelude.{Bool, IsTrue, Result, Ok, Err, OnOk, ◌&&◌, ◌==◌, if◌then◌else◌}
+use Rattle.std.specs.Prelude.{Bool, IsTrue, Result, Ok, Err, OnOk, OnErr, ◌&&◌, ◌==◌, if◌then◌else◌}
 use Rattle.std.proofs.lemmas.List.{take-take, length-take, get_or-take}
 use Rattle.std.proofs.lemmas.List.Folds.{list_all-append, list_any_at}
 use Rattle.std.specs.Ordering.{int_eq}
@@ -9,7 +9,6 @@ use Rattle.std.proofs.lemmas.Bool.{le-leb, cases_lt, and_from, not_from_false, n
 use Rattle.mono_base.specs.Literal.{var_of, has_lit, IsLitWithin, lit_at}
 use Rattle.mono_base.specs.Partial.{is_false_in, is_open_in, is_quiet, unit_quiet}
 use Rattle.mono_problem.specs.Instance.{Instance}
-use Rattle.mono_steps.specs.declared.step.Chain.{Chain}
 use Rattle.mono_steps.specs.declared.step.Step.{Step}
 use Rattle.mono_steps.specs.Steps.{are_justified, is_refutation, ends_empty, clause_of, clauses_after}
 use Rattle.mono_steps.specs.declared.step.Step.TheVariants as step
@@ -291,6 +290,10 @@ pub on_ok : {U E : Type 0} (x : Result U E) (P : Type 0) → P → OnOk x P
 on_ok (Ok y) P h = h
 on_ok (Err y) P h = tt
 
+pub on_err : {U E : Type 0} (x : Result U E) (P : Type 0) → P → OnErr x P
+on_err (Ok y) P h = tt
+on_err (Err y) P h = h
+
 -- ---- the end
 
 -- lemmas joined, and nothing more
@@ -318,5 +321,6 @@ spent v w budget n conflict ready problem steps le =
     let same : chain_count w.steps ≡ chain_count v.steps = ap chain_count steps in
     record {
       ends = record { chains = omega (arith, same, le); new = new; few = enough w.theories.problem w.steps budget open_journal.journal.justified new (omega (arith, same, le)) };
+      within = omega (arith, same, le);
       ready = λ u. ready;
     }

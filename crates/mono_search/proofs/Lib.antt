@@ -22,3 +22,4 @@ pub mod LearnedClauses
 pub mod Beginning
 pub mod Resolved
 pub mod Counting
+pub mod MoreSteps

@@ -1,5 +1,5 @@
 -- Lists of literals: what stands in them, and what is open, true or false.
-use Rattle.std.proofs.Common.{◌≡◌, ◌≢◌, ℕ, ◌+◌, ◌-◌, ◌<◌, ◌≤◌, Bool, true, false, not, List, [], ◌∷◌, ◌++◌, take, drop, length, filter, refl, sym, ap, subst, ◌∙◌, inl, inr, ◌⊎◌, ℤ, pos, neg_ℤ, arith}
+use Rattle.std.proofs.Common.{◌≡◌, ◌≢◌, ℕ, ◌+◌, ◌-◌, ◌<◌, ◌≤◌, Bool, false, not, List, [], ◌∷◌, ◌++◌, take, drop, length, filter, refl, sym, ap, subst, ◌∙◌, inl, inr, ◌⊎◌, ℤ, pos, neg_ℤ, arith}
 use Rattle.std.specs.Prelude.{IsTrue}
 use Rattle.std.specs.Ordering.{int_eq}
 use Rattle.std.specs.List.{list_any, list_all}

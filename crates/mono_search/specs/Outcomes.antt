@@ -1,5 +1,5 @@
 -- How a run of a search ends.
-use Rattle.std.specs.Prelude.{◌≡◌, ℕ, ◌^◌, ◌<◌, Bool, true, false, max, List, length, Option, Some, None, Result, Ok, Err, IsTrue}
+use Rattle.std.specs.Prelude.{◌≡◌, ℕ, ◌++◌, ◌^◌, ◌<◌, Bool, true, false, max, List, length, Option, Some, None, Result, Ok, Err, IsTrue}
 use Rattle.mono_base.specs.Literal.{value_in}
 use Rattle.mono_problem.specs.Instance.{Instance}
 use Rattle.mono_problem.specs.Holds.{Satisfies}
@@ -27,6 +27,22 @@ abbrev pub EndsAs : ℕ → ℕ → Instance → List Step → Outcome → Type 
 EndsAs budget before p steps (outcome.Sat model) = HasModel p model
 EndsAs budget before p steps outcome.Unsat = IsTrue (is_refutation p steps)
 EndsAs budget before p steps outcome.Unknown = IsSpent budget before p steps
+
+-- the steps from before stay, and what joined stands behind them
+pub record HasMoreSteps (old new : List Step) : Type 0 where
+  pub more : List Step
+  pub joined : new ≡ old ++ more
+
+-- how many chains with the empty clause a run adds: the last step of a refutation
+abbrev pub empty_chains : Outcome → ℕ
+empty_chains (outcome.Sat model) = 0
+empty_chains outcome.Unsat = 1
+empty_chains outcome.Unknown = 0
+
+-- how many chains beyond its budget a run may leave
+abbrev pub beyond_budget : {E : Type 0} → Result Outcome E → ℕ
+beyond_budget (Ok o) = empty_chains o
+beyond_budget (Err e) = 0
 
 abbrev pub is_unknown : Outcome → Bool
 is_unknown (outcome.Sat model) = false

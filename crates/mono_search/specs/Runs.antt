@@ -22,7 +22,7 @@ use Rattle.mono_search.specs.Stored.{inputs_from}
 use Rattle.mono_search.specs.TheoryLists.{shown_of}
 use Rattle.mono_search.specs.declared.theories.Forced.{Forced}
 use Rattle.mono_search.specs.State.{StateView, IsReady, IsInConflict, IsJournal, QuietAt, work_left}
-use Rattle.mono_search.specs.Outcomes.{EndsAs, is_unknown}
+use Rattle.mono_search.specs.Outcomes.{EndsAs, empty_chains, is_unknown}
 use Rattle.mono_search.specs.declared.propagation.Propagated.{Propagated}
 use Rattle.mono_search.specs.declared.propagation.Propagated.TheVariants as propagated
 use Rattle.mono_search.specs.declared.search.Outcome.{Outcome}
@@ -155,9 +155,10 @@ pub record HasLearned (budget : ℕ) (v w : StateView) : Type 0 where
   pub under : chain_count v.steps < budget
   pub chains : chain_count w.steps ≡ chain_count v.steps + 1
 
--- the run ends. After Unknown it may go on
+-- the run ends within the budget. After Unknown it may go on
 pub record IsEnd (budget : ℕ) (v w : StateView) (o : Outcome) : Type 0 where
   pub ends : EndsAs budget (chain_count v.steps) w.theories.problem w.steps o
+  pub within : chain_count w.steps ≤ max budget (chain_count v.steps) + empty_chains o
   pub ready : IsTrue (is_unknown o) → IsReady w
 
 abbrev pub ResolvedAs : ℕ → StateView → StateView → Option Outcome → Type 0

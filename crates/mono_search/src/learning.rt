@@ -1,11 +1,11 @@
 //! What a conflict leads to: the end, or one clause more.
 
-ghost use Rattle.std.specs.Prelude.{◌≡◌, ◌≤◌, ◌+◌, length, All, IfOk, IfNone, OnOk, IsTrue, if◌then◌else◌};
+ghost use Rattle.std.specs.Prelude.{◌≡◌, ◌≤◌, ◌+◌, max, length, All, IfOk, IfNone, OnOk, OnErr, IsTrue, if◌then◌else◌};
 ghost use Rattle.mono_base.specs.Literal.{IsLitWithin};
 ghost use Rattle.mono_steps.specs.Steps.{are_justified, clauses_after, is_refutation};
 ghost use Rattle.mono_steps.specs.Journals.{chain_count};
 ghost use Rattle.mono_search.specs.State.{IsJournal, IsConsistent, IsReady, IsInConflict};
-ghost use Rattle.mono_search.specs.Outcomes.{may_go_on};
+ghost use Rattle.mono_search.specs.Outcomes.{HasMoreSteps, may_go_on};
 ghost use Rattle.mono_search.specs.Restarts.{KeepsCount};
 ghost use Rattle.mono_search.specs.Runs.{ResolvedAs, GoesBack, CountsAndGoesBack};
 
@@ -33,7 +33,9 @@ impl<'p, T: Theory> State<'p, T> {
         requires { IsInConflict self.old conflict }
         ensures problem { self.new.theories.problem ≡ self.old.theories.problem }
         ensures journal { IsJournal self.new.theories.problem self.new.steps }
+        ensures keeps { HasMoreSteps self.old.steps self.new.steps }
         ensures ends { IfOk result (ResolvedAs budget self.old self.new) }
+        ensures err { OnErr result (chain_count self.new.steps ≤ max budget (chain_count self.old.steps)) }
         ensures back { IfOk result (λ end. IfNone end (CountsAndGoesBack restarts.old restarts.new self.old self.new)) }
         ensures counted { IfOk result (λ end. IsTrue (may_go_on end)
             → KeepsCount (chain_count self.old.steps) (chain_count self.new.steps) restarts.old restarts.new) }
@@ -65,8 +67,10 @@ impl<'p, T: Theory> State<'p, T> {
         requires level { 1 ≤ self.old.trail.level }
         ensures problem { self.new.theories.problem ≡ self.old.theories.problem }
         ensures journal { IsJournal self.new.theories.problem self.new.steps }
+        ensures keeps { HasMoreSteps self.old.steps self.new.steps }
         ensures ready { OnOk result (IsReady self.new) }
         ensures chains { OnOk result (chain_count self.new.steps ≡ chain_count self.old.steps + 1) }
+        ensures within { chain_count self.new.steps ≤ chain_count self.old.steps + 1 }
         ensures back { OnOk result (GoesBack self.old self.new restarts) }
     {
         let problem = self.theories.problem();
@@ -92,7 +96,10 @@ impl<'p, T: Theory> State<'p, T> {
         requires level { self.old.trail.level ≡ 0 }
         ensures problem { self.new.theories.problem ≡ self.old.theories.problem }
         ensures journal { IsJournal self.new.theories.problem self.new.steps }
+        ensures keeps { HasMoreSteps self.old.steps self.new.steps }
         ensures refuted { OnOk result (IsTrue (is_refutation self.new.theories.problem self.new.steps)) }
+        ensures chains { OnOk result (chain_count self.new.steps ≡ chain_count self.old.steps + 1) }
+        ensures err { OnErr result (chain_count self.new.steps ≡ chain_count self.old.steps) }
     {
         let problem = self.theories.problem();
         refute(

@@ -8,6 +8,7 @@ ghost use Rattle.mono_base.specs.Partial.{is_false_in};
 ghost use Rattle.mono_steps.specs.Journals.{chain_count};
 ghost use Rattle.mono_search.specs.Theories.{AtomsQuiet, having_seen};
 ghost use Rattle.mono_search.specs.State.{IsJournal, IsReady, IsInConflict};
+ghost use Rattle.mono_search.specs.Outcomes.{HasMoreSteps};
 ghost use Rattle.mono_search.specs.Runs.{ClausesPropagatedAs, PropagatedAs, CanImply};
 
 use crate::state::State;
@@ -36,6 +37,7 @@ impl<'p, T: Theory> State<'p, T> {
         requires { IsReady self.old }
         ensures problem { self.new.theories.problem ≡ self.old.theories.problem }
         ensures journal { IsJournal self.new.theories.problem self.new.steps }
+        ensures keeps { HasMoreSteps self.old.steps self.new.steps }
         ensures answer { IfOk result (PropagatedAs self.old self.new) }
         ensures chains { chain_count self.new.steps ≡ chain_count self.old.steps }
     {
@@ -88,6 +90,7 @@ impl<'p, T: Theory> State<'p, T> {
         requires forced { CanImply self.old forced }
         ensures problem { self.new.theories.problem ≡ self.old.theories.problem }
         ensures journal { IsJournal self.new.theories.problem self.new.steps }
+        ensures keeps { HasMoreSteps self.old.steps self.new.steps }
         ensures answer { IfOk result (PropagatedAs self.old self.new) }
         ensures chains { chain_count self.new.steps ≡ chain_count self.old.steps }
     {
@@ -110,6 +113,7 @@ impl<'p, T: Theory> State<'p, T> {
         requires wrong { IsTrue (is_false_in self.old.trail.lits forced.lit) }
         ensures problem { self.new.theories.problem ≡ self.old.theories.problem }
         ensures journal { IsJournal self.new.theories.problem self.new.steps }
+        ensures keeps { HasMoreSteps self.old.steps self.new.steps }
         ensures conflict { IfOk result (IsInConflict self.new) }
         ensures chains { chain_count self.new.steps ≡ chain_count self.old.steps }
     {

@@ -1,8 +1,8 @@
 //! Steps of the search until it ends: propagate, and then learn from a conflict, or decide.
 
-ghost use Rattle.std.specs.Prelude.{◌≡◌, IfOk, IsTrue};
+ghost use Rattle.std.specs.Prelude.{◌≡◌, ◌≤◌, max, IfOk, OnErr, IsTrue};
 ghost use Rattle.mono_steps.specs.Journals.{chain_count};
-ghost use Rattle.mono_search.specs.Outcomes.{is_unknown, may_go_on};
+ghost use Rattle.mono_search.specs.Outcomes.{HasMoreSteps, is_unknown, may_go_on};
 ghost use Rattle.mono_search.specs.Restarts.{KeepsCount};
 ghost use Rattle.mono_search.specs.State.{IsJournal, IsReady};
 ghost use Rattle.mono_search.specs.Runs.{SteppedAs, IsEnd};
@@ -25,7 +25,9 @@ impl<'p, T: Theory> State<'p, T> {
         requires { IsReady self.old }
         ensures problem { self.new.theories.problem ≡ self.old.theories.problem }
         ensures journal { IsJournal self.new.theories.problem self.new.steps }
+        ensures keeps { HasMoreSteps self.old.steps self.new.steps }
         ensures ends { IfOk result (IsEnd budget self.old self.new) }
+        ensures err { OnErr result (chain_count self.new.steps ≤ max budget (chain_count self.old.steps)) }
         ensures counted { IfOk result (λ o. IsTrue (is_unknown o)
             → KeepsCount (chain_count self.old.steps) (chain_count self.new.steps) restarts.old restarts.new) }
     {
@@ -46,7 +48,9 @@ impl<'p, T: Theory> State<'p, T> {
         requires { IsReady self.old }
         ensures problem { self.new.theories.problem ≡ self.old.theories.problem }
         ensures journal { IsJournal self.new.theories.problem self.new.steps }
+        ensures keeps { HasMoreSteps self.old.steps self.new.steps }
         ensures ends { IfOk result (SteppedAs budget self.old self.new) }
+        ensures err { OnErr result (chain_count self.new.steps ≤ max budget (chain_count self.old.steps)) }
         ensures counted { IfOk result (λ end. IsTrue (may_go_on end)
             → KeepsCount (chain_count self.old.steps) (chain_count self.new.steps) restarts.old restarts.new) }
     {

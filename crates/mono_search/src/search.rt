@@ -1,12 +1,12 @@
 //! The search, as its callers see it.
 
-ghost use Rattle.std.specs.Prelude.{◌≡◌, ◌≤◌, true, false, [], replicate, All, IfOk, IsTrue};
+ghost use Rattle.std.specs.Prelude.{◌≡◌, ◌≤◌, ◌+◌, max, true, false, [], replicate, All, IfOk, IsTrue};
 ghost use Rattle.mono_base.specs.Literal.{IsLitWithin};
 ghost use Rattle.mono_steps.specs.Steps.{are_justified};
 ghost use Rattle.mono_steps.specs.Journals.{chain_count};
 ghost use Rattle.mono_steps.specs.New.{HasNewChains};
 ghost use Rattle.mono_theory.specs.Owners.{facts_of, OwnsEach};
-ghost use Rattle.mono_search.specs.Outcomes.{EndsAs, is_unknown as is_unknown_outcome, stays_live};
+ghost use Rattle.mono_search.specs.Outcomes.{EndsAs, HasMoreSteps, beyond_budget, is_unknown as is_unknown_outcome, stays_live};
 ghost use Rattle.mono_search.specs.Runs.{saved};
 
 use crate::restarts::Restarts;
@@ -84,12 +84,16 @@ impl<'p, T: Theory> Search<'p, T> {
     /// Searches until there is an answer, or a conflict comes when as many clauses were learned as the budget says.
     ///
     /// Learned clauses count from the search's beginning. After `Unknown` it may be run again, with any budget of at least
-    /// 1. The steps of the journal stay justified, and its chains new, also after want of memory.
+    /// 1. The steps made before stay. The steps of the journal stay justified, and its chains new, also after want of memory.
+    /// Whatever the answer, there are then no more learned clauses than the budget says, or than before where these were more;
+    /// after `Unsat` the empty clause comes beside them.
     pub fn run(&mut self, budget: u64) -> Result<Outcome, AllocError>
         requires live { IsTrue self.old.live }
         requires budget { 1 ≤ budget }
         ensures problem { self.new.problem ≡ self.old.problem }
         ensures ends { IfOk result (EndsAs budget (chain_count self.old.steps) self.new.problem self.new.steps) }
+        ensures keeps { HasMoreSteps self.old.steps self.new.steps }
+        ensures within { chain_count self.new.steps ≤ max budget (chain_count self.old.steps) + beyond_budget result }
         ensures live { self.new.live ≡ stays_live result }
         ensures justified { IsTrue (are_justified self.new.problem self.new.steps) }
         ensures fresh { HasNewChains self.new.problem self.new.steps }

@@ -5,9 +5,10 @@ ghost use Rattle.std.specs.Prelude.{◌≡◌, ℕ, true, false, [], ◌∷◌, 
 ghost use Rattle.mono_graph.specs.Worked.{lone, round_trip};
 ghost use Rattle.mono_steps.specs.WorkedLemmas.{barred, minus, chain};
 ghost use Rattle.mono_theory.specs.Worked.{reaches};
-ghost use Rattle.mono_search.specs.Outcomes.{EndsAs, HasModel, IsSpent, may_go_on, stays_live};
+ghost use Rattle.mono_search.specs.Outcomes.{EndsAs, HasModel, HasMoreSteps, IsSpent, beyond_budget, may_go_on, stays_live};
 ghost use Rattle.mono_search.specs.Restarts.{CountedAfter, CountsClause};
 ghost use Rattle.mono_search.specs.Runs.{DecidesBySign, GoesBack, Releases, saved};
+ghost use Rattle.mono_search.specs.Signs.{AreSigns};
 ghost use Rattle.mono_search.specs.Solving.{AreTheoriesOf, IsSolved};
 ghost use Rattle.mono_search.specs.State.{StateView};
 ghost use Rattle.mono_search.specs.Stored.{held_after};
@@ -98,6 +99,23 @@ pub fn outcomes()
     ensures not_spent { EndsAs 2 0 two_clauses first_learned outcome.Unknown → ⊥ }
 {}
 
+/// The steps from before stay in front, each as it was.
+pub fn steps_that_stay()
+    ensures more { HasMoreSteps first_learned (learned_clause ∷ learned_clause ∷ []) }
+    ensures none_more { HasMoreSteps first_learned first_learned }
+    ensures fewer { HasMoreSteps first_learned [] → ⊥ }
+    ensures in_front { HasMoreSteps first_learned learned_behind_a_lemma → ⊥ }
+    ensures left_out { HasMoreSteps learned_behind_a_lemma first_learned → ⊥ }
+{}
+
+/// Beside the clauses that the budget allows a refutation alone has a chain more: that with the empty clause.
+pub fn chains_beyond_budgets()
+    ensures unsat { beyond_budget {E = ℕ} (Ok outcome.Unsat) ≡ 1 }
+    ensures sat { beyond_budget {E = ℕ} (Ok (outcome.Sat [])) ≡ 0 }
+    ensures unknown { beyond_budget {E = ℕ} (Ok outcome.Unknown) ≡ 0 }
+    ensures no_memory { beyond_budget {E = ℕ} (Err 0) ≡ 0 }
+{}
+
 /// A search goes on after Unknown alone.
 pub fn searches_that_go_on()
     ensures unknown { stays_live {E = ℕ} (Ok outcome.Unknown) ≡ true }
@@ -115,6 +133,19 @@ pub fn models()
     ensures false_clause { HasModel two_clauses (false ∷ true ∷ []) → ⊥ }
     ensures too_short { HasModel two_clauses (true ∷ []) → ⊥ }
     ensures too_long { HasModel two_clauses (true ∷ false ∷ false ∷ []) → ⊥ }
+{}
+
+/// The signs of a model are the literals that it makes true, variable 1 first.
+pub fn signs_of_a_model()
+    ensures each { AreSigns (true ∷ true ∷ false ∷ []) 3 (pos 1 ∷ pos 2 ∷ minus 3 ∷ []) }
+    ensures first_two { AreSigns (true ∷ true ∷ false ∷ []) 2 (pos 1 ∷ pos 2 ∷ []) }
+    ensures no_variables { AreSigns [] 0 [] }
+    ensures turned { AreSigns (true ∷ true ∷ false ∷ []) 3 (minus 1 ∷ minus 2 ∷ pos 3 ∷ []) → ⊥ }
+    ensures values_backward { AreSigns (true ∷ true ∷ false ∷ []) 3 (minus 1 ∷ pos 2 ∷ pos 3 ∷ []) → ⊥ }
+    ensures turned_backward { AreSigns (true ∷ true ∷ false ∷ []) 3 (pos 1 ∷ minus 2 ∷ minus 3 ∷ []) → ⊥ }
+    ensures variables_backward { AreSigns (true ∷ true ∷ false ∷ []) 3 (minus 3 ∷ pos 2 ∷ pos 1 ∷ []) → ⊥ }
+    ensures fewer { AreSigns (true ∷ true ∷ false ∷ []) 3 (pos 1 ∷ pos 2 ∷ []) → ⊥ }
+    ensures more { AreSigns (true ∷ true ∷ false ∷ []) 2 (pos 1 ∷ pos 2 ∷ minus 3 ∷ []) → ⊥ }
 {}
 
 /// A search begins with theories that own each atom once, over its graph, and have seen nothing.

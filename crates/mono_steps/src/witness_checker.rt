@@ -44,10 +44,10 @@ impl WitnessChecker {
         ensures { IfOk result (λ checker. checker ≡ size_of graph.now) }
     {
         let nodes = graph.nodes();
-        let walks = WalkChecker::new(alloc, nodes)?;
-        let flows = FlowChecker::new(alloc, nodes, graph.edge_count())?;
-        let trees = TreeChecker::new(alloc, nodes)?;
         let orders = OrderChecker::new(alloc, nodes)?;
+        let walks = WalkChecker::new(alloc, nodes)?;
+        let trees = TreeChecker::new(alloc, nodes)?;
+        let flows = FlowChecker::new(alloc, nodes, graph.edge_count())?;
         Ok(WitnessChecker {
             walks,
             flows,

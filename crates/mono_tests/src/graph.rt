@@ -7,7 +7,7 @@ ghost use Rattle.mono_graph.specs.declared.edge.Edge.{Edge};
 ghost use Rattle.mono_graph.specs.Digraph.{IsGraph, IsNewEdge, IsRising, IsSubpart, enabled, has, is_distinct, with_edge};
 ghost use Rattle.mono_graph.specs.Walks.{is_walk, is_path, is_cut, is_labelling};
 ghost use Rattle.mono_graph.specs.Flows.{is_flow_of, is_flow_cut};
-ghost use Rattle.mono_graph.specs.Trees.{is_tree, is_split, is_least, leads_either, IsRoute};
+ghost use Rattle.mono_graph.specs.Trees.{is_tree, is_split, is_least, joins, leads_either, IsRoute};
 ghost use Rattle.mono_graph.specs.declared.limit.Limit.TheVariants as limit;
 ghost use Rattle.mono_graph.specs.Worked.{all_three, amount, both, edge, edge_of, first_alone, label, last_alone};
 ghost use Rattle.mono_graph.specs.Worked.{lone, looped, neither, parallel, pipe, round_trip, single, triangle};
@@ -144,4 +144,13 @@ pub fn edges_that_come_next()
     ensures no_room { (edges : List Edge) → length edges ≡ MAX_EDGES → IsNewEdge (record { nodes = 1; edges = edges }) (edge_of 9 0 0 1 0) → ⊥ }
     ensures last { (edges : List Edge) → length edges + 1 ≡ MAX_EDGES → All (λ e. e.number < 9) edges
         → IsNewEdge (record { nodes = 1; edges = edges }) (edge_of 9 0 0 1 0) }
+{}
+
+/// An edge joins its own two ends. A node that no edge reaches is joined with neither, and lies in no spanning tree.
+pub fn nodes_apart()
+    ensures end { joins (edge 1 0 1 5 ∷ []) 2 1 ≡ false }
+    ensures start { joins (edge 1 0 1 5 ∷ []) 2 0 ≡ false }
+    ensures behind_others { joins (edge 1 1 2 5 ∷ edge 2 2 1 5 ∷ []) 0 1 ≡ false }
+    ensures no_tree { is_tree (record { nodes = 3; edges = edge 1 1 2 5 ∷ edge 2 2 1 5 ∷ [] }) both (pos 10) (0 ∷ 1 ∷ []) ≡ false }
+    ensures tree { is_tree (record { nodes = 3; edges = edge 1 1 2 5 ∷ edge 2 2 0 5 ∷ [] }) both (pos 10) (0 ∷ 1 ∷ []) ≡ true }
 {}

@@ -1,12 +1,14 @@
 //! Worked rows: which nodes each form of an input may name, words that no other row reads, clauses that stay open, and the
 //! names of faults.
 
-ghost use Rattle.std.specs.Prelude.{◌≡◌, ◌∷◌, [], codes, Some, None, pos, Err};
+ghost use Rattle.std.specs.Prelude.{◌≡◌, ◌∷◌, [], ℤ, List, codes, length, Some, None, pos, Err};
+ghost use Rattle.mono_base.specs.declared.limits.TheConstants.{MAX_CLAUSES, MAX_LITERALS};
 ghost use Rattle.mono_text.specs.declared.field.FieldRefusal.TheVariants as field;
 ghost use Rattle.mono_text.specs.Fields.{fields_of};
 ghost use Rattle.mono_problem.specs.declared.atom.Predicate.TheVariants as kind;
 ghost use Rattle.mono_gnf.specs.declared.fault.GnfFault.TheVariants as fault;
-ghost use Rattle.mono_gnf.specs.Faults.{first_fault};
+ghost use Rattle.mono_gnf.specs.Faults.{first_fault, number_fault};
+ghost use Rattle.mono_gnf.specs.Lines.{clauses_of, literal_count};
 ghost use Rattle.mono_gnf.specs.Names.{fault_name};
 ghost use Rattle.mono_gnf.specs.Prints.{Prints};
 ghost use Rattle.mono_gnf.specs.Stands.{Stands};
@@ -51,6 +53,12 @@ pub fn clauses_left_open()
     ensures behind_three { first_fault (codes "0\n1 0 0\n-3\n") ≡ Some (3, fault.UnfinishedClause) }
     ensures word_within { first_fault (codes "1 0 2\nreach") ≡ Some (2, fault.OpenClause) }
     ensures none { first_fault (codes "1 0 2 0") ≡ None }
+{}
+
+/// A number beyond the limits is the fault of its line, whatever stands behind it.
+pub fn numbers_beyond_the_limits()
+    ensures clause { (zs : List ℤ) → length (clauses_of zs) ≡ MAX_CLAUSES → number_fault zs (codes "0" ∷ codes "x" ∷ []) ≡ Some fault.TooMany }
+    ensures literal { (zs : List ℤ) → literal_count zs ≡ MAX_LITERALS → number_fault zs (codes "-1" ∷ codes "x" ∷ []) ≡ Some fault.TooMany }
 {}
 
 /// Bounds of weighted walks, as they are and one less.

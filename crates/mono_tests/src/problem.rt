@@ -1,6 +1,6 @@
 //! Worked rows: what the words of `mono_problem` make of two small graphs.
 
-ghost use Rattle.std.specs.Prelude.{◌≡◌, ◌+◌, true, false, ℤ, List, [], ◌∷◌, length, pos, negsuc, Some, None};
+ghost use Rattle.std.specs.Prelude.{◌≡◌, ◌+◌, true, false, ℤ, List, [], ◌∷◌, length, map, pos, negsuc, Some, None};
 ghost use Rattle.mono_base.specs.declared.limits.TheConstants.{MAX_BOUND, MAX_CLAUSES, MAX_LITERALS};
 ghost use Rattle.mono_graph.specs.Worked.{edge_of, pipe, round_trip, single};
 ghost use Rattle.mono_problem.specs.declared.atom.Predicate.TheVariants as kind;
@@ -9,8 +9,8 @@ ghost use Rattle.mono_problem.specs.Assuming.{HasRoom};
 ghost use Rattle.mono_problem.specs.Growth.{nothing, raised, with_graph, with_edge, with_atom, with_clause};
 ghost use Rattle.mono_problem.specs.Holds.{HoldsAtom};
 ghost use Rattle.mono_problem.specs.Instance.{Instance, graph_at, identity_at, literals_total, place_named, has_number, totals_of};
-ghost use Rattle.mono_problem.specs.Read.{clause_numbered};
-ghost use Rattle.mono_problem.specs.Uses.{has_edge_use, uses_of};
+ghost use Rattle.mono_problem.specs.Read.{atom_numbered, clause_numbered};
+ghost use Rattle.mono_problem.specs.Uses.{all_uses, has_edge_use, uses_of};
 ghost use Rattle.mono_problem.specs.WellFormed.{IsInstance, IsOver};
 ghost use Rattle.mono_problem.specs.Worked.{minus, only, reaches_2};
 ghost use Rattle.mono_tests.specs.TwoGraphs.{asks_only, of_clauses, of_graphs, over_second, two_graphs};
@@ -42,6 +42,14 @@ pub fn uses_of_variables()
     ensures none { uses_of two_graphs 3 ≡ [] }
 {}
 
+/// All uses: those of the edges, graph after graph and in their order, and behind them those of the predicates.
+pub fn uses_of_all_variables()
+    ensures variables { map (λ u. u.var) (all_uses (with_edge two_graphs 1 (edge_of 4 1 0 9 2))) ≡ 1 ∷ 2 ∷ 4 ∷ 9 ∷ 5 ∷ 6 ∷ [] }
+    ensures parts { map (λ u. u.at) (all_uses (with_edge two_graphs 1 (edge_of 4 1 0 9 2)))
+        ≡ use_of.Edge 0 0 ∷ use_of.Edge 0 1 ∷ use_of.Edge 1 0 ∷ use_of.Edge 1 1 ∷ use_of.Atom 1 ∷ use_of.Atom 2 ∷ [] }
+    ensures none_of_zero { uses_of two_graphs 0 ≡ [] }
+{}
+
 /// A list of uses has that of an edge of the graph at a place, by the edge's place there.
 pub fn uses_of_edges()
     ensures behind_another { has_edge_use 1 2 (use_of.Atom 1 ∷ use_of.Edge 1 2 ∷ []) ≡ true }
@@ -55,6 +63,12 @@ pub fn uses_of_edges()
 pub fn clauses_by_number()
     ensures first { clause_numbered two_graphs 1 ≡ pos 1 ∷ minus 6 ∷ [] }
     ensures second { clause_numbered two_graphs 2 ≡ [] }
+{}
+
+/// Predicates are numbered from 1.
+pub fn predicates_by_number()
+    ensures first { atom_numbered two_graphs 1 ≡ reaches_2 }
+    ensures second { atom_numbered two_graphs 2 ≡ over_second }
 {}
 
 /// There is room for as many assumptions as clauses and literals are left up to their limits.
@@ -78,6 +92,7 @@ pub fn graphs_and_predicates_are_added()
 /// An edge, a predicate and a clause come at the end, and their variables become the problem's.
 pub fn parts_are_added()
     ensures edge { graph_at (with_edge two_graphs 1 (edge_of 4 1 0 9 2)) 1 ≡ record { nodes = 2; edges = edge_of 3 0 1 4 7 ∷ edge_of 4 1 0 9 2 ∷ [] } }
+    ensures identity { identity_at (with_edge two_graphs 1 (edge_of 4 1 0 9 2)) 1 ≡ 5 }
     ensures other_graph { graph_at (with_edge two_graphs 1 (edge_of 4 1 0 9 2)) 0 ≡ pipe 3 2 }
     ensures edges_variable { (with_edge two_graphs 1 (edge_of 4 1 0 9 2)).vars ≡ 9 }
     ensures clauses_variable { (with_clause two_graphs (minus 2 ∷ minus 8 ∷ [])).vars ≡ 8 }

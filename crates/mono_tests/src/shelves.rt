@@ -1,7 +1,8 @@
 //! Worked rows: what reading a text from a shelf comes to.
 
-ghost use Rattle.std.specs.Prelude.{◌≡◌, [], codes, Some, None};
+ghost use Rattle.std.specs.Prelude.{◌≡◌, ◌-◌, ◌^◌, [], ◌∷◌, true, false, codes, Some, None};
 ghost use Rattle.mono_io.specs.declared.refusal.ReadRefusal.TheVariants as unread;
+ghost use Rattle.mono_io.specs.FaultPlan.{next_is_listed};
 ghost use Rattle.mono_io.specs.Reading.{IsGivenUp, IsNotRead, IsReadInto, IsTooLong};
 ghost use Rattle.mono_io.specs.Worked.{steady_shelf, two_texts};
 ghost use Rattle.mono_check.specs.declared.refusal.CheckRefusal.TheVariants as refusal;
@@ -29,4 +30,12 @@ pub fn refusals()
     ensures memory { refusal_of unread.Memory ≡ refusal.Memory }
     ensures fault { refusal_of unread.Fault ≡ refusal.Fault }
     ensures too_long { refusal_of unread.TooLong ≡ refusal.TooLong }
+{}
+
+/// The call that comes next is the one behind those that were made, up to the last one that a `u64` numbers.
+pub fn calls_that_are_listed()
+    ensures third { next_is_listed (record { calls = 2; listed = 3 ∷ []; faults = 0 }) ≡ true }
+    ensures first_is_over { next_is_listed (record { calls = 2; listed = 1 ∷ []; faults = 0 }) ≡ false }
+    ensures last { next_is_listed (record { calls = 2 ^ 64 - 2; listed = (2 ^ 64 - 1) ∷ []; faults = 0 }) ≡ true }
+    ensures beyond { next_is_listed (record { calls = 2 ^ 64 - 1; listed = (2 ^ 64) ∷ []; faults = 0 }) ≡ false }
 {}

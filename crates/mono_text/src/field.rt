@@ -28,7 +28,7 @@ fn refused(place: usize, refusal: NumberRefusal) -> FieldRefusal
     }
 }
 
-// Gives so many tokens, and whether there were as many.
+/// Gives so many tokens, and whether there were as many.
 fn pass(tokens: &mut Tokens<'_>, count: usize) -> bool
     ensures enough { result ≡ nat_le count (length tokens.old) }
     ensures rest { tokens.new ≡ drop count tokens.old }

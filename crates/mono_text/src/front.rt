@@ -15,7 +15,7 @@ use crate::{NumberRefusal, natural};
 /// One more digit fits a value below.
 const LARGE: u64 = 100_000_000_000_000_000;
 
-// The value of the digits at the front of the text, as long as one more fits, and how many they are.
+/// The value of the digits at the front of the text, as long as one more fits, and how many they are.
 #[inline(always)]
 fn digits_front(text: &[u8]) -> (u64, usize)
     ensures count { result.1 ≤ length text.now }
@@ -45,7 +45,7 @@ fn up_to(value: u64, limit: u64) -> Result<u64, NumberRefusal>
     }
 }
 
-// The natural that the bytes before the first blank are, and what follows that blank.
+/// The natural that the bytes before the first blank are, and what follows that blank.
 #[inline(always)]
 pub(crate) fn natural_front(text: &[u8], limit: u64) -> (Result<u64, NumberRefusal>, &[u8])
     ensures value { result.0 ≡ within limit (natural_of (before_first is_blank_byte text.now)) }
@@ -87,7 +87,7 @@ fn positive(magnitude: Result<u64, NumberRefusal>) -> Result<i64, NumberRefusal>
     }
 }
 
-// The signed number that the bytes before the first blank are, and what follows that blank.
+/// The signed number that the bytes before the first blank are, and what follows that blank.
 #[inline(always)]
 pub(crate) fn signed_front(text: &[u8], limit: u64) -> (Result<i64, NumberRefusal>, &[u8])
     requires { limit ≤ 2 ^ 62 }

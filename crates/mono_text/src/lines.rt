@@ -30,7 +30,7 @@ impl<'a> Model for Lines<'a> {
     ghost invariant = { λ l. l.read + length l.rest.now < 2 ^ 63 };
 }
 
-// Where the first line ends: at its line feed, or at the end of the text.
+/// Where the first line ends: at its line feed, or at the end of the text.
 fn line_end(text: &[u8]) -> usize
     ensures { result ≡ position_or_len is_line_feed text.now }
 {
@@ -40,7 +40,7 @@ fn line_end(text: &[u8]) -> usize
     }
 }
 
-// What stands before the first line feed, and what follows it.
+/// What stands before the first line feed, and what follows it.
 fn split_at_line_feed(text: &[u8]) -> (&[u8], &[u8])
     ensures before { result.0.now ≡ before_first is_line_feed text.now }
     ensures after { result.1.now ≡ after_first is_line_feed text.now }

@@ -16,7 +16,7 @@ pub enum NumberRefusal {
     TooLarge,
 }
 
-// The number that the digits stand for, or 2^64 where it is greater. None where a byte is no digit.
+/// The number that the digits stand for, or 2^64 where it is greater. None where a byte is no digit.
 fn value_of(token: &[u8]) -> Option<u128>
     ensures digits { is_some result ≡ list_all is_ascii_digit token.now }
     ensures value { IfSome result (λ value. value ≡ min (digits_value token.now) (2 ^ 64)) }

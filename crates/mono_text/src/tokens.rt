@@ -45,7 +45,7 @@ fn first_of_token(text: &[u8]) -> Option<usize>
     text.iter().position(|byte| !is_blank(*byte))
 }
 
-// The text without the blanks that it begins with.
+/// The text without the blanks that it begins with.
 fn without_blanks(text: &[u8]) -> &[u8]
     ensures { result.now ≡ drop (position_or_len (λ b. not (is_blank_byte b)) text.now) text.now }
 {
@@ -55,7 +55,7 @@ fn without_blanks(text: &[u8]) -> &[u8]
     }
 }
 
-// What stands before the first blank, and what follows it.
+/// What stands before the first blank, and what follows it.
 pub(crate) fn split_at_blank(text: &[u8]) -> (&[u8], &[u8])
     ensures before { result.0.now ≡ before_first is_blank_byte text.now }
     ensures after { result.1.now ≡ after_first is_blank_byte text.now }

@@ -5,7 +5,8 @@
 
 ghost use Rattle.std.specs.Prelude.{◌≡◌, ◌<◌, ◌≤◌, ℕ, All, IfOk, IsTrue, length};
 ghost use Rattle.mono_graph.specs.Walks.{IsBounded};
-ghost use Rattle.mono_dynamic.specs.LeastRows.{IsCostSource};
+ghost use Rattle.mono_dynamic.specs.LeastRows.{cost_slot, IsCostSource};
+ghost use Rattle.mono_dynamic.specs.Sources.{AreApart};
 ghost use Rattle.mono_theory.specs.Supports.{AreCovered};
 ghost use Rattle.mono_theory.specs.Asked.{predicate_of, AreOfAtoms, HasLast, HasTarget, HaveRows, IsSourceFor};
 
@@ -104,6 +105,7 @@ pub fn sources_of<K: AsksWalk>(
     requires { AreCovered K.covers frame.now.atoms }
     ensures known { IfOk result (λ s. All (IsCostSource frame.now.graph.nodes) s.rows.items) }
     ensures few { IfOk result (λ s. length s.rows.items ≤ length frame.now.atoms) }
+    ensures apart { IfOk result (λ s. AreApart cost_slot s.rows.items) }
     ensures rows { IfOk result (λ s. HaveRows frame.now.atoms (length frame.now.atoms) s.row_of.items s.rows.items) }
 {
     let _ = frame.atom_count();

@@ -61,6 +61,8 @@ mod watchers;
 pub mod walks;
 /// Rows of lemmas that were worked by hand.
 pub mod worked;
+/// Rows of definitions that were worked by hand.
+pub mod worked_definitions;
 
 pub use asked::{Asked, AsksWalk, last_nodes, sources_of, targets_of};
 pub use atoms_by_node::AtomsByNode;

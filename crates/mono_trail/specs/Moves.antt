@@ -11,7 +11,8 @@ IsVar vars v = (1 ≤ v) × (v ≤ vars)
 
 -- the literal joins the trail for that reason
 abbrev pub joined : TrailView → ℤ → Reason → TrailView
-joined t l why = record t { lits = t.lits ++ l ∷ []; marks = t.marks ++ record { level = next_level why t.level; reason = why } ∷ []; level = next_level why t.level }
+joined t l why =
+    record t { lits = t.lits ++ l ∷ []; marks = t.marks ++ record { level = next_level why t.level; reason = why } ∷ []; level = next_level why t.level }
 
 -- literals above the level are dropped, and count as not given
 abbrev pub lowered : ℕ → TrailView → TrailView

@@ -1,4 +1,4 @@
-"""Splits a problem into cubes, which many machines solve and none of them is trusted: gulfezo-cubes FILE --cubes N
+"""Splits a problem into cubes, which many machines solve, and believes none of them: gulfezo-cubes FILE --cubes N
 
 A cube is a list of literals. The cubes of a run are the leaves of a tree, in which each branch decides a variable, so
 together they cover all assignments. A refutation of the problem is then one of each cube (of the problem with the

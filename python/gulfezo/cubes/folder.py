@@ -8,7 +8,8 @@
     manifest.json          the cubes and the checksums of all these files; what `judge_folder` reads
     tree.html              the tree of cubes with their times
 
-The log is written line by line, so a run that is killed goes on where it stands.
+The log is written line by line, so a run that is killed goes on where it stands. It isn't believed: what it says is
+refuted is judged again.
 """
 
 from __future__ import annotations
@@ -17,11 +18,12 @@ import fcntl
 import json
 import os
 import time
+from concurrent.futures import ThreadPoolExecutor
 from pathlib import Path
 from typing import Any
 
 from ..errors import GulfezoError
-from .judging import checksum
+from .judging import checksum, verdict
 from .tree import Cube, State, Tree, cover, refutation_of_cover
 
 FORMAT = "gulfezo-cubes 1"
@@ -74,18 +76,15 @@ class Folder:
 
     def replayed(self) -> Tree:
         """The tree as the log tells it. What is no line of it, as the half of one, is cut off with what follows."""
-        tree = Tree()
-        self.log.seek(0)
-        told = self.log.read()
-        kept = 0
-        for line in told.splitlines(keepends=True):
+        tree, kept = Tree(), 0
+        for line in (self.path / "log").read_bytes().splitlines(keepends=True):
             try:
-                if not line.endswith("\n"):
+                if not line.endswith(b"\n"):
                     break
                 self.replay(tree, json.loads(line))
             except (ValueError, KeyError, TypeError):
                 break
-            kept += len(line.encode())
+            kept += len(line)
         os.ftruncate(self.log.fileno(), kept)
         return tree
 
@@ -102,6 +101,18 @@ class Folder:
                 cube.state, cube.sha256 = State.REFUTED, row["sha256"]
         else:
             cube.is_probed = bool(row.get("probed"))
+
+    def judge(self, program: str, workers: int) -> None:
+        """Has the answers judged that a log tells of. A cube whose answer isn't accepted is open again."""
+        told = [cube for cube in self.tree.leaves() if cube.state is State.REFUTED]
+
+        def said(cube: Cube) -> str:
+            return verdict(program, self.problem, self.path / cube.answer, cube.literals)
+
+        with ThreadPoolExecutor(workers) as pool:
+            for cube, found in zip(told, pool.map(said, told)):
+                if found != "accepted refutation":
+                    cube.state, cube.sha256 = State.OPEN, ""
 
     def tell(self, cube: Cube, seconds: float, **more: Any) -> None:
         """Writes a line of the log about a cube, whose state has just changed."""

@@ -19,7 +19,10 @@ from .page import names_of, page
 from .run import Plan, Run
 from .splitting import METHODS, Splitting
 
-EXITS = "Ends with 10 where a model was found (the folder's file `model`), 20 where all cubes are refuted, 1 otherwise."
+EXITS = (
+    "Ends with 10 where a model was found (the folder's file `model`), 20 where all cubes are refuted, 1 otherwise; "
+    "with --judge with 0 where the folder is accepted, else with 1."
+)
 
 
 def parser() -> argparse.ArgumentParser:
@@ -74,7 +77,7 @@ def solve(given: argparse.Namespace) -> int:
     """Solves, or goes on."""
     problem = given.file.read_bytes()
     program = programs.find()
-    place = given.folder or Path(f"{given.file.name}.cubes")
+    place = given.folder or Path(f"{given.file}.cubes")
     folder = Folder(place, problem)
     try:
         has_model = finds_model(given, problem, program, folder)
@@ -96,6 +99,8 @@ def finds_model(given: argparse.Namespace, problem: bytes, program: str, folder:
     model = folder.path / "model"
     if model.is_file() and said(program, "check", folder.problem, model) == "accepted model":
         return True
+    with Phase("" if given.quiet else "judging what the folder has"):
+        folder.judge(program, given.workers)
     plan = Plan(given.cubes, given.budget, given.probe, program, None if given.scheduler else program)
     run = Run(plan, folder, engine_of(given, problem), Splitting(problem, given.split))
     with Phase("" if given.quiet else run.note):

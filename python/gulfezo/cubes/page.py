@@ -8,7 +8,7 @@ from collections.abc import Iterator
 
 from .tree import Cube, State, Tree
 
-NAME = re.compile(rb"^c variable ([0-9]+) (.+)$", re.MULTILINE)
+NAME = re.compile(rb"^c variable ([0-9]{1,10}) (.+)$", re.MULTILINE)
 OPEN_TO = 6  # levels that are unfolded at first
 STYLE = """
 body { font: 14px sans-serif; margin: 2em; color: #222; }

@@ -9,6 +9,7 @@ from collections.abc import Iterator
 from .tree import Cube
 
 NUMBER_LINE = re.compile(rb"^[ \t\r]*[-0-9][-0-9 \t\r]*$", re.MULTILINE)
+NUMBER = re.compile(rb"-?[0-9]{1,99}")  # what else stands there, in a file that is refused or in none, isn't counted
 DEEPEST = 1_000  # literals with which `check-with` judges an answer
 METHODS = ("learned", "occurrence")
 
@@ -17,7 +18,7 @@ def most_frequent(problem: bytes) -> tuple[int, ...]:
     """The variables of a problem's clauses, those that occur most often first."""
     counts: Counter[int] = Counter()
     for line in NUMBER_LINE.finditer(problem):
-        counts.update(abs(int(token)) for token in line[0].split())
+        counts.update(abs(int(token)) for token in line[0].split() if NUMBER.fullmatch(token))
     del counts[0]
     return tuple(variable for _, variable in sorted((-count, variable) for variable, count in counts.items()))
 

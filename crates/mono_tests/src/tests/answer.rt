@@ -7,7 +7,7 @@ use mono_text::{Line, Lines};
 use std::alloc::Global;
 use std::test::Fail;
 
-// The steps of a text, with one reader for all lines.
+/// The steps of a text, with one reader for all lines.
 fn steps_in(alloc: Global, text: &[u8]) -> Result<Vec<Step>, ItemRefusal> {
     let mut reader = ItemReader::new(alloc);
     let mut steps = Vec::new(alloc);

@@ -1,5 +1,7 @@
 //! A lemma of each word, examined, a checker that is fed, and a text that is generated.
 
+ghost use Rattle.std.specs.Prelude.{◌+◌, ◌≤◌, IsTrue, OnOk, length};
+
 use mono_answer::{Item, read_item};
 use mono_check::{Checker, MOST_FED, Verdict};
 use mono_gen::{GenKind, generate};
@@ -8,6 +10,7 @@ use mono_problem::Problem;
 use mono_steps::{StepFault, examine};
 use mono_text::Line;
 use std::alloc::{AllocError, Global};
+use std::process::Abort;
 use std::test::Fail;
 
 /// The fault of the step that a line says, if it is no justified step.
@@ -21,6 +24,18 @@ fn fault_of(
         Ok(Some(Item::Step(step))) => examine(alloc, problem, &[], &step),
         _ => Err(AllocError),
     }
+}
+
+/// The fault of the step that a line says over a problem that was read.
+fn found_over(alloc: Global, problem: &Problem, line: &str) -> Result<Option<StepFault>, Fail> {
+    let found = fault_of(alloc, problem, line.as_bytes())?;
+    Ok(found)
+}
+
+/// The fault of the step that a line says over the problem of a text.
+fn found_in(alloc: Global, input: &str, line: &str) -> Result<Option<StepFault>, Fail> {
+    let problem = read_gnf(alloc, input.as_bytes())?;
+    found_over(alloc, &problem, line)
 }
 
 const ROUTE: &str = "digraph int 3 2 0\nedge 0 0 1 1\nedge 0 1 2 2\nreach 0 0 2 3\n";
@@ -57,10 +72,19 @@ fn lemmas_of_each_word_are_examined(rt: HostRuntime) -> Result<(), Fail> {
         ),
         (ROUND_TRIP, "path 1 3 0", Some(StepFault::WrongKind)),
     ] {
-        let problem = read_gnf(rt.alloc(), input.as_bytes())?;
-        let found = fault_of(rt.alloc(), &problem, line.as_bytes())?;
-        assert_eq!(rt; found, fault, "{line}");
+        assert_eq!(rt; found_in(rt.alloc(), input, line)?, fault, "{line}");
     }
+    Ok(())
+}
+
+/// The checker is fed both pieces.
+fn feed_both(checker: &mut Checker<'_>, first: &[u8], second: &[u8]) -> Result<(), AllocError>
+    requires live { IsTrue checker.old.is_live }
+    requires few { checker.old.fed + length first.now + length second.now ≤ MOST_FED }
+    ensures live { OnOk result (IsTrue checker.new.is_live) }
+{
+    checker.feed(first)?;
+    checker.feed(second)?;
     Ok(())
 }
 
@@ -75,26 +99,30 @@ fn verdict_on(
         return Ok(None);
     }
     let mut checker = Checker::new(alloc, problem)?;
-    checker.feed(first)?;
-    checker.feed(second)?;
+    feed_both(&mut checker, first, second)?;
     let is_live = checker.is_live();
     let verdict = checker.finish()?;
     Ok(Some((is_live, verdict)))
 }
 
-#[test]
-fn a_checker_is_fed_in_pieces(rt: HostRuntime) -> Result<(), Fail> {
-    let problem = read_gnf(rt.alloc(), b"1 0\n-1 0\n")?;
+/// The verdicts on answers that come in two pieces.
+fn assert_verdicts(rt: &impl Abort, alloc: Global, problem: &Problem) -> Result<(), Fail> {
     for (first, second, verdict) in [
         ("", "s UNSATISFIABLE\nchain 0 1 2\n", Verdict::Refutation),
         ("s UNSATISFIABLE\nchain 0 1 2", "\n", Verdict::Refutation),
         ("s UNSAT", "ISFIABLE\nchain 0 1 2", Verdict::Refutation),
         ("s UNKNOWN\n", "", Verdict::Progress(0)),
     ] {
-        let found = verdict_on(rt.alloc(), &problem, first.as_bytes(), second.as_bytes())?;
+        let found = verdict_on(alloc, problem, first.as_bytes(), second.as_bytes())?;
         assert_eq!(rt; found, Some((true, verdict)));
     }
     Ok(())
+}
+
+#[test]
+fn a_checker_is_fed_in_pieces(rt: HostRuntime) -> Result<(), Fail> {
+    let problem = read_gnf(rt.alloc(), b"1 0\n-1 0\n")?;
+    assert_verdicts(&rt, rt.alloc(), &problem)
 }
 
 #[test]

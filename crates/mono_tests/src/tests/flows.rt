@@ -8,7 +8,7 @@ use std::alloc::Global;
 use std::process::Abort;
 use std::test::Fail;
 
-// From node 0 to node 3 over node 1 or over node 2, which an edge joins. The greatest value is 5.
+/// From node 0 to node 3 over node 1 or over node 2, which an edge joins. The greatest value is 5.
 fn square(alloc: Global) -> Result<Graph, EdgeRefusal>
     ensures nodes { IfOk result (λ g. g.nodes ≡ 4) }
     ensures edges { IfOk result (λ g. length g.edges ≡ 5) }
@@ -25,7 +25,7 @@ fn square(alloc: Global) -> Result<Graph, EdgeRefusal>
     Ok(graph)
 }
 
-// What is found is a flow through so many edges.
+/// What is found is a flow through so many edges.
 fn assert_flow(rt: &impl Abort, found: &FlowOrCut, count: usize) {
     match found {
         FlowOrCut::Flow(amounts) => assert_eq!(rt; amounts.len(), count),
@@ -33,7 +33,7 @@ fn assert_flow(rt: &impl Abort, found: &FlowOrCut, count: usize) {
     }
 }
 
-// What is found is a cut round these nodes.
+/// What is found is a cut round these nodes.
 fn assert_cut(rt: &impl Abort, found: &FlowOrCut, inside: &[u32]) {
     match found {
         FlowOrCut::Flow(_) => assert!(rt; false),
@@ -41,7 +41,7 @@ fn assert_cut(rt: &impl Abort, found: &FlowOrCut, inside: &[u32]) {
     }
 }
 
-// What is found of a value from node 0 to node 3, over all edges.
+/// What is found of a value from node 0 to node 3, over all edges.
 fn found_of(alloc: Global, graph: &Graph, least: i64) -> Result<FlowOrCut, Fail>
     requires nodes { graph.now.nodes ≡ 4 }
     requires edges { length graph.now.edges ≡ 5 }

@@ -26,7 +26,7 @@ mst_weight_lt 0 8 0\n\
 \t\r\n\
 -8 8 -0";
 
-// The first graph has its edges, in the order of their lines.
+/// The first graph has its edges, in the order of their lines.
 fn assert_first_graph(rt: &impl Abort, graph: &Graph) {
     assert_eq!(rt; graph.nodes(), 3);
     assert_eq!(rt; graph.edge_count(), 2);
@@ -41,7 +41,7 @@ fn assert_first_graph(rt: &impl Abort, graph: &Graph) {
     assert_eq!(rt; graph.edge(1), late);
 }
 
-// The problem has its variables and its graphs.
+/// The problem has its variables and its graphs.
 fn assert_graphs(rt: &impl Abort, problem: &Problem) {
     assert_eq!(rt; problem.vars(), 12);
     assert_eq!(rt; problem.graph_count(), 2);
@@ -58,7 +58,7 @@ fn every_form(rt: HostRuntime) -> Result<(), Fail> {
     Ok(())
 }
 
-// The problem has a predicate of each kind.
+/// The problem has a predicate of each kind.
 fn assert_predicates(rt: &impl Abort, problem: &Problem) {
     let predicates = [
         Predicate::Reach { from: 0, to: 2 },
@@ -98,7 +98,7 @@ fn every_predicate(rt: HostRuntime) -> Result<(), Fail> {
     Ok(())
 }
 
-// The literals have these numbers.
+/// The literals have these numbers.
 fn assert_numbers(rt: &impl Abort, clause: &[Lit], numbers: &[i32]) {
     assert_eq!(rt; clause.len(), numbers.len());
     for (lit, number) in clause.iter().zip(numbers.iter()) {
@@ -106,7 +106,7 @@ fn assert_numbers(rt: &impl Abort, clause: &[Lit], numbers: &[i32]) {
     }
 }
 
-// The problem has a clause over two lines, the empty one, and one with both signs of a variable.
+/// The problem has a clause over two lines, the empty one, and one with both signs of a variable.
 fn assert_clauses(rt: &impl Abort, problem: &Problem) {
     let clauses: [&[i32]; 3] = [&[1, -2, 3], &[], &[-8, 8]];
     assert_eq!(rt; problem.clause_count(), 3);
@@ -128,7 +128,7 @@ fn names(rt: HostRuntime) {
     assert_eq!(rt; GnfFault::TooMany.name(), "TooMany");
 }
 
-// Why a text is refused, if it is.
+/// Why a text is refused, if it is.
 fn refused(alloc: Global, text: &[u8]) -> Option<GnfRefusal> {
     match read_gnf(alloc, text) {
         Ok(_) => None,
@@ -162,7 +162,7 @@ fn refusals(rt: HostRuntime) {
     }
 }
 
-// So many lines, each the same, behind a first line.
+/// So many lines, each the same, behind a first line.
 fn repeated(alloc: Global, first: &[u8], line: &[u8], count: u32) -> Result<Vec<u8>, AllocError> {
     let mut text = Vec::new(alloc);
     text.extend_from_slice(first)?;

@@ -1,4 +1,5 @@
-ghost use Rattle.std.specs.Prelude.{◌≡◌, IfOk, length};
+ghost use Rattle.std.specs.Prelude.{◌≡◌, ◌≤◌, IfOk, [], ◌∷◌, length};
+ghost use Rattle.mono_graph.specs.Worked.{edge_of};
 
 use mono_base::Buckets;
 use mono_graph::{Edge, EdgeRefusal, Graph, Part, mark, unmark};
@@ -6,7 +7,7 @@ use std::alloc::Global;
 use std::process::Abort;
 use std::test::Fail;
 
-// Three nodes and three edges, whose numbers have gaps.
+/// Three nodes and three edges, whose numbers have gaps.
 fn star(alloc: Global) -> Result<Graph, EdgeRefusal>
     ensures nodes { IfOk result (λ g. g.nodes ≡ 3) }
     ensures edges { IfOk result (λ g. length g.edges ≡ 3) }
@@ -84,61 +85,79 @@ fn edges_by_place_and_number(rt: HostRuntime) -> Result<(), Fail> {
     Ok(())
 }
 
-#[test]
-fn refused_edge_leaves_the_graph(rt: HostRuntime) -> Result<(), Fail> {
-    let mut graph = Graph::new(rt.alloc(), 2)?;
-    graph.add_edge(Edge {
-        number: 1,
-        from: 1,
-        to: 0,
+/// An edge with the variable 1.
+fn joining(number: u32, from: u32, to: u32) -> Edge
+    ensures { result ≡ edge_of number from to 1 7 }
+{
+    Edge {
+        number,
+        from,
+        to,
         var: 1,
         weight: 7,
-    })?;
-    let from = graph.add_edge(Edge {
-        number: 2,
-        from: 2,
-        to: 0,
-        var: 1,
-        weight: 7,
-    });
+    }
+}
+
+/// Two nodes, and an edge that joins them.
+fn joined(alloc: Global, number: u32, from: u32, to: u32) -> Result<Graph, EdgeRefusal>
+    requires { 1 ≤ number }
+    ensures nodes { IfOk result (λ g. g.nodes ≡ 2) }
+    ensures edges { IfOk result (λ g. g.edges ≡ edge_of number from to 1 7 ∷ []) }
+{
+    let mut graph = match Graph::new(alloc, 2) {
+        Ok(graph) => graph,
+        Err(_) => return Err(EdgeRefusal::Memory),
+    };
+    graph.add_edge(joining(number, from, to))?;
+    Ok(graph)
+}
+
+/// An edge from or to a node 2 is refused, and the graph stays.
+fn assert_refused(rt: &impl Abort, graph: &mut Graph)
+    requires nodes { graph.old.nodes ≡ 2 }
+    requires edges { graph.old.edges ≡ edge_of 1 1 0 1 7 ∷ [] }
+{
+    let from = graph.add_edge(joining(2, 2, 0));
     assert_eq!(rt; from, Err(EdgeRefusal::NodeOutOfRange));
-    let to = graph.add_edge(Edge {
-        number: 2,
-        from: 0,
-        to: 2,
-        var: 1,
-        weight: 7,
-    });
+    let to = graph.add_edge(joining(2, 0, 2));
     assert_eq!(rt; to, Err(EdgeRefusal::NodeOutOfRange));
     assert_eq!(rt; graph.edge_count(), 1);
     assert_eq!(rt; graph.leaving(0).len(), 0);
     assert_eq!(rt; graph.leaving(1), [0].as_slice());
-    Ok(())
 }
 
 #[test]
-fn copy_is_equal_and_apart(rt: HostRuntime) -> Result<(), Fail> {
-    let mut graph = Graph::new(rt.alloc(), 2)?;
-    graph.add_edge(Edge {
-        number: 4,
-        from: 0,
-        to: 1,
-        var: 1,
-        weight: 7,
-    })?;
-    let copy = graph.copy()?;
-    graph.add_edge(Edge {
-        number: 5,
-        from: 0,
-        to: 1,
-        var: 1,
-        weight: 7,
-    })?;
+fn refused_edge_leaves_the_graph(rt: HostRuntime) -> Result<(), Fail> {
+    let mut graph = joined(rt.alloc(), 1, 1, 0)?;
+    assert_refused(&rt, &mut graph);
+    Ok(())
+}
+
+/// A graph's next edge is none of the copy that was made before.
+fn assert_apart(rt: &impl Abort, graph: &mut Graph, copy: &Graph) -> Result<(), Fail>
+    requires graph { graph.old.edges ≡ edge_of 4 0 1 1 7 ∷ [] }
+    requires copy { length copy.now.edges ≡ 1 }
+{
+    graph.add_edge(joining(5, 0, 1))?;
     assert_eq!(rt; copy.edge_count(), 1);
     assert_eq!(rt; copy.edge(0).number, 4);
     assert_eq!(rt; copy.leaving(0), [0].as_slice());
     assert_eq!(rt; graph.leaving(0), [0, 1].as_slice());
     Ok(())
+}
+
+/// A copy of the graph is equal to it, and stays so.
+fn assert_copied(rt: &impl Abort, graph: &mut Graph) -> Result<(), Fail>
+    requires { graph.old.edges ≡ edge_of 4 0 1 1 7 ∷ [] }
+{
+    let copy = graph.copy()?;
+    assert_apart(rt, graph, &copy)
+}
+
+#[test]
+fn copy_is_equal_and_apart(rt: HostRuntime) -> Result<(), Fail> {
+    let mut graph = joined(rt.alloc(), 4, 0, 1)?;
+    assert_copied(&rt, &mut graph)
 }
 
 #[test]

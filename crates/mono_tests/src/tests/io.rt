@@ -113,7 +113,7 @@ fn a_text_beyond_its_limit_is_too_long(rt: HostRuntime) -> Result<(), Fail> {
     Ok(())
 }
 
-// In pieces of four, call 1 begins the text, calls 2 to 4 read it and call 5 finds its end.
+/// In pieces of four, call 1 begins the text, calls 2 to 4 read it and call 5 finds its end.
 #[test]
 fn a_shelf_fails_at_each_call_in_turn(rt: HostRuntime) -> Result<(), Fail> {
     let alloc = rt.alloc();
@@ -141,7 +141,7 @@ fn a_shelf_fails_at_each_call_in_turn(rt: HostRuntime) -> Result<(), Fail> {
     Ok(())
 }
 
-// In pieces of four, writes 1 to 3 take ten bytes.
+/// In pieces of four, writes 1 to 3 take ten bytes.
 #[test]
 fn a_sink_fails_at_each_write_in_turn(rt: HostRuntime) -> Result<(), Fail> {
     for (call, written) in [

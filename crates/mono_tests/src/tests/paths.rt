@@ -9,8 +9,8 @@ use std::alloc::Global;
 use std::process::Abort;
 use std::test::Fail;
 
-// Node 0 has an edge to itself, and two lead from there to node 1. Between nodes 1 and 2 edges of weight 0 lead there and
-// back. Nothing leads to node 3.
+/// Node 0 has an edge to itself, and two lead from there to node 1. Between nodes 1 and 2 edges of weight 0 lead there and
+/// back. Nothing leads to node 3.
 fn small_graph(alloc: Global) -> Result<Graph, EdgeRefusal>
     ensures nodes { IfOk result (λ g. g.nodes ≡ 4) }
     ensures edges { IfOk result (λ g. length g.edges ≡ 6) }
@@ -28,7 +28,7 @@ fn small_graph(alloc: Global) -> Result<Graph, EdgeRefusal>
     Ok(graph)
 }
 
-// Walks may go round, and by the heavier of two parallel edges.
+/// Walks may go round, and by the heavier of two parallel edges.
 fn assert_walks(rt: &impl Abort, alloc: Global, graph: &Graph) -> Result<(), Fail>
     requires nodes { graph.now.nodes ≡ 4 }
     requires edges { length graph.now.edges ≡ 6 }
@@ -46,7 +46,7 @@ fn walks_within_limits(rt: HostRuntime) -> Result<(), Fail> {
     assert_walks(&rt, rt.alloc(), &graph)
 }
 
-// What is found is a walk by these edges.
+/// What is found is a walk by these edges.
 fn assert_path(rt: &impl Abort, found: &PathOrCut, walk: &[u32]) {
     match found {
         PathOrCut::Path(edges) => assert_eq!(rt; edges.as_slice(), walk),
@@ -54,7 +54,7 @@ fn assert_path(rt: &impl Abort, found: &PathOrCut, walk: &[u32]) {
     }
 }
 
-// What is found is a cut round these nodes.
+/// What is found is a cut round these nodes.
 fn assert_cut(rt: &impl Abort, found: &PathOrCut, inside: &[u32]) {
     match found {
         PathOrCut::Path(_) => assert!(rt; false),
@@ -81,7 +81,7 @@ fn walk_or_cut(rt: HostRuntime) -> Result<(), Fail> {
     assert_walk_or_cut(&rt, rt.alloc(), &graph)
 }
 
-// What is found is a walk by these edges.
+/// What is found is a walk by these edges.
 fn assert_light(rt: &impl Abort, found: &PathOrLabels, walk: &[u32]) {
     match found {
         PathOrLabels::Path(edges) => assert_eq!(rt; edges.as_slice(), walk),
@@ -89,7 +89,7 @@ fn assert_light(rt: &impl Abort, found: &PathOrLabels, walk: &[u32]) {
     }
 }
 
-// What is found are so many labels.
+/// What is found are so many labels.
 fn assert_labels(rt: &impl Abort, found: &PathOrLabels, count: usize) {
     match found {
         PathOrLabels::Path(_) => assert!(rt; false),

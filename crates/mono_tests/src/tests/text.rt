@@ -4,7 +4,7 @@ use mono_text::{
 };
 use std::alloc::{AllocError, Global};
 
-// Each line as its number, `=`, its bytes, its tokens in brackets, and `;`.
+/// Each line as its number, `=`, its bytes, its tokens in brackets, and `;`.
 fn shown(alloc: Global, text: &[u8]) -> Result<Vec<u8>, AllocError> {
     let mut out = Vec::new(alloc);
     for line in Lines::new(text) {
@@ -224,7 +224,7 @@ fn skipped_lines(rt: HostRuntime) {
     }
 }
 
-// A line of a million blanks before its one token.
+/// A line of a million blanks before its one token.
 #[test]
 fn many_blanks(rt: HostRuntime) -> Result<(), AllocError> {
     let mut text = Vec::from_elem(rt.alloc(), b' ', 1_000_000)?;

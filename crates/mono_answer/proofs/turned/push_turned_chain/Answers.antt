@@ -13,7 +13,7 @@ returns c =
     c.in_ok-push.ensures.items
     ∙ (ap (λ (t : List ℕ). t ++ 10 ∷ []) (c.in_ok-push_turned_numbers.ensures
     ∙ (ap (λ (ns : List ℕ). c.push_lits.new.out.items ++ behind (map decimal (turned_numbers c.args.own ns))) c.as_slice.ensures
-    ∙ ap (λ (t : List ℕ). t ++ behind (map decimal used)) (c.in_ok-push_lits.ensures
+    ∙ ap (λ (t : List ℕ). t ++ behind (map decimal used)) (c.in_ok-push_lits.ensures.ok
     ∙ (ap (λ (zs : List ℤ). c.extend_from_slice.new.self.items ++ behind (numbers_text (with_zero zs))) c.lits.ensures
     ∙ ap (λ (t : List ℕ). t ++ behind (numbers_text (with_zero lits))) c.in_ok-extend_from_slice.ensures.items))))
     ∙ line_of_two out (codes "chain") (numbers_text (with_zero lits)) (map decimal used))

@@ -1,28 +1,22 @@
-use Rattle.std.proofs.Common.{◌≡◌, ◌++◌, [], ℕ, sym, ap, subst, append-nil, ◌∙◌}
+use Rattle.std.proofs.Common.{ℕ, sym, ap, subst, ◌∙◌}
 use Rattle.std.specs.Prelude.{IsTrue}
 use Rattle.mono_answer.specs.declared.answer.Answer.TheVariants as answer
 use Rattle.mono_answer.specs.Versions.{answer_names_earlier}
-use Rattle.mono_check.specs.Checking.{later_by}
-use Rattle.mono_check.specs.Judges.{judging}
-use Rattle.mono_check.specs.Verdicts.{Outcome, IsOutcome, IsVerdict, outcome_of}
+use Rattle.mono_check.specs.Verdicts.{IsVerdict}
 use Rattle.mono_answer.specs.Printed.{answer_text_as}
 use Rattle.mono_check.proofs.HeldSteps.{IsHeld, model_is_held, refutation_is_held, progress_is_held}
 use Rattle.mono_check.proofs.migration.migrate.Goals as goal
 use Rattle.mono_check.proofs.migration.migrate.Goals.{in-Model, in-Refutation+in_ok-held_steps-in-Refutation, in-Progress+in_ok-held_steps-in-Progress}
 
-pub feed-requires-clause-kept : goal.feed-requires-clause-kept
-feed-requires-clause-kept c = c.new-judge.ensures.kept c.args.problem.now
-
 pub print_answer_as-requires : goal.print_answer_as-requires
 print_answer_as-requires c =
     let p = c.args.problem.now in
     let text = c.args.answer.now in
-    let whole : later_by p (judging c.feed.new.self) [] ≡ outcome_of p text = c.in_ok-feed.ensures.later [] ∙ c.new-judge.ensures.later p (text ++ []) ∙ ap (outcome_of p) (append-nil text) in
-    let judged : IsVerdict p text c.in_ok-verdict.verdict = subst (λ (o : Outcome). IsOutcome p o c.in_ok-verdict.verdict) whole c.in_ok-verdict.ensures.verdict in
+    let judged : IsVerdict p text c.in_ok-verdict.verdict = c.in_ok-verdict.ensures.verdict in
     let held : IsHeld p text c.match-verdict.held = elim c.match-verdict.branch [
       | in-Model w ↦
           let model = c.in_ok-verdict.ensures.values w.in-Model.is in
-          model_is_held p text c.in_ok-verdict.verdict model.0 model.1 c.in_ok-verdict.values.items c.match-verdict.held judged w.in-Model.is (sym whole ∙ model.2) (w.held-is ∙ ap answer.Model w.from_vec.ensures)
+          model_is_held p text c.in_ok-verdict.verdict model.0 model.1 c.in_ok-verdict.values.items c.match-verdict.held judged w.in-Model.is model.2 (w.held-is ∙ ap answer.Model w.from_vec.ensures)
       | in-Refutation+in_ok-held_steps-in-Refutation w ↦
           refutation_is_held p text c.in_ok-verdict.verdict w.in_ok-held_steps-in-Refutation.field-0 c.match-verdict.held judged w.in-Refutation.is w.in_ok-held_steps-in-Refutation.ensures w.held-is
       | in-Progress+in_ok-held_steps-in-Progress w ↦
@@ -34,12 +28,11 @@ pub returns : goal.returns
 returns c =
     let p = c.args.problem.now in
     let text = c.args.answer.now in
-    let whole : later_by p (judging c.feed.new.self) [] ≡ outcome_of p text = c.in_ok-feed.ensures.later [] ∙ c.new-judge.ensures.later p (text ++ []) ∙ ap (outcome_of p) (append-nil text) in
-    let judged : IsVerdict p text c.in_ok-verdict.verdict = subst (λ (o : Outcome). IsOutcome p o c.in_ok-verdict.verdict) whole c.in_ok-verdict.ensures.verdict in
+    let judged : IsVerdict p text c.in_ok-verdict.verdict = c.in_ok-verdict.ensures.verdict in
     let held : IsHeld p text c.match-verdict.held = elim c.match-verdict.branch [
       | in-Model w ↦
           let model = c.in_ok-verdict.ensures.values w.in-Model.is in
-          model_is_held p text c.in_ok-verdict.verdict model.0 model.1 c.in_ok-verdict.values.items c.match-verdict.held judged w.in-Model.is (sym whole ∙ model.2) (w.held-is ∙ ap answer.Model w.from_vec.ensures)
+          model_is_held p text c.in_ok-verdict.verdict model.0 model.1 c.in_ok-verdict.values.items c.match-verdict.held judged w.in-Model.is model.2 (w.held-is ∙ ap answer.Model w.from_vec.ensures)
       | in-Refutation+in_ok-held_steps-in-Refutation w ↦
           refutation_is_held p text c.in_ok-verdict.verdict w.in_ok-held_steps-in-Refutation.field-0 c.match-verdict.held judged w.in-Refutation.is w.in_ok-held_steps-in-Refutation.ensures w.held-is
       | in-Progress+in_ok-held_steps-in-Progress w ↦

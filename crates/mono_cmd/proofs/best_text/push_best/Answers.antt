@@ -15,6 +15,6 @@ returns c =
     let second = values_note c.args.model.now in
     let refutation = answer_text (answer.Refutation c.args.steps.now) in
     let line = c.in_ok-push_bound.ensures ∙ ap (λ (z : ℤ). out ++ note (codes "best" ∷ signed_decimal z ∷ [])) (to_z-of_z w64 c.args.bound c.ranges.bound) in
-    c.in_ok-push_claim.ensures
+    c.in_ok-push_claim.ensures.ok
     ∙ (ap (λ (t : List ℕ). t ++ refutation) (c.in_ok-push_values.ensures ∙ ap (λ (t : List ℕ). t ++ second) line)
     ∙ two_lines out first second refutation)

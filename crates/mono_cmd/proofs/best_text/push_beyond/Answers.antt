@@ -7,4 +7,4 @@ use Rattle.mono_cmd.proofs.best_text.push_beyond.Goals as goal
 pub returns : goal.returns
 returns c =
     let found = answer_text (answer.Model c.args.model.now) in
-    c.in_ok-push_model.ensures ∙ (ap (λ (t : List ℕ). t ++ found) c.in_ok-extend_from_slice.ensures.items ∙ append_assoc c.args.out.now.items (note (codes "beyond" ∷ [])) found)
+    c.in_ok-push_model.ensures.ok ∙ (ap (λ (t : List ℕ). t ++ found) c.in_ok-extend_from_slice.ensures.items ∙ append_assoc c.args.out.now.items (note (codes "beyond" ∷ [])) found)

@@ -7,4 +7,4 @@ use Rattle.mono_cmd.proofs.best_text.push_never.Goals as goal
 pub returns : goal.returns
 returns c =
     let found = answer_text (answer.Refutation c.args.steps.now) in
-    c.in_ok-push_claim.ensures ∙ (ap (λ (t : List ℕ). t ++ found) c.in_ok-extend_from_slice.ensures.items ∙ append_assoc c.args.out.now.items (note (codes "never" ∷ [])) found)
+    c.in_ok-push_claim.ensures.ok ∙ (ap (λ (t : List ℕ). t ++ found) c.in_ok-extend_from_slice.ensures.items ∙ append_assoc c.args.out.now.items (note (codes "never" ∷ [])) found)

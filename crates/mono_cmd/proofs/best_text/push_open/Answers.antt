@@ -11,5 +11,5 @@ returns c =
     let progress = answer_text (answer.Progress c.args.steps.now) in
     let out = c.args.out.now.items in
     let line = c.in_ok-push_bound.ensures ∙ ap (λ (z : ℤ). out ++ note (codes "open" ∷ signed_decimal z ∷ [])) (to_z-of_z w64 c.args.bound c.ranges.bound) in
-    c.in_ok-push_claim.ensures
+    c.in_ok-push_claim.ensures.ok
     ∙ (ap (λ (t : List ℕ). t ++ progress) line ∙ append_assoc out (note (codes "open" ∷ signed_decimal c.args.bound ∷ [])) progress)

@@ -12,6 +12,6 @@ returns c =
     let tokens = numbers_text (with_zero lits) in
     let line : c.push.new.self.items ≡ out ++ core_line lits =
     c.in_ok-push.ensures.items
-    ∙ (ap (λ (t : List ℕ). t ++ 10 ∷ []) (c.in_ok-push_lits.ensures ∙ ap (λ (t : List ℕ). t ++ behind tokens) c.in_ok-extend_from_slice.ensures.items)
+    ∙ (ap (λ (t : List ℕ). t ++ 10 ∷ []) (c.in_ok-push_lits.ensures.ok ∙ ap (λ (t : List ℕ). t ++ behind tokens) c.in_ok-extend_from_slice.ensures.items)
     ∙ note_line out (codes "core") tokens) in
     c.in_ok-push_needs.ensures ∙ (ap (λ (t : List ℕ). t ++ needs_text lits c.args.needs.now) line ∙ append_assoc out (core_line lits) (needs_text lits c.args.needs.now))

@@ -11,5 +11,5 @@ returns c =
     let lit = signed_decimal c.args.lit in
     let tokens = numbers_text (with_zero (literals_from 1 c.args.values.now)) in
     c.in_ok-push.ensures.items
-    ∙ (ap (λ (t : List ℕ). t ++ 10 ∷ []) (c.in_ok-push_literals.ensures ∙ ap (λ (t : List ℕ). t ++ behind tokens) (c.in_ok-push_literal.ensures ∙ ap (λ (t : List ℕ). t ++ lit) c.in_ok-extend_from_slice.ensures.items))
+    ∙ (ap (λ (t : List ℕ). t ++ 10 ∷ []) (c.in_ok-push_literals.ensures.ok ∙ ap (λ (t : List ℕ). t ++ behind tokens) (c.in_ok-push_literal.ensures ∙ ap (λ (t : List ℕ). t ++ lit) c.in_ok-extend_from_slice.ensures.items))
     ∙ note_of_two out (codes "needed") lit tokens)

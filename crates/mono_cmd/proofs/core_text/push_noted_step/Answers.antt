@@ -5,4 +5,4 @@ use Rattle.mono_cmd.proofs.CoreLines.{noted_step}
 use Rattle.mono_cmd.proofs.core_text.push_noted_step.Goals as goal
 
 pub returns : goal.returns
-returns c = c.in_ok-push_step.ensures ∙ (ap (λ (t : List ℕ). t ++ spaced (step_line c.args.step.now)) c.in_ok-extend_from_slice.ensures.items ∙ noted_step c.args.out.now.items c.args.step.now)
+returns c = c.in_ok-push_step.ensures.ok ∙ (ap (λ (t : List ℕ). t ++ spaced (step_line c.args.step.now)) c.in_ok-extend_from_slice.ensures.items ∙ noted_step c.args.out.now.items c.args.step.now)

@@ -11,5 +11,5 @@ returns c =
     let out = c.args.out.now.items in
     let steps = c.args.steps.now in
     let line : c.push_status.new.out.items ≡ out ++ note (status_line kind.Progress) =
-    c.in_ok-push_status.ensures ∙ (ap (λ (t : List ℕ). t ++ spaced (status_line kind.Progress)) c.in_ok-extend_from_slice.ensures.items ∙ noted_status out) in
+    c.in_ok-push_status.ensures.ok ∙ (ap (λ (t : List ℕ). t ++ spaced (status_line kind.Progress)) c.in_ok-extend_from_slice.ensures.items ∙ noted_status out) in
     c.in_ok-push_steps.ensures ∙ (ap (λ (t : List ℕ). t ++ flat_map note (map step_line steps)) line ∙ progress_lines out steps)

@@ -16,6 +16,6 @@ returns c =
     let progress = flat_map note (answer_lines (answer.Progress c.args.steps.now)) in
     let line : c.push.new.self.items ≡ out ++ first =
     c.in_ok-push.ensures.items
-    ∙ (ap (λ (t : List ℕ). t ++ 10 ∷ []) (c.in_ok-push_lits.ensures ∙ ap (λ (t : List ℕ). t ++ behind tokens) (c.in_ok-push_literal.ensures ∙ ap (λ (t : List ℕ). t ++ lit) c.in_ok-extend_from_slice.ensures.items))
+    ∙ (ap (λ (t : List ℕ). t ++ 10 ∷ []) (c.in_ok-push_lits.ensures.ok ∙ ap (λ (t : List ℕ). t ++ behind tokens) (c.in_ok-push_literal.ensures ∙ ap (λ (t : List ℕ). t ++ lit) c.in_ok-extend_from_slice.ensures.items))
     ∙ note_of_two out (codes "open") lit tokens) in
     c.in_ok-push_progress.ensures ∙ (ap (λ (t : List ℕ). t ++ progress) line ∙ append_assoc out first progress)

@@ -8,4 +8,4 @@ pub returns : goal.returns
 returns c =
     let refutation = answer_text (answer.Refutation c.args.steps.now) in
     let front = core_line c.args.lits.now ++ needs_text c.args.lits.now c.args.needs.now in
-    c.in_ok-push_claim.ensures ∙ (ap (λ (t : List ℕ). t ++ refutation) c.in_ok-push_core.ensures ∙ append_assoc c.args.out.now.items front refutation)
+    c.in_ok-push_claim.ensures.ok ∙ (ap (λ (t : List ℕ). t ++ refutation) c.in_ok-push_core.ensures ∙ append_assoc c.args.out.now.items front refutation)

@@ -18,10 +18,22 @@ pub returns-clause-clause_false : goal.returns-clause-clause_false
 unfolding digits
 returns-clause-clause_false c = refl
 
+pub returns-clause-atom_wrong : goal.returns-clause-atom_wrong
+unfolding digits
+returns-clause-atom_wrong c = refl
+
 pub returns-clause-summary : goal.returns-clause-summary
 unfolding digits
 returns-clause-summary c = refl
 
+pub returns-clause-summary_of_a_model : goal.returns-clause-summary_of_a_model
+unfolding digits
+returns-clause-summary_of_a_model c = refl
+
 pub returns-clause-summary_of_progress : goal.returns-clause-summary_of_progress
 unfolding digits
 returns-clause-summary_of_progress c = refl
+
+pub returns-clause-sizes_of_a_problem : goal.returns-clause-sizes_of_a_problem
+unfolding digits
+returns-clause-sizes_of_a_problem c = refl

@@ -12,7 +12,7 @@ loop-done-init c = record { text = joined_none c.args.out.now.items (λ k. claus
 
 pub loop-done-preserved : goal.loop-done-preserved
 loop-done-preserved c = record {
-  text = c.in_ok-push_clause.ensures
+  text = c.in_ok-push_clause.ensures.ok
       ∙ clause_more c.args.out.now.items c.loop-done.out.items c.args.edges c.args.words.now c.loop-done.words c.loop-done._done _
       c.draw_clause-lits.ensures.value c.loop-done.invariant.next c.loop-done.invariant.text;
   next = c.draw_clause-lits.ensures.next ∙ (ap (λ (g : Lcg). after 5 g) c.loop-done.invariant.next ∙ after_five c.loop-done._done c.args.words.now);

@@ -11,7 +11,7 @@ loop-place-init c = record { text = joined_none c.args.out.now.items (edge_text 
 
 pub loop-place-preserved : goal.loop-place-preserved
 loop-place-preserved c = record {
-  text = c.in_ok-push_line.ensures
+  text = c.in_ok-push_line.ensures.ok
       ∙ edge_more c.args.out.now.items c.loop-place.out.items c.args.edges.now c.args.words.now c.loop-place.place _ _ _
       c.from.ensures c.from-in-loop-place.ensures
       (c.from-in-loop-place-2.ensures ∙ ap (λ (w : ℕ). 1 + w) (c.draw-weight.ensures.value ∙ ap (λ (g : Lcg). draw 9 g) c.loop-place.invariant.next))

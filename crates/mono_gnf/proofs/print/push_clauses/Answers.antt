@@ -12,4 +12,4 @@ loop-done-preserved c =
     let back : k + 1 - 1 ≡ k = omega arith in
     let read = ap (λ (lits : List ℤ). c.loop-done.out.items ++ spaced (clause_line lits)) (c.clause.ensures.clause ∙ ap (λ (k : ℕ). get_or cs k []) back) in
     let before = ap (λ (t : List ℕ). t ++ spaced (clause_line (get_or cs k []))) c.loop-done.invariant in
-    c.in_ok-push_clause.ensures ∙ (read ∙ (before ∙ lines-take clause_line c.args.out.now.items cs k [] less))
+    c.in_ok-push_clause.ensures.ok ∙ (read ∙ (before ∙ lines-take clause_line c.args.out.now.items cs k [] less))

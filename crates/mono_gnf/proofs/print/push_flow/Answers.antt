@@ -15,4 +15,4 @@ returns c =
     let line : c.word_of_least-word.result.now ∷ map decimal (c.args.id ∷ c.args.source ∷ c.args.sink ∷ c.args.var ∷ c.number_of_least-bound.result ∷ []) ≡ predicate_line c.args.id c.args.var (kind.Flow c.args.source c.args.sink c.args.least) =
     rw (word, bound) refl in
     let P : List (List ℕ) → Type 0 = λ l. OnOk c.push_line.result (c.push_line.new.out.items ≡ c.args.out.now.items ++ spaced l) in
-    subst P line c.push_line.ensures
+    subst P line c.push_line.ensures.ok

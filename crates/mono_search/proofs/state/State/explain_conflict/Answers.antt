@@ -1,6 +1,7 @@
 use Rattle.std.proofs.Common.{◌≡◌, subst}
 use Rattle.mono_problem.specs.WellFormed.{IsInstance}
 use Rattle.mono_search.proofs.Propagating.{explainable, pushed_journal, pushed_chains, pushed_conflict}
+use Rattle.mono_search.proofs.MoreSteps.{more_pushed}
 use Rattle.mono_search.proofs.state.State.explain_conflict.Goals as goal
 
 pub explain-requires-clause-within : goal.explain-requires-clause-within
@@ -35,3 +36,7 @@ returns-clause-conflict g c =
 pub returns-clause-chains : goal.returns-clause-chains
 returns-clause-chains g c =
     rw (← c.self.view_is) (pushed_chains c.push_lemma.result c.self.inside.journal c.push_lemma.new.self c.in_ok-lemma.lemma c.push_lemma.ensures.ok c.push_lemma.ensures.err)
+
+pub returns-clause-keeps : goal.returns-clause-keeps
+returns-clause-keeps g c =
+    rw (← c.self.view_is) (more_pushed c.push_lemma.result c.self.inside.journal c.push_lemma.new.self c.in_ok-lemma.lemma c.push_lemma.ensures.ok c.push_lemma.ensures.err)

@@ -1,4 +1,4 @@
-use Rattle.std.proofs.Common.{◌≡◌, ◌∙◌, ◌+◌, sym, ap, subst, min, drop}
+use Rattle.std.proofs.Common.{◌≡◌, ◌≤◌, ◌∙◌, ◌+◌, sym, ap, subst, min, drop, arith}
 use Rattle.std.specs.Prelude.{OnOk}
 use Rattle.mono_problem.specs.Instance.{Instance}
 use Rattle.mono_trail.specs.TrailView.{count_to}
@@ -9,6 +9,7 @@ use Rattle.mono_trail.specs.Order.{OrderView}
 use Rattle.mono_search.specs.Runs.{Releases, GoesBack}
 use Rattle.mono_search.proofs.Propagating.{state}
 use Rattle.mono_search.proofs.LearnedClauses.{asks_reasons, journal-added, learned_within, learned_rising, learned_follows, learned_open, learned_chains, analysed, added, on_ok, went_back}
+use Rattle.mono_search.proofs.MoreSteps.{more_lemmas, more_learned, count_lemmas}
 use Rattle.mono_search.proofs.state.State.learn.Goals as goal
 
 pub analyse-requires-clause-reasons : goal.analyse-requires-clause-reasons
@@ -67,3 +68,22 @@ returns-clause-back g c =
     let back = went_back analysis c.backjump.new.theories c.backjump.new.trail c.add.new.self c.backjump.new.order c.args.restarts c.level_after-level.result c.level_after-level.ensures.level c.backjump.ensures.trail
     (subst (λ (o : OrderView). Releases o c.backjump.new.order (drop (count_to c.level_after-level.result c.analyse.new.trail.marks) c.analyse.new.trail.lits)) c.bump_resolved.ensures c.backjump.ensures.order) in
     rw (← c.self.view_is) (on_ok c.add.result (GoesBack (state c.self.inside.theories c.self.inside.trail c.self.inside.store c.self.inside.journal c.self.inside.order) (state c.backjump.new.theories c.backjump.new.trail c.add.new.self c.analyse.new.journal c.backjump.new.order) c.args.restarts) back)
+
+pub returns-in_err-learnt-clause-keeps : goal.returns-in_err-learnt-clause-keeps
+returns-in_err-learnt-clause-keeps g c = rw (← c.self.view_is) (more_lemmas c.self.inside.journal c.analyse.new.journal c.in_err-learnt.ensures.err)
+
+pub returns-in_err-learnt-clause-within : goal.returns-in_err-learnt-clause-within
+returns-in_err-learnt-clause-within g c =
+    let same = count_lemmas c.self.inside.journal c.analyse.new.journal c.in_err-learnt.ensures.err in
+    let le : chain_count c.analyse.new.journal ≤ chain_count c.self.inside.journal + 1 = omega (arith, same) in
+    rw (← c.self.view_is) le
+
+pub returns-clause-keeps : goal.returns-clause-keeps
+returns-clause-keeps g c = rw (← c.self.view_is) (more_learned c.problem-problem.result.now c.self.inside.trail c.self.inside.journal c.analyse.new.journal c.in_ok-learnt.learnt c.in_ok-learnt.ensures.learns)
+
+pub returns-clause-within : goal.returns-clause-within
+returns-clause-within g c =
+    let analysis = analysed c.self.view_is c.requires.conflict c.requires.level c.problem-problem.ensures.problem c.in_ok-learnt.ensures.learns c.in_ok-learnt.ensures.settles c.in_ok-learnt.ensures.keeps c.level.ensures.sound in
+    let e = learned_chains analysis in
+    let le : chain_count c.analyse.new.journal ≤ chain_count c.self.inside.journal + 1 = omega (arith, e) in
+    rw (← c.self.view_is) le

@@ -2,6 +2,7 @@ use Rattle.std.proofs.Common.{◌≤◌, arith}
 use Rattle.mono_steps.specs.Journals.{chain_count}
 use Rattle.mono_search.proofs.Counting.{counted_none, counted_one}
 use Rattle.mono_search.proofs.LearnedClauses.{spent}
+use Rattle.mono_search.proofs.MoreSteps.{more_none}
 use Rattle.mono_search.proofs.state.State.resolve.Goals as goal
 
 pub returns-then-learned-budget-clause-ends : goal.returns-then-learned-budget-clause-ends
@@ -14,3 +15,6 @@ returns-then-learned-budget-clause-counted g c = λ on. counted_none c.args.self
 
 pub returns-clause-counted : goal.returns-clause-counted
 returns-clause-counted g c = λ on. counted_one (chain_count c.args.self.now.steps) (chain_count c.learn.new.self.steps) c.args.restarts.now c.count_clause.new.self c.count_clause.result c.in_ok-learn.ensures.chains c.count_clause.ensures
+
+pub returns-then-learned-budget-clause-keeps : goal.returns-then-learned-budget-clause-keeps
+returns-then-learned-budget-clause-keeps g c = more_none c.args.self.now.steps c.restart.new.self.steps c.restart.ensures.steps
