@@ -57,7 +57,7 @@ kept_like f t n o (Some c) same h =
     }
 
 edges_like : (f : Facts) {s : OrderedView} (n : ℕ) (t : List ℤ) → ((m : ℕ) → m ≤ n → take m t ≡ take m f.seen) → AreEdgesTo f n s → AreEdgesTo (record { graph = f.graph; atoms = f.atoms; seen = t }) n s
-edges_like f {s = s} n t same h = record { vars = h.vars; kept = kept_like f t n s.ordered s.closing same h.kept }
+edges_like f {s = s} n t same h = record { kept = kept_like f t n s.ordered s.closing same h.kept }
 
 -- what is right for the list that was cut is right for its first literals, and the other way about
 pub edges_in : (f : Facts) {s : OrderedView} (n : ℕ) → n ≤ length f.seen → AreEdgesTo (cut_to n f) (length (take n f.seen)) s → AreEdgesTo f n s
@@ -183,18 +183,18 @@ kept_none : (f : Facts) (n : ℕ) (o : PartWithOrder) (c : Option Closing) → i
 kept_none f n o None none h = h
 kept_none f n o (Some c) none h = absurd cc
 
-pub edges_on : (f : Facts) (n m : ℕ) (s : OrderedView) (o : PartWithOrder) → is_some s.closing ≡ false → AreEdgesTo f n s → IsOrderedTo f m o → AreEdgesTo f m (record { vars = s.vars; ordered = o; closing = s.closing })
-edges_on f n m s o none h ordered = record { vars = h.vars; kept = kept_none f m o s.closing none ordered }
+pub edges_on : (f : Facts) (m : ℕ) (s : OrderedView) (o : PartWithOrder) → is_some s.closing ≡ false → IsOrderedTo f m o → AreEdgesTo f m (record { ordered = o; closing = s.closing })
+edges_on f m s o none ordered = record { kept = kept_none f m o s.closing none ordered }
 
 -- the next literal brings no edge, or comes behind a cycle
 pub edges_still : (f : Facts) (n : ℕ) (s : OrderedView) → is_some s.closing ≡ false → sure_parts f (n + 1) ≡ sure_parts f n → AreEdgesTo f n s → AreEdgesTo f (n + 1) s
-edges_still f n s none same h = record { vars = h.vars; kept = kept_still f n s.ordered s.closing none same h.kept }
+edges_still f n s none same h = record { kept = kept_still f n s.ordered s.closing none same h.kept }
 
 pub edges_closed : (f : Facts) (n : ℕ) (s : OrderedView) → IsTrue (is_some s.closing) → AreEdgesTo f n s → AreEdgesTo f (n + 1) s
-edges_closed f n s some h = record { vars = h.vars; kept = kept_closed f n s.ordered s.closing some h.kept }
+edges_closed f n s some h = record { kept = kept_closed f n s.ordered s.closing some h.kept }
 
 pub edges_back : (f : Facts) (n kept : ℕ) (s : OrderedView) → kept ≤ n → ordered_count n s.closing < kept → AreEdgesTo f n s → AreEdgesTo f kept s
-edges_back f n kept s le lt h = record { vars = h.vars; kept = kept_back f n kept s.ordered s.closing le lt h.kept }
+edges_back f n kept s le lt h = record { kept = kept_back f n kept s.ordered s.closing le lt h.kept }
 
 -- ---- what it shows
 
@@ -248,9 +248,9 @@ edges_show f n m s c q ok is lt covered h = by q covered (subst (λ (o : Option 
 
 -- ---- the beginning
 
-pub edges_none : (f : Facts) (vs : List ℕ) (o : PartWithOrder) → vs ≡ edge_vars f.graph → length o.order ≡ f.graph.nodes → length o.part ≡ length f.graph.edges → ((k : ℕ) → present o.part k ≡ false) → IsTrue (is_order f.graph o.part o.order)
-    → AreEdgesTo (cut_to 0 f) 0 (record { vars = vs; ordered = o; closing = None })
-edges_none f vs o same size part_size none order = record { vars = same; kept = record { size = size; part_size = part_size; part = λ k. none k ∙ sym (none_sure (cut_to 0 f) k); order = order } }
+pub edges_none : (f : Facts) (o : PartWithOrder) → length o.order ≡ f.graph.nodes → length o.part ≡ length f.graph.edges → ((k : ℕ) → present o.part k ≡ false) → IsTrue (is_order f.graph o.part o.order)
+    → AreEdgesTo (cut_to 0 f) 0 (record { ordered = o; closing = None })
+edges_none f o size part_size none order = record { kept = record { size = size; part_size = part_size; part = λ k. none k ∙ sym (none_sure (cut_to 0 f) k); order = order } }
 
 -- ---- which atoms are due
 

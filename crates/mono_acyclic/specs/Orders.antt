@@ -1,17 +1,15 @@
 -- What is kept of the surely present edges: an order of the nodes in which each of them rises, or a cycle that one closed.
-use Rattle.std.specs.Prelude.{◌≡◌, ℕ, ◌+◌, ◌<◌, Bool, List, Option, Some, None, length, IsTrue}
+use Rattle.std.specs.Prelude.{◌≡◌, ℕ, ◌+◌, ◌<◌, Bool, Option, Some, None, length, IsTrue}
 use Rattle.std.specs.Option.{is_some}
 use Rattle.mono_graph.specs.Digraph.{present}
 use Rattle.mono_graph.specs.Cycles.{is_cycle, is_order}
 use Rattle.mono_cycles.specs.Kept.{PartWithOrder}
-use Rattle.mono_theory.specs.Bound.{edge_vars}
 use Rattle.mono_theory.specs.Theories.{Facts}
 use Rattle.mono_theory.specs.SureParts.{sure_parts}
 use Rattle.mono_acyclic.specs.declared.ordered_edges.Closing.{Closing}
 
--- the variables of the edges, edges with an order of the nodes, and the literal that closed a cycle, if one did
+-- edges with an order of the nodes, and the literal that closed a cycle, if one did
 pub record OrderedView : Type 0 where
-  pub vars : List ℕ
   pub ordered : PartWithOrder
   pub closing : Option Closing
 
@@ -40,7 +38,6 @@ IsKeptTo f n o (Some c) = IsClosed f n o c
 
 -- what is kept is right for the first n literals
 pub record AreEdgesTo (f : Facts) (n : ℕ) (s : OrderedView) : Type 0 where
-  pub vars : s.vars ≡ edge_vars f.graph
   pub kept : IsKeptTo f n s.ordered s.closing
 
 -- what is kept is right for all literals seen

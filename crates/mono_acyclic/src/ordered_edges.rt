@@ -8,7 +8,6 @@
 //! too.
 
 ghost use Rattle.std.specs.Prelude.{◌≡◌, ◌+◌, ◌<◌, ◌≤◌, true, length, int_lt, pos, slice_index_or, IfOk, OnErr};
-ghost use Rattle.mono_theory.specs.Bound.{edge_vars};
 ghost use Rattle.mono_acyclic.specs.Orders.{IsKeptTo, IsOrderedTo, ordered_count};
 
 use crate::acyclic::{Acyclic, cycle_evidence};
@@ -32,8 +31,6 @@ pub struct Closing {
 #[derive(Drop)]
 pub struct OrderedEdges {
     alloc: Global,
-    /// The edges of each variable. The bounds are those before any literal.
-    index: Bounds,
     /// The edges of the literals before the one that closed a cycle, or of all.
     ordered: OrderedPart,
     closing: Option<Closing>,
@@ -44,19 +41,17 @@ impl Model for OrderedEdges {
 
     ghost Value = { OrderedView };
 
-    ghost view = { λ s. record { vars = s.index.vars; ordered = s.ordered; closing = s.closing } };
+    ghost view = { λ s. record { ordered = s.ordered; closing = s.closing } };
 }
 
 /// The edges of the literal at a place come, which is positive. Where they close a cycle, they go again.
 fn advance(
     alloc: Global,
     frame: &Frame,
-    index: &Bounds,
     ordered: &mut OrderedPart,
     lit: Lit,
     at: usize,
 ) -> Result<Option<Closing>, AllocError>
-    requires vars { index.now.vars ≡ edge_vars frame.now.graph }
     requires ordered { IsOrderedTo frame.now at ordered.old }
     requires more { at < length frame.now.seen }
     requires next { slice_index_or frame.now.seen at lit ≡ lit }
@@ -66,7 +61,7 @@ fn advance(
 {
     let _ = frame.seen();
     let graph = frame.graph();
-    let places = index.places_of(lit.var());
+    let places = frame.edges_of(lit.var());
     if insert_all(ordered, graph, places) {
         return Ok(None);
     }
@@ -76,8 +71,7 @@ fn advance(
 }
 
 /// The edges of the literal at a place go.
-fn undo_last(frame: &Frame, index: &Bounds, ordered: &mut OrderedPart, at: usize)
-    requires vars { index.now.vars ≡ edge_vars frame.now.graph }
+fn undo_last(frame: &Frame, ordered: &mut OrderedPart, at: usize)
     requires ordered { IsOrderedTo frame.now (at + 1) ordered.old }
     requires at { at < length frame.now.seen }
     ensures { IsOrderedTo frame.now at ordered.new }
@@ -87,19 +81,12 @@ fn undo_last(frame: &Frame, index: &Bounds, ordered: &mut OrderedPart, at: usize
     // The variable of a literal isn't 0.
     let var = lit.var();
     if lit.is_positive() {
-        remove_all(ordered, index.places_of(var));
+        remove_all(ordered, frame.edges_of(var));
     }
 }
 
 /// The edges of the literals from the first `kept` on go.
-fn undo_edges_to(
-    frame: &Frame,
-    index: &Bounds,
-    ordered: &mut OrderedPart,
-    looked: usize,
-    kept: usize,
-)
-    requires vars { index.now.vars ≡ edge_vars frame.now.graph }
+fn undo_edges_to(frame: &Frame, ordered: &mut OrderedPart, looked: usize, kept: usize)
     requires ordered { IsOrderedTo frame.now looked ordered.old }
     requires looked { looked ≤ length frame.now.seen }
     requires kept { kept ≤ looked }
@@ -108,7 +95,7 @@ fn undo_edges_to(
     let mut at = looked;
     'back: while at > kept {
         at -= 1;
-        undo_last(frame, index, ordered, at);
+        undo_last(frame, ordered, at);
     }
 }
 
@@ -146,11 +133,9 @@ impl Rows<Acyclic> for OrderedEdges {
 
     fn of_frame(alloc: Global, frame: &Frame) -> Result<Self, AllocError> {
         let graph = frame.graph();
-        let index = Bounds::new(alloc, graph)?;
         let ordered = OrderedPart::new(alloc, graph.nodes(), graph.edge_count())?;
         Ok(OrderedEdges {
             alloc,
-            index,
             ordered,
             closing: None,
         })
@@ -173,7 +158,7 @@ impl Rows<Acyclic> for OrderedEdges {
             return Ok(());
         }
         let ordered = &mut self.ordered;
-        let Some(closing) = advance(self.alloc, frame, &self.index, ordered, lit, looked)? else {
+        let Some(closing) = advance(self.alloc, frame, ordered, lit, looked)? else {
             return Ok(());
         };
         self.closing = Some(closing);
@@ -199,7 +184,7 @@ impl Rows<Acyclic> for OrderedEdges {
             return;
         }
         self.closing = None;
-        undo_edges_to(frame, &self.index, &mut self.ordered, ordered, kept);
+        undo_edges_to(frame, &mut self.ordered, ordered, kept);
     }
 
     fn shows(&self, frame: &Frame, looked: usize, place: usize) -> bool {

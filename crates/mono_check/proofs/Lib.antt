@@ -12,8 +12,10 @@ pub mod ModelEnds
 pub mod AllTrue
 pub mod ValueRows
 pub mod ModelText
+pub mod PrintedValues
 pub mod Accepted
 mod Questions
+mod PartsByGraph
 pub mod HeldSteps
 pub mod BothVersions
 pub mod Shifted

@@ -1,5 +1,6 @@
 -- A text stands for one answer, and so is migrated to one text.
 use Rattle.std.proofs.Common.{◌≡◌, ℕ, ◌+◌, Bool, List, [], ◌∷◌, ◌++◌, length, map, flat_map, Option, Some, refl, sym, ap, ◌∙◌, ℤ, pos}
+use Rattle.std.specs.Prelude.{IsTrue}
 use Rattle.std.specs.List.{enumerate_from}
 use Rattle.std.proofs.lemmas.List.{append_cancel_right}
 use Rattle.mono_problem.specs.Instance.{Instance}
@@ -13,10 +14,14 @@ use Rattle.mono_answer.specs.declared.answer.Answer.{Answer}
 use Rattle.mono_answer.specs.declared.answer.Answer.TheVariants as answer
 use Rattle.mono_answer.specs.declared.version.Version.{Version}
 use Rattle.mono_answer.specs.Printed.{answer_text_as}
+use Rattle.mono_check.specs.declared.reason.Reason.{Reason}
+use Rattle.mono_check.specs.declared.verdict.Verdict.{Verdict}
+use Rattle.mono_check.specs.declared.verdict.Verdict.TheVariants as verdict
 use Rattle.mono_check.specs.Answers.{HasLines, HasSteps, HasModel, values_item, step_item}
 use Rattle.mono_check.specs.Values.{model_of}
-use Rattle.mono_check.specs.Migrations.{StandsFor, MigratesTo}
-use Rattle.mono_check.proofs.Accepted.{same_parts, steps_are_held}
+use Rattle.mono_check.specs.Verdicts.{IsVerdict}
+use Rattle.mono_check.specs.Migrations.{is_accepted, StandsFor, MigratesTo}
+use Rattle.mono_check.proofs.Accepted.{same_parts, steps_are_held, same_verdict}
 
 -- ---- a text has these steps
 
@@ -72,3 +77,13 @@ stands_once p text (answer.Progress ss) (answer.Progress ts) h k = ap answer.Pro
 pub migrates_once : (p : Instance) (text : List ℕ) (v : Version) (one other : List ℕ) → MigratesTo p text v one → MigratesTo p text v other → one ≡ other
 migrates_once p text v one other a b =
     a.is ∙ ap (λ (x : Answer). answer_text_as x v (length p.clauses)) (stands_once p text a.answer b.answer a.stands b.stands) ∙ sym b.is
+
+-- a text that is rejected isn't migrated
+pub never_both : (p : Instance) (text : List ℕ) (v : Version) (other : List ℕ) (n : ℕ) (r : Reason) → MigratesTo p text v other → IsVerdict p text (verdict.Rejected n r) → ⊥
+never_both p text v other n r m is = by_verdict m.verdict (same_verdict p text m.verdict (verdict.Rejected n r) m.judged is) m.accepted
+  where
+    by_verdict : (w : Verdict) → w ≡ verdict.Rejected n r → IsTrue (is_accepted w) → ⊥
+    by_verdict verdict.Model e h = absurd cc
+    by_verdict verdict.Refutation e h = absurd cc
+    by_verdict (verdict.Progress k) e h = absurd cc
+    by_verdict (verdict.Rejected k s) e h = absurd cc

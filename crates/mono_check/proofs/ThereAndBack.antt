@@ -1,4 +1,4 @@
--- An accepted answer that is migrated to version 2 and back is the same bytes again.
+-- What an accepted answer is migrated to says what it says, so that one that is migrated to version 2 and back is the same bytes again.
 use Rattle.std.proofs.Common.{◌≡◌, ◌≤◌, ◌<◌, ℕ, suc, ◌+◌, ◌-◌, ◌^◌, Bool, true, false, not, ◌&&◌, List, [], ◌∷◌, length, map, Option, Some, None, refl, sym, ap, subst, ◌∙◌, arith, pos}
 use Rattle.std.specs.Prelude.{IsTrue, nat_le, ◌==◌, if◌then◌else◌}
 use Rattle.std.specs.List.{list_all, slice_split}
@@ -24,15 +24,19 @@ use Rattle.mono_answer.specs.declared.version.Version.{Version}
 use Rattle.mono_answer.specs.declared.version.Version.TheVariants as version
 use Rattle.mono_answer.specs.Versions.{is_version_two, turned_numbers, turned, turned_steps, step_by, item_by, items_by, number_behind, all_name_earlier}
 use Rattle.mono_answer.specs.Items.{item_of, spoken_of, said_in, answer_said_in, items_of}
-use Rattle.mono_answer.specs.Printed.{with_zero, literals_from, answer_text, answer_text_as, is_literal, is_clause_number, is_step_within, is_within_format, is_within_format_as}
-use Rattle.mono_answer.proofs.RoundTrip.{printed_is_read, version_is_read}
+use Rattle.mono_answer.specs.Printed.{answer_text_as, answer_items, in_lines_as, is_literal, is_clause_number, is_step_within, is_within_format, is_within_format_as}
+use Rattle.mono_answer.proofs.RoundTrip.{version_is_read}
 use Rattle.mono_answer.proofs.Within.{IsWithinItem, item_within}
-use Rattle.mono_check.specs.Answers.{HasSteps, HasModel, values_item}
+use Rattle.mono_check.specs.declared.verdict.Verdict.{Verdict}
+use Rattle.mono_check.specs.declared.verdict.Verdict.TheVariants as verdict
+use Rattle.mono_check.specs.Answers.{HasSteps, HasModel}
 use Rattle.mono_check.specs.StepLines.{steps_in}
-use Rattle.mono_check.specs.Migrations.{StandsFor, MigratesTo}
-use Rattle.mono_check.proofs.Accepted.{steps_are_held, steps_justified}
+use Rattle.mono_check.specs.Verdicts.{IsVerdict}
+use Rattle.mono_check.specs.Migrations.{is_accepted, StandsFor, MigratesTo}
+use Rattle.mono_check.proofs.Accepted.{refutation_iff, progress_iff, model_iff, steps_are_held, steps_justified}
 use Rattle.mono_check.proofs.HeldSteps.{justified_earlier}
-use Rattle.mono_check.proofs.Stands.{has_steps, stands_once}
+use Rattle.mono_check.proofs.PrintedValues.{model_stands}
+use Rattle.mono_check.proofs.Stands.{has_steps, stands_once, migrates_once, never_both}
 
 -- ---- how many steps a text has
 
@@ -155,9 +159,13 @@ record IsWritable (c : ℕ) (a : Answer) : Type 0 where
   pub one : IsTrue (is_within_format a)
   pub two : IsTrue (is_within_format_as version.Two c a)
 
+-- a model gives a value to each variable
+as_many_values : (p : Instance) (text : List ℕ) (values : List Bool) → HasModel p text values → length values ≡ p.vars
+as_many_values p text values has = ap length has.true_where ∙ length-map-range_with_len (λ (x : ℕ). has_lit has.lits (pos x)) 1 p.vars
+
 model_writable : (p : Instance) (text : List ℕ) (values : List Bool) → IsInstance p → HasModel p text values → IsWritable (length p.clauses) (answer.Model values)
 model_writable p text values ok has =
-    let len : length values ≡ p.vars = ap length has.true_where ∙ length-map-range_with_len (λ (x : ℕ). has_lit has.lits (pos x)) 1 p.vars in
+    let len = as_many_values p text values has in
     let few : length values ≤ MAX_VARS = omega (arith, len, ok.vars) in
     let within : IsTrue (nat_le (length values) MAX_VARS) = le-leb (length values) MAX_VARS few in
     record { one = within; two = and_from (nat_le (length values) MAX_VARS) true within refl }
@@ -178,50 +186,61 @@ steps_writable p text k ss ok small has =
     subst (λ (xs : List Step). IsTrue (list_all is_step_within xs)) held (steps_within (items_of c text) (answer_within c (spoken_of text) (omega (arith, lines, small, ok.few_clauses)))) in
     record { one = within; two = all_turned_within (c + 1) ss (omega (arith, lines, items, steps, many, small, ok.few_clauses)) within }
 
--- ---- the text of version 2 stands for the same answer
+accepted_writable : (p : Instance) (text : List ℕ) (w : Verdict) (a : Answer) → IsInstance p → length text < 2 ^ 63 → IsTrue (is_accepted w) → IsVerdict p text w → StandsFor p text a → IsWritable (length p.clauses) a
+accepted_writable p text w (answer.Model values) ok small accepted judged h = model_writable p text values ok h
+accepted_writable p text w (answer.Refutation ss) ok small accepted judged h =
+    let r = steps_writable p text kind.Refutation ss ok small h in
+    let early = justified_earlier p p.clauses ss (steps_justified p text w true ss accepted judged h) in
+    record { one = r.one; two = and_from (list_all is_step_within (turned_steps (length p.clauses + 1) ss)) (all_name_earlier (length p.clauses + 1) ss) r.two early }
+accepted_writable p text w (answer.Progress ss) ok small accepted judged h =
+    let r = steps_writable p text kind.Progress ss ok small h in
+    let early = justified_earlier p p.clauses ss (steps_justified p text w false ss accepted judged h) in
+    record { one = r.one; two = and_from (list_all is_step_within (turned_steps (length p.clauses + 1) ss)) (all_name_earlier (length p.clauses + 1) ss) r.two early }
 
-model_there : (p : Instance) (values : List Bool) → IsWritable (length p.clauses) (answer.Model values) → HasModel p (answer_text (answer.Model values)) values
-    → HasModel p (answer_text_as (answer.Model values) version.Two (length p.clauses)) values
-model_there p values w has =
-    let c = length p.clauses in
-    let here = printed_is_read c (answer.Model values) w.one in
-    let zs = with_zero (literals_from 1 values) in
-    let same : has.lines ≡ (2, values_item zs) ∷ [] = (let both = sym has.behind.1 ∙ here in cc) in
-    record {
-      lines = (3, values_item zs) ∷ [];
-      rows = has.rows;
-      lits = has.lits;
-      behind = (2, version_is_read c (answer.Model values) version.Two w.two);
-      alone = ap (map (λ (l : ℕ × Option Item). l.1)) (sym same) ∙ has.alone;
-      numbers = has.numbers;
-      one_each = has.one_each;
-      true_where = has.true_where;
-    }
+-- ---- the printed text, in either version, stands for the same answer
 
-stands_there : (p : Instance) (a : Answer) → IsWritable (length p.clauses) a → StandsFor p (answer_text a) a → StandsFor p (answer_text_as a version.Two (length p.clauses)) a
-stands_there p (answer.Model values) w h = model_there p values w h
-stands_there p (answer.Refutation ss) w h =
-    has_steps (length p.clauses) 2 kind.Refutation (answer_text_as (answer.Refutation ss) version.Two (length p.clauses)) ss (version_is_read (length p.clauses) (answer.Refutation ss) version.Two w.two)
-stands_there p (answer.Progress ss) w h =
-    has_steps (length p.clauses) 2 kind.Progress (answer_text_as (answer.Progress ss) version.Two (length p.clauses)) ss (version_is_read (length p.clauses) (answer.Progress ss) version.Two w.two)
+steps_stand : (c : ℕ) (k : Kind) (a : Answer) (ss : List Step) (v : Version) → answer_items a ≡ says.Status k ∷ map says.Step ss → IsWritable c a → HasSteps c k (answer_text_as a v c) ss
+steps_stand c k a ss version.One is w =
+    has_steps c 1 k (answer_text_as a version.One c) ss (version_is_read c a version.One w.one ∙ ap (in_lines_as version.One) is)
+steps_stand c k a ss version.Two is w =
+    has_steps c 2 k (answer_text_as a version.Two c) ss (version_is_read c a version.Two w.two ∙ ap (in_lines_as version.Two) is)
 
-writable : (p : Instance) (text : List ℕ) (a : Answer) → IsInstance p → length text < 2 ^ 63 → MigratesTo p text version.One text → StandsFor p text a → IsWritable (length p.clauses) a
-writable p text (answer.Model values) ok small m h = model_writable p text values ok h
-writable p text (answer.Refutation ss) ok small m h =
-    let w = steps_writable p text kind.Refutation ss ok small h in
-    let early = justified_earlier p p.clauses ss (steps_justified p text m.verdict true ss m.accepted m.judged h) in
-    record { one = w.one; two = and_from (list_all is_step_within (turned_steps (length p.clauses + 1) ss)) (all_name_earlier (length p.clauses + 1) ss) w.two early }
-writable p text (answer.Progress ss) ok small m h =
-    let w = steps_writable p text kind.Progress ss ok small h in
-    let early = justified_earlier p p.clauses ss (steps_justified p text m.verdict false ss m.accepted m.judged h) in
-    record { one = w.one; two = and_from (list_all is_step_within (turned_steps (length p.clauses + 1) ss)) (all_name_earlier (length p.clauses + 1) ss) w.two early }
+printed_stands : (p : Instance) (text : List ℕ) (a : Answer) (v : Version) → IsInstance p → IsWritable (length p.clauses) a → StandsFor p text a → StandsFor p (answer_text_as a v (length p.clauses)) a
+printed_stands p text (answer.Model values) v ok w h = model_stands p values v ok (as_many_values p text values h)
+printed_stands p text (answer.Refutation ss) v ok w h = steps_stand (length p.clauses) kind.Refutation (answer.Refutation ss) ss v refl w
+printed_stands p text (answer.Progress ss) v ok w h = steps_stand (length p.clauses) kind.Progress (answer.Progress ss) ss v refl w
+
+-- ---- what an accepted answer is migrated to
+
+pub migrated_answer : (p : Instance) (text other : List ℕ) (v : Version) (a : Answer) → IsInstance p → length text < 2 ^ 63 → MigratesTo p text v other → StandsFor p text a → StandsFor p other a
+migrated_answer p text other v a ok small m h =
+    let w = accepted_writable p text m.verdict a ok small m.accepted m.judged h in
+    let is : other ≡ answer_text_as a v (length p.clauses) = m.is ∙ ap (λ (x : Answer). answer_text_as x v (length p.clauses)) (stands_once p text m.answer a m.stands h) in
+    subst (λ (t : List ℕ). StandsFor p t a) (sym is) (printed_stands p text a v ok w h)
+
+pub migrated_verdict : (p : Instance) (text other : List ℕ) (v : Version) (w : Verdict) → IsInstance p → length text < 2 ^ 63 → MigratesTo p text v other → IsVerdict p text w → IsVerdict p other w
+migrated_verdict p text other v verdict.Model ok small m h =
+    let (values, has, right) = (model_iff p text).0 h in
+    (model_iff p other).1 (values, migrated_answer p text other v (answer.Model values) ok small m has, right)
+migrated_verdict p text other v verdict.Refutation ok small m h =
+    let (ss, has, right) = (refutation_iff p text).0 h in
+    (refutation_iff p other).1 (ss, migrated_answer p text other v (answer.Refutation ss) ok small m has, right)
+migrated_verdict p text other v (verdict.Progress n) ok small m h =
+    let (ss, has, right, count) = (progress_iff p text n).0 h in
+    (progress_iff p other n).1 (ss, migrated_answer p text other v (answer.Progress ss) ok small m has, right, count)
+migrated_verdict p text other v (verdict.Rejected n r) ok small m h = absurd (never_both p text v other n r m h)
+
+pub migrated_again : (p : Instance) (text other third : List ℕ) (v w : Version) → IsInstance p → length text < 2 ^ 63 → MigratesTo p text v other → MigratesTo p text w third → MigratesTo p other w third
+migrated_again p text other third v w ok small m n = record {
+  verdict = n.verdict;
+  judged = migrated_verdict p text other v n.verdict ok small m n.judged;
+  accepted = n.accepted;
+  answer = n.answer;
+  stands = migrated_answer p text other v n.answer ok small m n.stands;
+  is = n.is;
+}
+
+-- ---- there and back
 
 pub there_and_back : (p : Instance) (text there back : List ℕ) → IsInstance p → length text < 2 ^ 63 → MigratesTo p text version.One text → MigratesTo p text version.Two there → MigratesTo p there version.One back → back ≡ text
-there_and_back p text there back ok small m n o =
-    let c = length p.clauses in
-    let a = m.answer in
-    let w = writable p text a ok small m m.stands in
-    let here : StandsFor p (answer_text a) a = subst (λ (t : List ℕ). StandsFor p t a) m.is m.stands in
-    let other : there ≡ answer_text_as a version.Two c = n.is ∙ ap (λ (x : Answer). answer_text_as x version.Two c) (stands_once p text n.answer a n.stands m.stands) in
-    let again : StandsFor p there a = subst (λ (t : List ℕ). StandsFor p t a) (sym other) (stands_there p a w here) in
-    o.is ∙ ap answer_text (stands_once p there o.answer a o.stands again) ∙ sym m.is
+there_and_back p text there back ok small m n o = migrates_once p there version.One back text o (migrated_again p text there text version.Two version.One ok small n m)

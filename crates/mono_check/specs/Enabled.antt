@@ -1,5 +1,5 @@
 -- The part of a graph that an assignment enables, and what searches it.
-use Rattle.std.specs.Prelude.{◌≡◌, ◌<◌, ◌↔◌, ℕ, Bool, IfSome, IsTrue, length}
+use Rattle.std.specs.Prelude.{◌≡◌, ◌<◌, ◌↔◌, ℕ, Bool, List, Option, None, IfSome, IsTrue, length, slice_index_or}
 use Rattle.mono_graph.specs.Digraph.{Digraph, enabled}
 use Rattle.mono_problem.specs.declared.atom.Predicate.TheVariants as kind
 use Rattle.mono_problem.specs.Instance.{Instance, graph_at}
@@ -19,3 +19,13 @@ pub record IsEnabled (p : Instance) (a : ℕ → Bool) (e : EnabledPart) : Type 
   pub known : e.graph < length p.graphs
   pub part : e.part ≡ enabled a (graph_at p e.graph)
   pub fits : FitsGraph (graph_at p e.graph) e
+
+-- it is that of the graph at a place
+pub record IsPartAt (p : Instance) (a : ℕ → Bool) (place : ℕ) (e : EnabledPart) : Type 0 where
+  pub graph : e.graph ≡ place
+  pub enabled : IsEnabled p a e
+
+-- by the graphs' places, those that are there
+pub record AreEnabled (p : Instance) (a : ℕ → Bool) (parts : List (Option EnabledPart)) : Type 0 where
+  pub len : length parts ≡ length p.graphs
+  pub each : (k : ℕ) → IfSome (slice_index_or parts k None) (IsPartAt p a k)

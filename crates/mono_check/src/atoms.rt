@@ -6,10 +6,10 @@
 ghost use Rattle.std.specs.Prelude.{◌≡◌, IfOk, OnOk, length};
 ghost use Rattle.mono_base.specs.Literal.{value_in};
 ghost use Rattle.mono_check.specs.Atoms.{IsWrongAtom};
-ghost use Rattle.mono_check.specs.Enabled.{IsEnabled};
+ghost use Rattle.mono_check.specs.Enabled.{AreEnabled};
 ghost use Rattle.mono_check.specs.Questions.{AreTruths};
 
-use crate::enabled::EnabledPart;
+use crate::parts::EnabledParts;
 use crate::question::{alike_count, questions_in_order};
 use mono_problem::Problem;
 use std::alloc::{AllocError, Global};
@@ -19,19 +19,19 @@ fn truths_of_walks(
     alloc: Global,
     problem: &Problem,
     model: &[bool],
-    part: &mut EnabledPart,
+    parts: &mut EnabledParts,
 ) -> Result<Vec<Option<bool>>, AllocError>
     requires model { length model.now ≡ problem.now.vars }
-    requires enabled { IsEnabled problem.now (value_in model.now) part.old }
+    requires parts { AreEnabled problem.now (value_in model.now) parts.old.parts.items }
     ensures truths { IfOk result (λ truths. AreTruths problem.now (value_in model.now) truths.items) }
-    ensures enabled { OnOk result (IsEnabled problem.now (value_in model.now) part.new) }
+    ensures parts { OnOk result (AreEnabled problem.now (value_in model.now) parts.new.parts.items) }
 {
     let mut truths = vec![in alloc; None; problem.atom_count() as usize]?;
     let questions = questions_in_order(alloc, problem)?;
     let mut rest = questions.as_slice();
     while !rest.is_empty() {
         let (alike, others) = rest.split_at(alike_count(rest));
-        part.decide(alloc, problem, model, alike, &mut truths)?;
+        parts.decide(alloc, problem, model, alike, &mut truths)?;
         rest = others;
     }
     Ok(truths)
@@ -39,21 +39,21 @@ fn truths_of_walks(
 
 /// The number of the first predicate whose variable has the wrong value, in the order of the predicates.
 ///
-/// It borrows the part, so that the part is dropped at one place only.
+/// It borrows the parts, so that they are dropped at one place only.
 fn first_wrong(
     alloc: Global,
     problem: &Problem,
     model: &[bool],
-    part: &mut EnabledPart,
+    parts: &mut EnabledParts,
 ) -> Result<Option<u32>, AllocError>
     requires model { length model.now ≡ problem.now.vars }
-    requires enabled { IsEnabled problem.now (value_in model.now) part.old }
+    requires parts { AreEnabled problem.now (value_in model.now) parts.old.parts.items }
     ensures { IfOk result (IsWrongAtom problem.now (value_in model.now)) }
 {
     let count = problem.atom_count();
-    let truths = truths_of_walks(alloc, problem, model, part)?;
+    let truths = truths_of_walks(alloc, problem, model, parts)?;
     for place in 0..count {
-        if !part.is_right(alloc, problem, model, place + 1, truths[place as usize])? {
+        if !parts.is_right(alloc, problem, model, place + 1, truths[place as usize])? {
             return Ok(Some(place + 1));
         }
     }
@@ -71,11 +71,6 @@ pub fn first_wrong_atom(
     requires { length model.now ≡ problem.now.vars }
     ensures { IfOk result (IsWrongAtom problem.now (value_in model.now)) }
 {
-    if problem.atom_count() == 0 {
-        return Ok(None);
-    }
-    let _ = problem.vars();
-    let first = problem.atom(1);
-    let mut part = EnabledPart::new(alloc, problem, model, first.graph)?;
-    first_wrong(alloc, problem, model, &mut part)
+    let mut parts = EnabledParts::new(alloc, problem)?;
+    first_wrong(alloc, problem, model, &mut parts)
 }

@@ -1,23 +1,19 @@
 //! The part of a graph that an assignment enables, and whether predicates hold in it.
 
-ghost use Rattle.std.specs.Prelude.{◌≡◌, ◌<◌, ◌≤◌, ◌↔◌, All, IsTrue, IfOk, IfSome, OnOk, length};
+ghost use Rattle.std.specs.Prelude.{◌≡◌, ◌<◌, ◌↔◌, All, IsTrue, IfOk, length};
 ghost use Rattle.mono_base.specs.Literal.{value_in};
-ghost use Rattle.mono_problem.specs.Instance.{graph_at};
+ghost use Rattle.mono_paths.specs.Asked.{AreAnswers, IsTarget};
 ghost use Rattle.mono_problem.specs.declared.atom.Predicate.TheVariants as kind;
 ghost use Rattle.mono_problem.specs.WellFormed.{IsOver};
-ghost use Rattle.mono_problem.specs.Holds.{Holds, HoldsAtom};
-ghost use Rattle.mono_problem.specs.Read.{atom_numbered};
-ghost use Rattle.mono_check.specs.Atoms.{IsJudged};
-ghost use Rattle.mono_check.specs.Enabled.{FitsGraph, IsEnabled};
-ghost use Rattle.mono_check.specs.Questions.{IsQuestion, AreAlike, AreTruths, question_at};
+ghost use Rattle.mono_problem.specs.Holds.{Holds};
+ghost use Rattle.mono_check.specs.Enabled.{FitsGraph, IsPartAt};
 
 use crate::predicates::{carries, is_acyclic, reaches, reaches_within, spans};
-use crate::question::{WalkQuestion, keep_answers, targets_of};
 use mono_cycles::CycleFinder;
 use mono_flows::FlowFinder;
-use mono_graph::{Graph, Limit, Part, enabled_edges, value_of};
-use mono_paths::WalkFinder;
-use mono_problem::{Atom, Predicate, Problem};
+use mono_graph::{Graph, Limit, Part, enabled_edges};
+use mono_paths::{Measure, Target, WalkFinder};
+use mono_problem::{Predicate, Problem};
 use mono_trees::TreeFinder;
 use std::alloc::{AllocError, Global};
 
@@ -25,7 +21,7 @@ use std::alloc::{AllocError, Global};
 #[derive(Drop)]
 pub(crate) struct EnabledPart {
     /// The place of the graph.
-    graph: u32,
+    pub graph: u32,
     part: Part,
     walks: WalkFinder,
     flows: FlowFinder,
@@ -45,8 +41,7 @@ impl EnabledPart {
     ) -> Result<EnabledPart, AllocError>
         requires model { length model.now ≡ problem.now.vars }
         requires place { place < length problem.now.graphs }
-        ensures enabled { IfOk result (IsEnabled problem.now (value_in model.now)) }
-        ensures graph { IfOk result (λ part. part.graph ≡ place) }
+        ensures { IfOk result (IsPartAt problem.now (value_in model.now) place) }
     {
         let _ = problem.vars();
         let graph = problem.graph(place);
@@ -61,26 +56,6 @@ impl EnabledPart {
             flows: FlowFinder::new(alloc, nodes)?,
             acyclic: None,
         })
-    }
-
-    /// Turns to the graph at a place. Nothing is done where it is that one already.
-    fn turn_to(
-        &mut self,
-        alloc: Global,
-        problem: &Problem,
-        model: &[bool],
-        place: u32,
-    ) -> Result<(), AllocError>
-        requires model { length model.now ≡ problem.now.vars }
-        requires place { place < length problem.now.graphs }
-        requires enabled { IsEnabled problem.now (value_in model.now) self.old }
-        ensures enabled { OnOk result (IsEnabled problem.now (value_in model.now) self.new) }
-        ensures graph { OnOk result (self.new.graph ≡ place) }
-    {
-        if self.graph != place {
-            *self = EnabledPart::new(alloc, problem, model, place)?;
-        }
-        Ok(())
     }
 
     /// Whether no walk of one edge or more in the part leads from a node to itself. One search answers all predicates that ask
@@ -101,7 +76,7 @@ impl EnabledPart {
     }
 
     /// Whether a predicate over the graph holds in the part.
-    fn holds(
+    pub(crate) fn holds(
         &mut self,
         alloc: Global,
         graph: &Graph,
@@ -133,94 +108,23 @@ impl EnabledPart {
         }
     }
 
-    /// Decides predicates on walks that one search answers, and keeps what was found by their places.
-    ///
-    /// One that is alone is left until its turn comes, since one before it may be wrong.
-    pub(crate) fn decide(
+    /// Which of the targets a walk of the part from a node leads to, each within its own bound: one answer for each.
+    pub(crate) fn which_are_reached(
         &mut self,
-        alloc: Global,
-        problem: &Problem,
-        model: &[bool],
-        questions: &[WalkQuestion],
-        truths: &mut Vec<Option<bool>>,
-    ) -> Result<(), AllocError>
-        requires model { length model.now ≡ problem.now.vars }
-        requires some { 0 < length questions.now }
-        requires questions { All (IsQuestion problem.now) questions.now }
-        requires alike { All (AreAlike (question_at questions.now 0)) questions.now }
-        requires enabled { IsEnabled problem.now (value_in model.now) self.old }
-        requires truths { AreTruths problem.now (value_in model.now) truths.old.items }
-        ensures enabled { OnOk result (IsEnabled problem.now (value_in model.now) self.new) }
-        ensures truths { OnOk result (AreTruths problem.now (value_in model.now) truths.new.items) }
+        graph: &Graph,
+        from: u32,
+        measure: Measure,
+        targets: &[Target],
+    ) -> Result<Vec<bool>, AllocError>
+        requires from { from < graph.now.nodes }
+        requires targets { All (IsTarget graph.now) targets.now }
+        requires fits { FitsGraph graph.now self.old }
+        ensures answers { IfOk result (λ answers. AreAnswers graph.now self.old.part measure from targets.now answers.items) }
+        ensures graph { self.new.graph ≡ self.old.graph }
+        ensures part { self.new.part ≡ self.old.part }
+        ensures fits { FitsGraph graph.now self.new }
     {
-        if questions.len() < 2 {
-            return Ok(());
-        }
-        let _ = problem.vars();
-        let first = questions[0];
-        self.turn_to(alloc, problem, model, first.graph)?;
-        let targets = targets_of(alloc, questions)?;
-        let answers = self.walks.which_are_reached(
-            problem.graph(first.graph),
-            &self.part,
-            first.from,
-            first.measure,
-            &targets,
-        )?;
-        keep_answers(truths, questions, &answers);
-        Ok(())
-    }
-
-    /// Whether the predicate of an atom holds, if that isn't known yet.
-    fn truth(
-        &mut self,
-        alloc: Global,
-        problem: &Problem,
-        model: &[bool],
-        atom: Atom,
-        known: Option<bool>,
-    ) -> Result<bool, AllocError>
-        requires model { length model.now ≡ problem.now.vars }
-        requires graph { atom.graph < length problem.now.graphs }
-        requires over { IsOver (graph_at problem.now atom.graph) atom.predicate }
-        requires enabled { IsEnabled problem.now (value_in model.now) self.old }
-        requires known { IfSome known (λ b. IsTrue b ↔ HoldsAtom problem.now (value_in model.now) atom) }
-        ensures holds { IfOk result (λ holds. IsTrue holds ↔ HoldsAtom problem.now (value_in model.now) atom) }
-        ensures enabled { OnOk result (IsEnabled problem.now (value_in model.now) self.new) }
-    {
-        if let Some(holds) = known {
-            return Ok(holds);
-        }
-        let _ = problem.vars();
-        self.turn_to(alloc, problem, model, atom.graph)?;
-        let holds = self.holds(alloc, problem.graph(atom.graph), atom.predicate)?;
-        Ok(holds)
-    }
-
-    /// Whether the variable of the predicate of this number is true exactly where the predicate holds.
-    pub(crate) fn is_right(
-        &mut self,
-        alloc: Global,
-        problem: &Problem,
-        model: &[bool],
-        number: u32,
-        known: Option<bool>,
-    ) -> Result<bool, AllocError>
-        requires model { length model.now ≡ problem.now.vars }
-        requires low { 0 < number }
-        requires high { number ≤ length problem.now.atoms }
-        requires enabled { IsEnabled problem.now (value_in model.now) self.old }
-        requires known { IfSome known (λ b. IsTrue b ↔ HoldsAtom problem.now (value_in model.now) (atom_numbered problem.now number)) }
-        ensures right { IfOk result (IsJudged problem.now (value_in model.now) (atom_numbered problem.now number)) }
-        ensures enabled { OnOk result (IsEnabled problem.now (value_in model.now) self.new) }
-    {
-        let _ = problem.vars();
-        let atom = problem.atom(number);
-        let holds = self.truth(alloc, problem, model, atom, known)?;
-        if value_of(model, atom.var) {
-            Ok(holds)
-        } else {
-            Ok(!holds)
-        }
+        self.walks
+            .which_are_reached(graph, &self.part, from, measure, targets)
     }
 }

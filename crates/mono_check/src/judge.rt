@@ -174,6 +174,9 @@ impl Judge {
         let mut rest = piece;
         'lines: while let Some((end, behind)) = split_line(rest) {
             self.end_line(problem, end)?;
+            if self.said.has_fault() {
+                return Ok(());
+            }
             rest = behind;
         }
         self.unfinished.extend_from_slice(rest)?;

@@ -9,11 +9,12 @@ ghost use Rattle.mono_steps.specs.Steps.{are_justified, is_refutation};
 ghost use Rattle.mono_steps.specs.declared.step.Step.{Step};
 ghost use Rattle.mono_answer.specs.declared.kind.Kind.TheVariants as kind;
 ghost use Rattle.mono_answer.specs.declared.answer.Answer.{Answer};
+ghost use Rattle.mono_answer.specs.declared.version.Version.{Version};
 ghost use Rattle.mono_answer.specs.declared.version.Version.TheVariants as version;
 ghost use Rattle.mono_answer.specs.Versions.{answer_names_earlier};
 ghost use Rattle.mono_answer.specs.Printed.{answer_text_as};
 ghost use Rattle.mono_check.specs.Answers.{HasModel, HasSteps};
-ghost use Rattle.mono_check.specs.Migrations.{FitsMemory, MigratesTo, one_line_later};
+ghost use Rattle.mono_check.specs.Migrations.{FitsMemory, MigratesTo, StandsFor, one_line_later};
 ghost use Rattle.mono_steps.specs.Journals.{chain_count};
 ghost use Rattle.mono_check.specs.Verdicts.{IsVerdict};
 ghost use Rattle.mono_check.specs.declared.verdict.Verdict.{Verdict};
@@ -61,9 +62,24 @@ pub fn versions_are_judged_alike()
         ↔ IsVerdict p (answer_text_as a version.Two (length p.clauses)) (one_line_later v) }
 {}
 
+/// What an accepted answer is migrated to, in either version, is accepted: it has the same verdict and stands for the same
+/// answer. So migrating it once more, to either version, gives what migrating the answer itself gives. The answer's text is no
+/// longer than any that memory holds.
+pub fn migrated_answers_are_accepted()
+    ensures verdict { (p : Instance) (text other : List ℕ) (v : Version) (w : Verdict) → IsInstance p → length text < 2 ^ 63
+        → MigratesTo p text v other → IsVerdict p text w → IsVerdict p other w }
+    ensures answer { (p : Instance) (text other : List ℕ) (v : Version) (a : Answer) → IsInstance p → length text < 2 ^ 63
+        → MigratesTo p text v other → StandsFor p text a → StandsFor p other a }
+    ensures again { (p : Instance) (text other third : List ℕ) (v w : Version) → IsInstance p → length text < 2 ^ 63
+        → MigratesTo p text v other → MigratesTo p text w third → MigratesTo p other w third }
+{}
+
 /// An accepted answer of version 1 in its printed form, which is the text that it is migrated to in version 1, gives the same
-/// bytes again once it was migrated to version 2 and back. The text is no longer than any that memory holds.
+/// bytes again once it was migrated to version 2 and back, and what it was migrated to is migrated back. The text is no longer
+/// than any that memory holds.
 pub fn migrated_there_and_back()
-    ensures { (p : Instance) (text there back : List ℕ) → IsInstance p → length text < 2 ^ 63 → MigratesTo p text version.One text
+    ensures same { (p : Instance) (text there back : List ℕ) → IsInstance p → length text < 2 ^ 63 → MigratesTo p text version.One text
         → MigratesTo p text version.Two there → MigratesTo p there version.One back → back ≡ text }
+    ensures comes_back { (p : Instance) (text there : List ℕ) → IsInstance p → length text < 2 ^ 63 → MigratesTo p text version.One text
+        → MigratesTo p text version.Two there → MigratesTo p there version.One text }
 {}

@@ -20,10 +20,12 @@ pub mod judge;
 mod held;
 /// What verdicts show.
 pub mod laws;
-/// Answers in the other version of the format.
+/// Accepted answers, printed in a version of the format.
 mod migration;
 /// What migrating an answer gives.
 mod migrated;
+/// The parts of a problem's graphs that an assignment enables.
+mod parts;
 /// Whether a predicate holds in a part.
 mod predicates;
 /// Predicates on walks, as they are asked of a search.

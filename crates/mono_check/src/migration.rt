@@ -1,4 +1,4 @@
-//! Answers in the other version of the format.
+//! Accepted answers, printed in a version of the format.
 
 ghost use Rattle.std.specs.Prelude.{IfOk};
 ghost use Rattle.mono_check.specs.Migrations.{IsMigrated};

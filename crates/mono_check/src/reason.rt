@@ -6,7 +6,7 @@ ghost use Rattle.mono_check.specs.Names.{reason_name};
 /// Why an answer is rejected.
 #[derive(Clone, Copy, Debug, PartialEq, Eq)]
 pub enum Reason {
-    /// The first line that isn't blank or a comment is no status line, or there is no such line.
+    /// The first line that is no blank line, comment or leading version line is no status line, or there is no such line.
     NotAnswer,
     /// The grammar has no such line here.
     BadLine,

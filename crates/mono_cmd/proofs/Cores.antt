@@ -64,7 +64,7 @@ satisfies_picked p a bs xs h =
 pub core_excludes : (p : Instance) (budget : ℕ) (assumed lits : List ℤ) (steps : List Step) (needs : List Need) → IsInstance p → All (IsLitWithin MAX_VARS) assumed → HasRoom p assumed
     → IsCore p budget assumed lits steps needs → HasNoModel (assuming p assumed)
 core_excludes p budget assumed lits steps needs ok within room core = λ a satisfies.
-    refutation_excludes (assuming p lits) steps (core_instance p budget assumed lits steps needs ok within room core) core.refutes a
+    refutation_excludes (assuming p lits) steps (core_instance p budget assumed lits steps needs ok within room core) core.refutes.refutes a
     (subst (λ (ls : List ℤ). Satisfies (assuming p ls) a) (sym core.is) (satisfies_picked p a core.kept assumed satisfies))
 
 -- ---- what `core` writes is accepted
@@ -100,7 +100,7 @@ pub core_narrows : (p : Instance) (budget : ℕ) (assumed lits : List ℤ) (step
 core_narrows p budget assumed lits steps needs ok within room few core = record {
   literals = within;
   right = core;
-  accepted = core_accepted (assuming p lits) lits steps needs (core_instance p budget assumed lits steps needs ok within room core) few core.refutes;
+  accepted = core_accepted (assuming p lits) lits steps needs (core_instance p budget assumed lits steps needs ok within room core) few core.refutes.refutes;
 }
 
 -- ---- two outcomes

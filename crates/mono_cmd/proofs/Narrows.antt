@@ -1,5 +1,5 @@
 -- What a run of `core` shows of the problem that FILE stands for, under the assumptions.
-use Rattle.std.proofs.Common.{◌≡◌, ◌⊎◌, ℕ, Bool, true, List, ◌++◌, Option, Some, ℤ, refl, ap, subst, inl, inr}
+use Rattle.std.proofs.Common.{◌≡◌, ◌<◌, ◌^◌, ◌⊎◌, ℕ, Bool, true, List, ◌++◌, Option, Some, ℤ, refl, ap, subst, inl, inr}
 use Rattle.mono_base.specs.Literal.{value_in}
 use Rattle.mono_problem.specs.Instance.{Instance}
 use Rattle.mono_problem.specs.WellFormed.{IsInstance}
@@ -38,19 +38,20 @@ narrowed_as p lits e (inr found) reply = absurd found
 abbrev Shows : Instance → List ℤ → Status → Type 0
 Shows p lits status.Satisfiable = (a : ℕ → Bool) × Satisfies (assuming p lits) a
 Shows p lits status.Unsatisfiable = HasNoModel (assuming p lits)
+Shows p lits status.Unknown = DEFAULT_BUDGET < 3 ^ (assuming p lits).vars
 Shows p lits s = Unit {0}
 
 outcome_shows : (p : Instance) (lits : List ℤ) (o : CoreOutcome) → IsInstance p → IsFound p lits o → Shows p lits (outcome_status o)
 outcome_shows p lits (outcome.Model values) ok h = (value_in values, h.1.right.satisfies)
 outcome_shows p lits (outcome.Core some steps needs) ok h = core_excludes p DEFAULT_BUDGET lits some steps needs ok h.1.literals h.0 h.1.right
-outcome_shows p lits (outcome.Unknown steps) ok h = tt
+outcome_shows p lits (outcome.Unknown steps) ok h = h.1.right.few
 
 -- what is said of its text
 its_text : (p : Instance) (lits : List ℤ) (o : CoreOutcome) → IsFound p lits o → IsCoreBy (outcome_status o) p lits (outcome_text o)
 its_text p lits (outcome.Model values) h = h.1.accepted
 its_text p lits (outcome.Core some steps needs) h = (some, needs, steps, h.1.right, refl, h.1.accepted)
 its_text p lits (outcome.Unknown steps) h =
-    subst (λ (n : ℕ). IsVerdict (assuming p lits) (outcome_text (outcome.Unknown steps)) (verdict.Progress n)) h.1.right.chains h.1.accepted
+    (steps, h.1.right, refl, subst (λ (n : ℕ). IsVerdict (assuming p lits) (outcome_text (outcome.Unknown steps)) (verdict.Progress n)) h.1.right.chains h.1.accepted)
 
 -- ---- as clauses of a run
 
@@ -70,6 +71,9 @@ module _ (found : Option Command) (old new : ShelfView) (s : Status) (before now
 
   pub core_unsatisfiable : s ≡ status.Unsatisfiable → HasNoModel (assuming p lits)
   core_unsatisfiable = shows status.Unsatisfiable refl
+
+  pub core_unknown : s ≡ status.Unknown → DEFAULT_BUDGET < 3 ^ (assuming p lits).vars
+  core_unknown = shows status.Unknown refl
 
   pub its_core : (there written : List ℕ) → before ≡ Some there → now ≡ Some (there ++ written) → IsCoreBy s p lits written
   its_core =

@@ -17,13 +17,9 @@ use Rattle.mono_gnf.specs.Printed.{printed}
 use Rattle.mono_gnf.specs.Stands.{Stands}
 use Rattle.mono_gnf.specs.declared.fault.GnfFault.{GnfFault}
 use Rattle.mono_answer.specs.declared.version.Version.{Version}
-use Rattle.mono_check.specs.declared.reason.Reason.{Reason}
-use Rattle.mono_check.specs.declared.verdict.Verdict.{Verdict}
 use Rattle.mono_check.specs.declared.verdict.Verdict.TheVariants as verdict
-use Rattle.mono_check.specs.Migrations.{MigratesTo, is_accepted}
-use Rattle.mono_check.specs.Verdicts.{IsVerdict}
 use Rattle.mono_check.proofs.Accepted.{same_verdict}
-use Rattle.mono_check.proofs.Stands.{migrates_once}
+use Rattle.mono_check.proofs.Stands.{migrates_once, never_both}
 use Rattle.mono_best.specs.Asking.{predicate_of, HasBoundedAtom, HasRoomToAsk}
 use Rattle.mono_best.specs.Bounds.{IsBoundOf}
 use Rattle.mono_best.specs.declared.outcome.BestOutcome.{BestOutcome}
@@ -92,15 +88,6 @@ one_judged p text (ending.Judged v) e' a b = absurd b
 one_judged p text e e' a b = absurd a
 
 -- ---- migrated answers
-
-never_both : (p : Instance) (text : List ℕ) (v : Version) (other : List ℕ) (n : ℕ) (r : Reason) → MigratesTo p text v other → IsVerdict p text (verdict.Rejected n r) → ⊥
-never_both p text v other n r m is = by_verdict m.verdict (same_verdict p text m.verdict (verdict.Rejected n r) m.judged is) m.accepted
-  where
-    by_verdict : (w : Verdict) → w ≡ verdict.Rejected n r → IsTrue (is_accepted w) → ⊥
-    by_verdict verdict.Model e h = absurd cc
-    by_verdict verdict.Refutation e h = absurd cc
-    by_verdict (verdict.Progress k) e h = absurd cc
-    by_verdict (verdict.Rejected k s) e h = absurd cc
 
 one_migrated : (p : Instance) (text : List ℕ) (v : Version) (e e' : Ending) → IsMigration p text v e → IsMigration p text v e' → e ≡ e'
 one_migrated p text v (ending.Printed s) (ending.Printed t) a b = ap ending.Printed (migrates_once p text v s t a b)

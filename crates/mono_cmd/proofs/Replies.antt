@@ -1,5 +1,5 @@
 -- What a run shows that ends with a reply: an ending of its command's own, behind what it reads.
-use Rattle.std.proofs.Common.{◌≡◌, Bool, true, false, ℕ, List, ◌++◌, Option, Some, None, IfSome, refl, sym, ap, subst, ◌∙◌, inl, inr}
+use Rattle.std.proofs.Common.{◌≡◌, ◌≤◌, Bool, true, false, ℕ, List, ◌++◌, length, Option, Some, None, IfSome, refl, sym, ap, subst, ◌∙◌, inl, inr}
 use Rattle.std.proofs.lemmas.List.{append_cancel_left}
 use Rattle.std.specs.Io.KnownBytes.{append_known}
 use Rattle.mono_problem.specs.Instance.{Instance}
@@ -19,7 +19,7 @@ use Rattle.mono_cmd.specs.declared.status.Status.TheVariants as status
 use Rattle.mono_cmd.specs.declared.ending.Ending.{Ending}
 use Rattle.mono_cmd.specs.declared.ending.Ending.TheVariants as ending
 use Rattle.mono_cmd.specs.Endings.{status_of, text_of, answer_status, verdict_status, outcome_status, best_status}
-use Rattle.mono_cmd.specs.Runs.{EndsAtText, EndsAtFile, WithProblem, HasProblem, ComesTo, Ends, Writes, Runs}
+use Rattle.mono_cmd.specs.Runs.{EndsAtText, EndsAtFile, WithText, WithProblem, HasProblem, ComesTo, Ends, Writes, Runs}
 use Rattle.mono_cmd.proofs.Stages.{ends_else, IsOwn, file_of, answer_of, limit_of, Stage, unread, at_file, behind_file, at_answer, behind_answer}
 
 -- ---- statuses
@@ -146,6 +146,20 @@ pub end_behind : (file text : List ℕ) (old new : ShelfView) (e : Ending) (p : 
     → WithProblem file old new e (λ q shelf. End q × (new ≡ shelf)) → End p
 end_behind file text old new e p End told stands reply (inl ends) = absurd (not_both (status_of e) (status_of e) refl reply (file_no_reply file old new e ends))
 end_behind file text old new e p End told stands reply (inr (q, read, has, end)) = subst End (its_problem file text old read p q told stands has) end.0
+
+-- that of one that reads ANSWER too is also one of the text that is told of ANSWER, which isn't beyond its limit
+pub end_behind_both : (file text name given : List ℕ) (limit : ℕ) (old new : ShelfView) (e : Ending) (p : Instance) (End : Instance → List ℕ → Type 0) → told_text old.texts file ≡ Some text → Stands text p
+    → told_text old.texts name ≡ Some given → is_reply (status_of e) ≡ true → WithProblem file old new e (λ q read. WithText name limit read new e (λ t shelf. End q t × (new ≡ shelf)))
+    → End p given × (length given ≤ limit)
+end_behind_both file text name given limit old new e p End told stands answered reply (inl ends) =
+    absurd (not_both (status_of e) (status_of e) refl reply (file_no_reply file old new e ends))
+end_behind_both file text name given limit old new e p End told stands answered reply (inr (q, read, has, inl ends)) =
+    absurd (not_both (status_of e) (status_of e) refl reply (text_no_reply name limit read new e ends))
+end_behind_both file text name given limit old new e p End told stands answered reply (inr (q, read, has, inr (t, shelf, whole, end))) =
+    let problem : q ≡ p = its_problem file text old read p q told stands has in
+    let held : IfSome old.texts (λ texts. text_named name texts ≡ Some t) = subst (λ (o : Option Texts). IfSome o (λ texts. text_named name texts ≡ Some t)) has.read.once.texts whole.whole in
+    let same : t ≡ given = same_text old.texts name given t answered held in
+    (subst (λ (u : List ℕ). End p u) same (subst (λ (r : Instance). End r t) problem end.0), subst (λ (u : List ℕ). length u ≤ limit) same whole.within)
 
 -- ---- what was written
 

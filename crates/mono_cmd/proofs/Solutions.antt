@@ -1,8 +1,7 @@
 -- `check` accepts what an answer's text says.
-use Rattle.std.proofs.Common.{◌≡◌, ℕ, ◌+◌, ◌<◌, ◌^◌, Bool, List, [], ◌∷◌, length, map, Option, Some, refl, sym, ap, ◌∙◌, arith, append-nil}
+use Rattle.std.proofs.Common.{◌≡◌, ℕ, ◌+◌, ◌<◌, ◌^◌, Bool, List, ◌∷◌, length, map, refl, ap, ◌∙◌, arith}
 use Rattle.std.specs.Prelude.{IsTrue}
-use Rattle.std.proofs.lemmas.Bool.{and_parts, le-leb}
-use Rattle.mono_base.specs.declared.limits.TheConstants.{MAX_VARS}
+use Rattle.std.proofs.lemmas.Bool.{and_parts}
 use Rattle.mono_problem.specs.Instance.{Instance}
 use Rattle.mono_problem.specs.WellFormed.{IsInstance}
 use Rattle.mono_steps.specs.declared.step.Step.{Step}
@@ -10,38 +9,26 @@ use Rattle.mono_steps.specs.Steps.{are_justified, ends_empty}
 use Rattle.mono_steps.specs.Journals.{chain_count}
 use Rattle.mono_answer.specs.declared.kind.Kind.{Kind}
 use Rattle.mono_answer.specs.declared.kind.Kind.TheVariants as kind
-use Rattle.mono_answer.specs.declared.item.Item.{Item}
 use Rattle.mono_answer.specs.declared.item.Item.TheVariants as says
 use Rattle.mono_answer.specs.declared.answer.Answer.{Answer}
 use Rattle.mono_answer.specs.declared.answer.Answer.TheVariants as answer
-use Rattle.mono_answer.specs.Printed.{literals_from, with_zero, answer_text, answer_items, in_lines, is_within_format}
+use Rattle.mono_answer.specs.declared.version.Version.TheVariants as version
+use Rattle.mono_answer.specs.Printed.{answer_text, answer_items, in_lines, is_within_format}
 use Rattle.mono_answer.proofs.RoundTrip.{printed_is_read}
 use Rattle.mono_check.specs.Answers.{HasSteps, HasModel}
 use Rattle.mono_check.proofs.Accepted.{refutation_iff, progress_iff, model_iff}
+use Rattle.mono_check.proofs.PrintedValues.{model_stands}
 use Rattle.mono_check.proofs.Stands.{has_steps}
 use Rattle.mono_search.specs.Outcomes.{HasModel as HasModelOf}
 use Rattle.mono_steps.specs.Trimmed.{IsTrimRefutation}
 use Rattle.mono_steps.specs.New.{IsProgress}
 use Rattle.mono_cmd.specs.Solved.{IsSolution}
-use Rattle.mono_cmd.proofs.Values.{one_each_there, model_is}
 use Rattle.mono_cmd.proofs.Format.{steps_within}
 
 -- ---- models
 
 pub printed_model : (p : Instance) (values : List Bool) → IsInstance p → length values ≡ p.vars → HasModel p (answer_text (answer.Model values)) values
-printed_model p values ok len = record {
-  lines = lines;
-  rows = with_zero (literals_from 1 values) ∷ [];
-  lits = literals_from 1 values;
-  behind = (1, printed_is_read (length p.clauses) (answer.Model values) (le-leb (length values) MAX_VARS (omega (arith, len, ok.vars))));
-  alone = refl;
-  numbers = append-nil (with_zero (literals_from 1 values));
-  one_each = one_each_there p values len;
-  true_where = sym (model_is p values len);
-}
-  where
-    lines : List (ℕ × Option Item)
-    lines = (2, Some (says.Values (with_zero (literals_from 1 values)))) ∷ []
+printed_model p values ok len = model_stands p values version.One ok len
 
 pub model_solves : (p : Instance) (budget : ℕ) (values : List Bool) → IsInstance p → HasModelOf p values → IsSolution p budget (answer.Model values)
 model_solves p budget values ok h = record {

@@ -39,12 +39,12 @@ solved_as : (p : Instance) (budget : ℕ) (e : Ending) → IsSolved p budget e �
 solved_as p budget (ending.Solved a) h = (a, refl, h)
 solved_as p budget e h = absurd h
 
--- the verdict on an answer's text
+-- what is said of its text
 its_text : (p : Instance) (budget : ℕ) (a : Answer) → IsSolution p budget a → IsVerdictBy (answer_status a) p budget (answer_text a)
 its_text p budget (answer.Model values) h = h.accepted
 its_text p budget (answer.Refutation steps) h = h.accepted
 its_text p budget (answer.Progress steps) h =
-    subst (λ (n : ℕ). IsVerdict p (answer_text (answer.Progress steps)) (verdict.Progress n)) h.right.chains h.accepted
+    (steps, h.right, refl, subst (λ (n : ℕ). IsVerdict p (answer_text (answer.Progress steps)) (verdict.Progress n)) h.right.chains h.accepted)
 
 -- ---- as clauses of a run
 

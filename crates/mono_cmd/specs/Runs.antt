@@ -257,14 +257,16 @@ Solves found texts p budget = RunsOver found (λ file. command.Solve file budget
 abbrev pub Narrows : Option Command → Option Texts → Instance → List ℤ → Type 0
 Narrows found texts p lits = RunsOver found (λ file. command.Core file lits) texts p
 
--- what `core` writes with this status: with a model or progress what `check-with` accepts under all assumptions, and else the text of
--- a core and what it accepts under that
+-- what `core` writes with this status: what `check-with` accepts as a model under all assumptions, the text of a core, which it accepts
+-- as a refutation under that, or progress under all of them, which it accepts as that
 abbrev pub IsCoreBy : Status → Instance → List ℤ → List ℕ → Type 0
 IsCoreBy status.Satisfiable p lits text = IsVerdict (assuming p lits) text verdict.Model
 IsCoreBy status.Unsatisfiable p lits text =
     (some : List ℤ) × (needs : List Need) × (steps : List Step) × IsCore p DEFAULT_BUDGET lits some steps needs
     × (text ≡ outcome_text (outcome.Core some steps needs)) × IsVerdict (assuming p some) text verdict.Refutation
-IsCoreBy status.Unknown p lits text = IsVerdict (assuming p lits) text (verdict.Progress DEFAULT_BUDGET)
+IsCoreBy status.Unknown p lits text =
+    (steps : List Step) × IsProgress (assuming p lits) DEFAULT_BUDGET steps
+    × (text ≡ outcome_text (outcome.Unknown steps)) × IsVerdict (assuming p lits) text (verdict.Progress DEFAULT_BUDGET)
 IsCoreBy s p lits text = Unit {0}
 
 -- `best` runs, and FILE is told and stands for the problem
@@ -288,15 +290,31 @@ IsBestBy status.Unknown p n text =
     × (text ≡ best_text (bounded.Unknown b steps)) × IsVerdict (asking p n b) text (verdict.Progress DEFAULT_BUDGET)
 IsBestBy s p n text = Unit {0}
 
+-- `print` runs, and FILE is told and stands for the problem
+abbrev pub Prints : Option Command → Option Texts → Instance → Type 0
+Prints found texts p = RunsOver found (λ file. command.Print file) texts p
+
+-- `migrate` runs to this version, FILE is told and stands for the problem, and this is the text that is told of ANSWER
+pub record Migrates (found : Option Command) (texts : Option Texts) (p : Instance) (given : List ℕ) (v : Version) : Type 0 where
+  pub file : List ℕ
+  pub answer : List ℕ
+  pub is : found ≡ Some (command.Migrate file answer v)
+  pub text : List ℕ
+  pub told : told_text texts file ≡ Some text
+  pub stands : Stands text p
+  pub answered : told_text texts answer ≡ Some given
+
 -- `ask` runs, and FILE is told and stands for the problem
 abbrev pub Asks : Option Command → Option Texts → Instance → ℕ → ℤ → Type 0
 Asks found texts p n b = RunsOver found (λ file. command.Ask file n b) texts p
 
--- the verdict of `check` on a text that was written with this status
+-- what `solve` writes with this status: what `check` accepts as a model or as a refutation, or progress of the whole budget, which it
+-- accepts as that
 abbrev pub IsVerdictBy : Status → Instance → ℕ → List ℕ → Type 0
 IsVerdictBy status.Satisfiable p budget text = IsVerdict p text verdict.Model
 IsVerdictBy status.Unsatisfiable p budget text = IsVerdict p text verdict.Refutation
-IsVerdictBy status.Unknown p budget text = IsVerdict p text (verdict.Progress budget)
+IsVerdictBy status.Unknown p budget text =
+    (steps : List Step) × IsProgress p budget steps × (text ≡ answer_text (answer.Progress steps)) × IsVerdict p text (verdict.Progress budget)
 IsVerdictBy s p budget text = Unit {0}
 
 -- `gen` with `--solve` runs, and the generated input stands for the problem

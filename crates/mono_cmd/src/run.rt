@@ -20,11 +20,14 @@ ghost use Rattle.mono_steps.specs.declared.step.Step.{Step};
 ghost use Rattle.mono_problem.specs.Holds.{HasNoModel, Satisfies};
 ghost use Rattle.mono_gnf.specs.Faults.{first_fault};
 ghost use Rattle.mono_gnf.specs.Stands.{Stands};
+ghost use Rattle.mono_answer.specs.declared.version.Version.{Version as VersionOf};
+ghost use Rattle.mono_check.specs.Migrations.{MigratesTo};
+ghost use Rattle.mono_check.specs.Verdicts.{IsVerdict};
 ghost use Rattle.mono_cmd.specs.declared.command.TheConstants.{DEFAULT_BUDGET, MAX_MIGRATED_BYTES, MAX_ROUNDS, MAX_WORKERS};
 ghost use Rattle.mono_cmd.specs.declared.summary.Summary.{Summary as SummaryOf};
 ghost use Rattle.mono_cmd.specs.Solved.{IsSummary};
 ghost use Rattle.mono_cmd.specs.Commands.{command_of, files_of};
-ghost use Rattle.mono_cmd.specs.Runs.{Ends, IsOutOfMemory, EndsAtFile, IsGenerated, SolvesGenerated, IsSummaryBy, HasProblem, IsBestBy, Bounds, Asks, IsCoreBy, Narrows, Runs, Writes, Solves, IsVerdictBy, CheckWrote, CheckWithWrote, IsCarriedOut, EachReached, IsHeld, IsHeldWithin, begun_for};
+ghost use Rattle.mono_cmd.specs.Runs.{Ends, IsOutOfMemory, EndsAtFile, IsGenerated, SolvesGenerated, IsSummaryBy, HasProblem, IsBestBy, Bounds, Asks, IsCoreBy, Migrates, Narrows, Prints, Runs, Writes, Solves, IsVerdictBy, CheckWrote, CheckWithWrote, IsCarriedOut, EachReached, IsHeld, IsHeldWithin, begun_for};
 ghost use Rattle.mono_cmd.specs.Teams.{PlaysTeam, IsTeamTextBy};
 
 use crate::asking::{ask_ending, best_ending};
@@ -71,8 +74,9 @@ use std::alloc::{AllocError, Global};
 /// - `TooLong` comes only for a file with more bytes than its limit: the shelf's place is limit + 1 then.
 /// - `WriteFault` comes only where exactly one write failed; a prefix of the text that was due was written.
 /// - With `Memory` nothing was written, no call of the shelf or the sink had failed, and of the file that was begun last no
-///   byte beyond its limit was read. It never comes in place of `Words`, `ReadFault`, `TooLong` or `Printed`, nor of an
-///   accepted model or refutation or a bound that is refused: those texts take no memory.
+///   byte beyond its limit was read. It never comes in place of `Words`. Once the run has come to `ReadFault`, `TooLong`, a
+///   text that is printed, an accepted model or refutation, or a bound that is refused, it doesn't come any more: their texts
+///   take no memory.
 pub fn run<S: Shelf, K: Sink>(alloc: Global, words: &[String], shelf: &mut S, out: &mut K) -> Status
     // The run comes to an ending in the order above, and writes its text.
     ensures runs { Runs (command_of (map string_bytes words.now)) (S.seen shelf.old) (S.seen shelf.new) result (K.written out.old) (K.written out.new) }
@@ -84,7 +88,7 @@ pub fn run<S: Shelf, K: Sink>(alloc: Global, words: &[String], shelf: &mut S, ou
     ensures memory { result ≡ Status.Memory → K.written out.new ≡ K.written out.old }
     ensures given_up { result ≡ Status.Memory → IsOutOfMemory (command_of (map string_bytes words.now)) (S.seen shelf.old) (S.seen shelf.new) }
 
-    // Each file is begun once at most.
+    // No file is begun twice for one word.
     ensures begun { (S.seen shelf.new).begun ≤ begun_for (files_of (command_of (map string_bytes words.now))) (S.seen shelf.old).begun }
     ensures too_long { result ≡ Status.TooLong
         → ((S.seen shelf.new).place ≡ Some (MAX_INPUT_BYTES + 1)) ⊎ ((S.seen shelf.new).place ≡ Some (MAX_ANSWER_BYTES + 1))
@@ -100,7 +104,7 @@ pub fn run<S: Shelf, K: Sink>(alloc: Global, words: &[String], shelf: &mut S, ou
         → result ≢ Status.WriteFault → result ≢ Status.Memory → IsSomeAnd (command_of (map string_bytes words.now)) (λ c. IsCarriedOut c result) }
 
     // `solve`: an assignment satisfies the problem that FILE stands for; none does; the budget is below 3^V. What was
-    // written has the verdict that `check` gives it.
+    // written, and the verdict that `check` gives it.
     ensures satisfiable { (p : Instance) (budget : ℕ) → Solves (command_of (map string_bytes words.now)) (S.seen shelf.old).texts p budget
         → result ≡ Status.Satisfiable → (a : ℕ → Bool) × Satisfies p a }
     ensures unsatisfiable { (p : Instance) (budget : ℕ) → Solves (command_of (map string_bytes words.now)) (S.seen shelf.old).texts p budget
@@ -119,12 +123,14 @@ pub fn run<S: Shelf, K: Sink>(alloc: Global, words: &[String], shelf: &mut S, ou
     ensures summary { (p : Instance) (there written : List ℕ) → SolvesGenerated (command_of (map string_bytes words.now)) p
         → K.written out.old ≡ Some there → K.written out.new ≡ Some (there ++ written) → IsSummaryBy result p written }
 
-    // `core`: an assignment satisfies the problem under all assumptions; none does; what was written, and the verdict that
-    // `check-with` gives it.
+    // `core`: an assignment satisfies the problem under all assumptions; none does; the budget is below 3 to the number of that
+    // problem's variables. What was written, and the verdict that `check-with` gives it.
     ensures core_satisfiable { (p : Instance) (lits : List ℤ) → Narrows (command_of (map string_bytes words.now)) (S.seen shelf.old).texts p lits
         → result ≡ Status.Satisfiable → (a : ℕ → Bool) × Satisfies (assuming p lits) a }
     ensures core_unsatisfiable { (p : Instance) (lits : List ℤ) → Narrows (command_of (map string_bytes words.now)) (S.seen shelf.old).texts p lits
         → result ≡ Status.Unsatisfiable → HasNoModel (assuming p lits) }
+    ensures core_unknown { (p : Instance) (lits : List ℤ) → Narrows (command_of (map string_bytes words.now)) (S.seen shelf.old).texts p lits
+        → result ≡ Status.Unknown → DEFAULT_BUDGET < 3 ^ (assuming p lits).vars }
     ensures core { (p : Instance) (lits : List ℤ) (there written : List ℕ)
         → Narrows (command_of (map string_bytes words.now)) (S.seen shelf.old).texts p lits → K.written out.old ≡ Some there
         → K.written out.new ≡ Some (there ++ written) → IsCoreBy result p lits written }
@@ -138,6 +144,16 @@ pub fn run<S: Shelf, K: Sink>(alloc: Global, words: &[String], shelf: &mut S, ou
         → result ≡ Status.Unsatisfiable → IsNeverMet p n }
     ensures best_unknown { (p : Instance) (n : ℕ) → Bounds (command_of (map string_bytes words.now)) (S.seen shelf.old).texts p n
         → result ≡ Status.Unknown → DEFAULT_BUDGET < 3 ^ (p.vars + 1) }
+
+    // `print`: what was written stands for the problem that FILE stands for.
+    ensures printed { (p : Instance) (there written : List ℕ) → Prints (command_of (map string_bytes words.now)) (S.seen shelf.old).texts p
+        → result ≡ Status.Printed → K.written out.old ≡ Some there → K.written out.new ≡ Some (there ++ written) → Stands written p }
+
+    // `migrate`: what was written is what ANSWER is migrated to, and `check` gives it the verdict that accepts ANSWER.
+    ensures migrated { (p : Instance) (answer there written : List ℕ) (v : VersionOf)
+        → Migrates (command_of (map string_bytes words.now)) (S.seen shelf.old).texts p answer v → result ≡ Status.Printed
+        → K.written out.old ≡ Some there → K.written out.new ≡ Some (there ++ written)
+        → (m : MigratesTo p answer v written) × IsVerdict p written m.verdict }
 
     // `ask`: what was written stands for the problem that asks for the bound.
     ensures asked { (p : Instance) (n : ℕ) (b : ℤ) (there written : List ℕ)

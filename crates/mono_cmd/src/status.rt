@@ -3,7 +3,7 @@
 ghost use Rattle.std.specs.Prelude.{◌≡◌};
 ghost use Rattle.mono_cmd.specs.Statuses.{code_of};
 
-/// How a run ends. Each status has a number of its own kind that the process ends with.
+/// How a run ends. The process ends with the number of its status; `Unknown`, `Accepted` and `Printed` share 0.
 #[derive(Clone, Copy, Debug, PartialEq, Eq)]
 pub enum Status {
     /// A satisfying model was found.

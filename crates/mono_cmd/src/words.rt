@@ -34,9 +34,7 @@ pub fn command(alloc: Global, words: &[String]) -> Result<Option<Command>, Alloc
 
 /// The command of words that name no assumptions.
 fn short_command(alloc: Global, words: &[String]) -> Result<Option<Command>, AllocError>
-    ensures form { IfOk result (λ found. found ≡ short (map string_bytes words.now)) }
-    ensures ranges { IfOk result (λ found. IfSome found IsWithinRange) }
-    ensures err { OnErr result (IsSome (short (map string_bytes words.now))) }
+    ensures { Tells (short (map string_bytes words.now)) result }
 {
     match words {
         [verb, file] => file_command(alloc, verb.as_str(), file.as_str()),
@@ -228,7 +226,7 @@ fn size(word: &str) -> Option<u32>
     }
 }
 
-/// The seed that a word is: a natural.
+/// The seed that a word is: a natural up to 2^64 - 1.
 fn seed(word: &str) -> Option<u64>
     ensures { result ≡ seed_named word.now }
 {
@@ -441,9 +439,7 @@ fn are_lits(words: &[String]) -> bool
 
 /// `core FILE LIT..`, of the words behind `core`.
 fn core_command(alloc: Global, words: &[String]) -> Result<Option<Command>, AllocError>
-    ensures form { IfOk result (λ found. found ≡ core_of (map string_bytes words.now)) }
-    ensures ranges { IfOk result (λ found. IfSome found IsWithinRange) }
-    ensures err { OnErr result (IsSome (core_of (map string_bytes words.now))) }
+    ensures { Tells (core_of (map string_bytes words.now)) result }
 {
     let [file, lits @ ..] = words else {
         return Ok(None);
@@ -463,9 +459,7 @@ fn core_command(alloc: Global, words: &[String]) -> Result<Option<Command>, Allo
 
 /// `check-with FILE ANSWER LIT..`, of the words behind `check-with`.
 fn check_with_command(alloc: Global, words: &[String]) -> Result<Option<Command>, AllocError>
-    ensures form { IfOk result (λ found. found ≡ check_with_of (map string_bytes words.now)) }
-    ensures ranges { IfOk result (λ found. IfSome found IsWithinRange) }
-    ensures err { OnErr result (IsSome (check_with_of (map string_bytes words.now))) }
+    ensures { Tells (check_with_of (map string_bytes words.now)) result }
 {
     let [file, answer, lits @ ..] = words else {
         return Ok(None);

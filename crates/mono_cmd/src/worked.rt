@@ -19,7 +19,7 @@ ghost use Rattle.mono_answer.specs.declared.version.Version.TheVariants as versi
 ghost use Rattle.mono_cmd.specs.Commands.{command_of, files_of};
 ghost use Rattle.mono_cmd.specs.Statuses.{code_of};
 ghost use Rattle.mono_cmd.specs.Endings.{status_of, text_of, progress_text, unread_ending, unjudged_ending, refused_ending};
-ghost use Rattle.mono_cmd.specs.Runs.{Writes, CheckWrote, IsHeld, IsHeldWithin, HasNoFault, EachReached, IsCarriedOut, AreAlike, Solves, SolvesGenerated, begun_for, summary_of};
+ghost use Rattle.mono_cmd.specs.Runs.{Writes, CheckWrote, IsHeld, IsHeldWithin, HasNoFault, EachReached, IsCarriedOut, AreAlike, Migrates, Prints, Solves, SolvesGenerated, begun_for, summary_of};
 ghost use Rattle.mono_cmd.specs.Teams.{PlaysTeam};
 ghost use Rattle.mono_cmd.specs.Worked.{empty_problem};
 
@@ -284,6 +284,23 @@ pub fn worked_told()
     ensures other_problem { ¬ Solves (Some (command.Solve (codes "f") 7)) (Some ((codes "f", codes "") ∷ [])) one_clause 7 }
     ensures untold { ¬ Solves (Some (command.Solve (codes "f") 7)) None empty_problem 7 }
     ensures missing { ¬ Solves (Some (command.Solve (codes "f") 7)) (Some []) empty_problem 7 }
+    ensures print { Prints (Some (command.Print (codes "f"))) (Some ((codes "f", codes "") ∷ [])) empty_problem }
+    ensures print_of_another { ¬ Prints (Some (command.Print (codes "g"))) (Some ((codes "f", codes "") ∷ [])) empty_problem }
+    ensures print_of_none { ¬ Prints (Some (command.Ask (codes "f") 1 (pos 4))) (Some ((codes "f", codes "") ∷ [])) empty_problem }
+    ensures migrate { Migrates (Some (command.Migrate (codes "f") (codes "a") version.Two)) (Some ((codes "f", codes "") ∷ (codes "a", codes "x") ∷ []))
+        empty_problem (codes "x") version.Two }
+    ensures other_version { ¬ Migrates (Some (command.Migrate (codes "f") (codes "a") version.Two)) (Some ((codes "f", codes "")
+        ∷ (codes "a", codes "x") ∷ [])) empty_problem (codes "x") version.One }
+    ensures other_answer { ¬ Migrates (Some (command.Migrate (codes "f") (codes "a") version.Two)) (Some ((codes "f", codes "")
+        ∷ (codes "a", codes "x") ∷ [])) empty_problem (codes "") version.Two }
+    ensures missing_answer { ¬ Migrates (Some (command.Migrate (codes "f") (codes "a") version.Two)) (Some ((codes "f", codes "") ∷ []))
+        empty_problem (codes "") version.Two }
+    ensures answer_to_another { ¬ Migrates (Some (command.Migrate (codes "f") (codes "a") version.Two)) (Some ((codes "f", codes "")
+        ∷ (codes "a", codes "x") ∷ [])) one_clause (codes "x") version.Two }
+    ensures missing_file { ¬ Migrates (Some (command.Migrate (codes "f") (codes "a") version.Two)) (Some ((codes "a", codes "x") ∷ []))
+        empty_problem (codes "x") version.Two }
+    ensures judged_alone { ¬ Migrates (Some (command.Check (codes "f") (codes "a"))) (Some ((codes "f", codes "") ∷ (codes "a", codes "x") ∷ []))
+        empty_problem (codes "x") version.Two }
     ensures team { PlaysTeam (Some (command.Team (codes "f") 2 3)) (Some ((codes "f", codes "") ∷ [])) empty_problem 2 3 }
     ensures exchanged { ¬ PlaysTeam (Some (command.Team (codes "f") 2 3)) (Some ((codes "f", codes "") ∷ [])) empty_problem 3 2 }
     ensures not_solved { (p : Instance) → ¬ SolvesGenerated (Some (command.Gen kind.Wall 2 7 false)) p }

@@ -1,24 +1,28 @@
 //! Rows that were worked by hand: words that are assumptions, what `core` writes, and how runs under assumptions end.
 
-ghost use Rattle.std.specs.Prelude.{◌≡◌, ℕ, ℤ, pos, negsuc, true, false, List, [], ◌∷◌, length, Option, Some, None, codes};
+ghost use Rattle.std.specs.Prelude.{◌≡◌, ℕ, ℤ, pos, negsuc, true, false, List, [], ◌∷◌, ◌++◌, length, Option, Some, None, codes};
 ghost use Rattle.mono_base.specs.declared.limits.TheConstants.{MAX_CLAUSES, MAX_LITERALS};
 ghost use Rattle.mono_io.specs.Shelf.{Texts, told_text};
-ghost use Rattle.mono_problem.specs.Assuming.{HasRoom};
+ghost use Rattle.mono_problem.specs.Assuming.{assuming, HasRoom};
 ghost use Rattle.mono_problem.specs.Instance.{Instance, literals_total};
 ghost use Rattle.mono_gnf.specs.Stands.{Stands};
 ghost use Rattle.mono_gnf.specs.declared.fault.GnfFault.TheVariants as fault;
+ghost use Rattle.mono_steps.specs.New.{IsProgress};
 ghost use Rattle.mono_steps.specs.WorkedLemmas.{chain, minus};
+ghost use Rattle.mono_steps.specs.declared.step.Step.{Step};
 ghost use Rattle.mono_answer.specs.declared.answer.Answer.TheVariants as answer;
 ghost use Rattle.mono_search.specs.Worked.{first_learned, two_clauses};
+ghost use Rattle.mono_check.specs.Verdicts.{IsVerdict};
 ghost use Rattle.mono_check.specs.declared.verdict.Verdict.TheVariants as verdict;
 ghost use Rattle.mono_core.specs.Worked.{one_clause};
 ghost use Rattle.mono_core.specs.declared.outcome.Need.TheVariants as need;
 ghost use Rattle.mono_core.specs.declared.outcome.CoreOutcome.TheVariants as outcome;
 ghost use Rattle.mono_cmd.specs.declared.command.Command.TheVariants as command;
+ghost use Rattle.mono_cmd.specs.declared.command.TheConstants.{DEFAULT_BUDGET};
 ghost use Rattle.mono_cmd.specs.declared.status.Status.TheVariants as status;
 ghost use Rattle.mono_cmd.specs.declared.ending.Ending.TheVariants as ending;
 ghost use Rattle.mono_cmd.specs.Commands.{IsWithinRange, assumptions_of, command_of, lits_of};
-ghost use Rattle.mono_cmd.specs.CoreTexts.{core_line, need_text, needs_text};
+ghost use Rattle.mono_cmd.specs.CoreTexts.{core_line, need_text, needs_text, outcome_text};
 ghost use Rattle.mono_cmd.specs.Endings.{TakesMemory, status_of, text_of};
 ghost use Rattle.mono_cmd.specs.Solved.{IsNarrowing, judged_under, outcome_verdict};
 ghost use Rattle.mono_cmd.specs.Runs.{AreAlike, CheckWithWrote, EachReached, HasNoFaultWith, IsBeyond, IsCarriedOut, IsCoreBy, IsHeld, IsNarrowed, IsSolving, Narrows};
@@ -108,6 +112,11 @@ pub fn worked_findings()
     ensures other_text { IsCoreBy status.Satisfiable one_clause (pos 2 ∷ []) (codes "s SATISFIABLE\nv 1 -2 0\n") → ⊥ }
     ensures core_that_is_not_assumed { IsCoreBy status.Unsatisfiable one_clause [] (codes "c core -1 0\nc needed -1 1 0\ns UNSATISFIABLE\nchain 0 1 2\n") → ⊥ }
     ensures progress_of_one_chain { IsCoreBy status.Unknown two_clauses (pos 3 ∷ []) (codes "s UNKNOWN\nchain 1 0 1 2\n") → ⊥ }
+    ensures progress_written { (p : Instance) (lits : List ℤ) (steps : List Step) → IsProgress (assuming p lits) DEFAULT_BUDGET steps
+        → IsVerdict (assuming p lits) (outcome_text (outcome.Unknown steps)) (verdict.Progress DEFAULT_BUDGET)
+        → IsCoreBy status.Unknown p lits (outcome_text (outcome.Unknown steps)) }
+    ensures line_before_progress { (rest : List ℕ) → IsCoreBy status.Unknown two_clauses (pos 3 ∷ []) (codes "c" ++ rest) → ⊥ }
+    ensures too_few_variables { (text : List ℕ) → IsCoreBy status.Unknown one_clause (pos 1 ∷ []) text → ⊥ }
     ensures core_without_a_refutation { IsCoreBy status.Unsatisfiable one_clause (minus 1 ∷ []) (codes "c core -1 0\nc needed -1 1 0\ns UNSATISFIABLE\n") → ⊥ }
     ensures core_without_a_line { IsCoreBy status.Unsatisfiable one_clause (minus 1 ∷ []) (codes "s UNSATISFIABLE\nchain 0 1 2\n") → ⊥ }
 {}

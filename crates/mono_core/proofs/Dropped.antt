@@ -4,7 +4,7 @@ use Rattle.std.specs.Prelude.{IsTrue, slice_get, nat_le, replicate, option_map}
 use Rattle.std.specs.List.{list_all, list_any}
 use Rattle.std.proofs.lemmas.Bool.{and_parts, or_left, or_right, leb-true, leb-false}
 use Rattle.std.proofs.lemmas.Option.{same_Some, slice_get_within, slice_get-map, slice_get-get_or}
-use Rattle.std.proofs.lemmas.List.{length-replicate, get_or_append_left, get_or_push}
+use Rattle.std.proofs.lemmas.List.{length-map, length-replicate, get_or_append_left, get_or_push}
 use Rattle.mono_problem.specs.Assuming.{assuming}
 use Rattle.mono_problem.specs.Growth.{greatest_var}
 use Rattle.mono_problem.specs.Instance.{Instance, numbered}
@@ -12,12 +12,12 @@ use Rattle.mono_problem.proofs.Assumed.{assuming-clauses}
 use Rattle.mono_steps.specs.declared.step.Step.{Step}
 use Rattle.mono_steps.specs.declared.step.Step.TheVariants as step
 use Rattle.mono_steps.specs.Needed.{is_set, StepNamesHeld}
-use Rattle.mono_steps.specs.Renumbering.{pick, rank, has_number, names_number, names_step, steps_with_numbers, MayBeCarried}
+use Rattle.mono_steps.specs.Renumbering.{pick, rank, has_number, names_number, names_step, with_numbers, steps_with_numbers, MayBeCarried}
 use Rattle.mono_steps.specs.Steps.{clause_of, are_justified, ends_empty, is_refutation}
-use Rattle.mono_steps.specs.Trimmed.{renumbered}
+use Rattle.mono_steps.specs.Trimmed.{renumbered, IsNamedLater, IsTrimRefutation}
 use Rattle.mono_steps.proofs.CarriedSteps.{carried_refutes}
 use Rattle.mono_steps.proofs.NeededSteps.{names_held, names_below}
-use Rattle.mono_steps.proofs.Ranks.{rank_zero, set_within, length_pick, pick_get, renumbered_low, renumbered_high}
+use Rattle.mono_steps.proofs.Ranks.{rank_zero, set_within, length_pick, pick_get, has_mapped, renumbered_low, renumbered_high}
 use Rattle.mono_steps.proofs.StepLists.{numbered_more}
 use Rattle.mono_core.specs.Cores.{AreAmong, IsRefuted}
 use Rattle.mono_core.specs.Dropped.{is_over, are_over, AreNamed, AreNarrowed, steps_without}
@@ -134,10 +134,15 @@ some_steps : (p : Instance) (ss : List Step) → IsTrue (is_refutation p ss) →
 some_steps p [] r = let no = (and_parts (are_justified p []) (ends_empty []) r).1 in absurd cc
 some_steps p (s ∷ ss) r = omega arith
 
+-- where all steps stay, each has its place
+all_stay : (f : ℕ → ℕ) (ss : List Step) → steps_with_numbers f (replicate (length ss) true) ss ≡ map (with_numbers f) ss
+all_stay f [] = refl
+all_stay f (s ∷ ss) = ap (λ (ts : List Step). with_numbers f s ∷ ts) (all_stay f ss)
+
 -- ---- the refutation without the assumptions that it doesn't name
 
 module _ (p : Instance) (lits : List ℤ) (named : List Bool) (steps : List Step) (flags : AreNamed (length p.clauses) (length lits) steps named)
-    (refutes : IsTrue (is_refutation (assuming p lits) steps)) (over : IsTrue (are_over (greatest_var p.vars (pick named lits)) steps)) where
+    (trim : IsTrimRefutation (assuming p lits) steps) (over : IsTrue (are_over (greatest_var p.vars (pick named lits)) steps)) where
   abbrev count : ℕ
   count = length p.clauses
 
@@ -149,6 +154,9 @@ module _ (p : Instance) (lits : List ℤ) (named : List Bool) (steps : List Step
 
   abbrev after : Instance
   after = assuming p (pick named lits)
+
+  refutes : IsTrue (is_refutation before steps)
+  refutes = trim.refutes
 
   abbrev all : List Bool
   all = replicate (length steps) true
@@ -203,8 +211,33 @@ module _ (p : Instance) (lits : List ℤ) (named : List Bool) (steps : List Step
         ap number e ∙ renumbered_high count (named ++ all) (length lits + k) ∙ sums;
   }
 
-  pub dropped_refutes : IsTrue (is_refutation after (steps_with_numbers number all steps))
+  dropped_refutes : IsTrue (is_refutation after (steps_with_numbers number all steps))
   dropped_refutes = carried_refutes before after all number steps may_be_carried (length-replicate (length steps) true) (all_set (length steps) (length steps - 1) (omega (arith, some_steps before steps refutes))) refutes
+
+  -- what names a step names it by its new number
+  names_new : (s : Step) (k : ℕ) → k < length steps → IsTrue (names_step (length before.clauses) s k) → IsTrue (names_step (length after.clauses) (with_numbers number s) k)
+  names_new (step.Lemma l) k lt h = h
+  names_new (step.Chain d) k lt h =
+      let place : number (length before.clauses + 1 + k) ≡ length after.clauses + 1 + k = may_be_carried.places k lt ∙ ap (λ (n : ℕ). length after.clauses + 1 + n) (rank_all (length steps) k (omega (arith, lt))) in
+      subst (λ (n : ℕ). IsTrue (has_number (map number d.used) n)) place (has_mapped number d.used (length before.clauses + 1 + k) h)
+
+  still_named : (k : ℕ) → IsNamedLater (length before.clauses) steps k → IsNamedLater (length after.clauses) (map (with_numbers number) steps) k
+  still_named k h = record {
+    later = h.later;
+    after = h.after;
+    step = with_numbers number h.step;
+    is = slice_get-map (with_numbers number) steps h.later ∙ ap (option_map (with_numbers number)) h.is;
+    names = names_new h.step k (omega (arith, h.after, slice_get_within steps h.later h.step h.is)) h.names;
+  }
+
+  pub dropped_trim : IsTrimRefutation after (steps_with_numbers number all steps)
+  dropped_trim = record {
+    refutes = dropped_refutes;
+    named = λ k lt.
+        let stay = all_stay number steps in
+        let within : k + 1 < length steps = omega (arith, lt, ap (λ (ss : List Step). length ss) stay, length-map steps (with_numbers number)) in
+        subst (λ (ss : List Step). IsNamedLater (length after.clauses) ss k) (sym stay) (still_named k (trim.named k within));
+  }
 
 -- ---- some of the assumptions, without those that the refutation doesn't name
 
@@ -213,8 +246,8 @@ pub shrunk_refuted : (p : Instance) (assumed : List ℤ) (kept named new : List 
 shrunk_refuted p assumed kept named new steps fewer r flags narrow over is =
     let same : pick new assumed ≡ pick named (pick kept assumed) = narrowed_pick kept named new assumed narrow in
     let here : IsTrue (are_over (greatest_var p.vars (pick named (pick kept assumed))) steps) = subst (λ (ls : List ℤ). IsTrue (are_over (greatest_var p.vars ls) steps)) same over in
-    let there = dropped_refutes p (pick kept assumed) named steps flags r.refutes here in
+    let there = dropped_trim p (pick kept assumed) named steps flags r.refutes here in
     record {
       as_many = narrow.as_many ∙ r.as_many;
-      refutes = subst (λ (ls : List ℤ). IsTrue (is_refutation (assuming p ls) fewer)) (sym same) (subst (λ (ss : List Step). IsTrue (is_refutation (assuming p (pick named (pick kept assumed))) ss)) (sym is) there);
+      refutes = subst (λ (ls : List ℤ). IsTrimRefutation (assuming p ls) fewer) (sym same) (subst (λ (ss : List Step). IsTrimRefutation (assuming p (pick named (pick kept assumed))) ss) (sym is) there);
     }

@@ -56,7 +56,7 @@ has_model p budget assumed kept j (need.Tried tried steps) h m = absurd m
 
 minimal : (p : Instance) (budget : ℕ) (assumed lits : List ℤ) (steps : List Step) (needs : List Need) → IsInstance (assuming p lits) → IsCore p budget assumed lits steps needs → All IsModelNeed needs → IsMinimal p lits
 minimal p budget assumed lits steps needs ok c models = record {
-  none = refutation_excludes (assuming p lits) steps ok c.refutes;
+  none = refutation_excludes (assuming p lits) steps ok c.refutes.refutes;
   others = λ k lt.
       let at = picked c.kept assumed k (subst (λ (ls : List ℤ). k < length ls) c.is lt) in
       let j = at.place in

@@ -1,6 +1,6 @@
 -- Needs, one after the other, and of a core from which more is dropped.
 use Rattle.std.proofs.Common.{◌≡◌, ◌≢◌, ℕ, zero, suc, ◌+◌, ◌-◌, ◌<◌, ◌≤◌, Bool, true, false, List, [], ◌∷◌, ◌++◌, length, take, get_or, refl, sym, ap, subst, ◌∙◌, arith, ℤ, Option, Some, None, ltb, length-append, length-take}
-use Rattle.std.specs.Prelude.{slice_set, slice_index_or, replicate, IsTrue}
+use Rattle.std.specs.Prelude.{slice_set, slice_index_or, replicate}
 use Rattle.std.proofs.lemmas.Bool.{ltb-true, ltb-false}
 use Rattle.std.proofs.lemmas.List.{take_more, get_or_append_left, get_or_push, length-replicate}
 use Rattle.mono_problem.specs.Instance.{Instance}
@@ -9,7 +9,7 @@ use Rattle.mono_steps.specs.Needed.{is_set}
 use Rattle.mono_core.specs.declared.outcome.Need.{Need}
 use Rattle.mono_core.specs.declared.outcome.Need.TheVariants as need
 use Rattle.mono_steps.specs.declared.step.Step.{Step}
-use Rattle.mono_steps.specs.Steps.{is_refutation}
+use Rattle.mono_steps.specs.Trimmed.{IsTrimRefutation}
 use Rattle.mono_steps.proofs.Ranks.{length_pick, rank_le}
 use Rattle.mono_search.specs.Outcomes.{HasModel}
 use Rattle.mono_steps.specs.New.{IsProgress}
@@ -169,8 +169,8 @@ pick_all : (xs : List ℤ) → pick (replicate (length xs) true) xs ≡ xs
 pick_all [] = refl
 pick_all (x ∷ xs) = ap (λ (ys : List ℤ). x ∷ ys) (pick_all xs)
 
-pub refuted_whole : (p : Instance) (assumed : List ℤ) (steps : List Step) → IsTrue (is_refutation (assuming p assumed) steps) → IsRefuted p assumed (replicate (length assumed) true) steps
+pub refuted_whole : (p : Instance) (assumed : List ℤ) (steps : List Step) → IsTrimRefutation (assuming p assumed) steps → IsRefuted p assumed (replicate (length assumed) true) steps
 refuted_whole p assumed steps h = record {
   as_many = length-replicate (length assumed) true;
-  refutes = subst (λ (ls : List ℤ). IsTrue (is_refutation (assuming p ls) steps)) (sym (pick_all assumed)) h;
+  refutes = subst (λ (ls : List ℤ). IsTrimRefutation (assuming p ls) steps) (sym (pick_all assumed)) h;
 }

@@ -1,15 +1,15 @@
--- Minimal sets of assumptions under which a problem has no model.
-use Rattle.std.specs.Prelude.{◌≡◌, ◌≢◌, ℕ, suc, ◌-◌, ◌<◌, ◌≤◌, Bool, true, false, ℤ, List, [], ◌∷◌, length, slice_set, slice_index_or, Option, Some, None, IsTrue}
+-- Sets of assumptions under which a problem has no model, made as small as the budget allows.
+use Rattle.std.specs.Prelude.{◌≡◌, ◌≢◌, ℕ, suc, ◌-◌, ◌<◌, ◌≤◌, Bool, true, false, ℤ, List, [], ◌∷◌, length, slice_set, slice_index_or, Option, Some, None}
 use Rattle.mono_base.specs.Literal.{value_in}
 use Rattle.mono_problem.specs.Instance.{Instance}
 use Rattle.mono_problem.specs.Holds.{Satisfies}
 use Rattle.mono_steps.specs.declared.step.Step.{Step}
-use Rattle.mono_steps.specs.Steps.{is_refutation}
 use Rattle.mono_steps.specs.Renumbering.{pick}
 use Rattle.mono_steps.specs.Needed.{is_set}
 use Rattle.mono_search.specs.Outcomes.{HasModel}
 use Rattle.mono_problem.specs.Assuming.{assuming}
 use Rattle.mono_steps.specs.New.{IsProgress}
+use Rattle.mono_steps.specs.Trimmed.{IsTrimRefutation}
 use Rattle.mono_core.specs.declared.outcome.Need.{Need}
 use Rattle.mono_core.specs.declared.outcome.Need.TheVariants as need
 use Rattle.mono_core.specs.declared.outcome.CoreOutcome.{CoreOutcome}
@@ -44,12 +44,13 @@ AreNeeds N j (true ∷ kept) (n ∷ ns) = N j n × AreNeeds N (suc j) kept ns
 
 -- ---- cores
 
--- some of the assumptions, in order, with a refutation under them, and a need for each
+-- some of the assumptions, in order, with a refutation under them each of whose steps but the last is named later, and a need for
+-- each of them
 pub record IsCore (p : Instance) (budget : ℕ) (assumed lits : List ℤ) (steps : List Step) (needs : List Need) : Type 0 where
   pub kept : List Bool
   pub as_many : length kept ≡ length assumed
   pub is : lits ≡ pick kept assumed
-  pub refutes : IsTrue (is_refutation (assuming p lits) steps)
+  pub refutes : IsTrimRefutation (assuming p lits) steps
   pub needed : AreNeeds (IsNeed p budget assumed kept) 0 kept needs
 
 abbrev pub IsOutcome : Instance → ℕ → List ℤ → CoreOutcome → Type 0
@@ -62,7 +63,7 @@ IsOutcome p budget assumed (outcome.Unknown steps) = IsProgress (assuming p assu
 -- a refutation under the assumptions whose flag is set
 pub record IsRefuted (p : Instance) (assumed : List ℤ) (kept : List Bool) (steps : List Step) : Type 0 where
   pub as_many : length kept ≡ length assumed
-  pub refutes : IsTrue (is_refutation (assuming p (pick kept assumed)) steps)
+  pub refutes : IsTrimRefutation (assuming p (pick kept assumed)) steps
 
 -- each flag that is set is set in the others
 pub record AreAmong (kept flags : List Bool) : Type 0 where

@@ -2,9 +2,9 @@
 //!
 //! What is left after each deletion is what the last refutation names.
 
-ghost use Rattle.std.specs.Prelude.{◌≡◌, ◌<◌, ◌≤◌, ℕ, false, length, slice_set, IfOk, OnOk, IsTrue};
+ghost use Rattle.std.specs.Prelude.{◌≡◌, ◌<◌, ◌≤◌, ℕ, false, length, slice_set, IfOk, OnOk};
 ghost use Rattle.mono_theory.specs.Owners.{facts_of};
-ghost use Rattle.mono_steps.specs.Steps.{is_refutation};
+ghost use Rattle.mono_steps.specs.Trimmed.{IsTrimRefutation};
 ghost use Rattle.mono_search.specs.Solving.{MakesTheories};
 ghost use Rattle.mono_problem.specs.Assuming.{assuming, HasRoom};
 ghost use Rattle.mono_core.specs.Cores.{IsRefuted, AreAmong, IsFoundAt, IsOutcome, AreFound};
@@ -29,8 +29,10 @@ struct Deletion {
     model: Vec<bool>,
 }
 
-/// A minimal set of assumptions under which the problem has no model, or a model under all of them.
+/// A model under all assumptions; or some of them under which the problem has no model, with a refutation, and of each why it
+/// stays: a model under the others, or the work that was spent in vain without it; or the progress made under all of them.
 ///
+/// Where each need is a model, the set is minimal (`laws::cores_with_models_are_minimal`).
 /// Each search may learn as many clauses as the budget says.
 pub fn core<T: Theory, F: Fn(&Problem) -> Result<Vec<T>, AllocError>>(
     alloc: Global,
@@ -65,7 +67,7 @@ fn delete_each<T: Theory, F: Fn(&Problem) -> Result<Vec<T>, AllocError>>(
     requires makes { MakesTheories (F.post make.now) (λ ts. facts_of T.graph T.atoms T.seen ts.items) }
     requires room { HasRoom problem.now assumed.now }
     requires budget { 1 ≤ budget }
-    requires refutes { IsTrue (is_refutation (assuming problem.now assumed.now) steps) }
+    requires refutes { IsTrimRefutation (assuming problem.now assumed.now) steps }
     ensures { IfOk result (IsOutcome problem.now budget assumed.now) }
 {
     let all = vec![in alloc; true; assumed.len()]?;

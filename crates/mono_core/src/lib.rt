@@ -1,4 +1,4 @@
-//! Minimal sets of assumptions under which a problem has no model.
+//! Sets of assumptions under which a problem has no model, made as small as the budget allows.
 #![tactic(auto)]
 
 /// Problems with more clauses of one literal.

@@ -36,12 +36,16 @@ pub fn needs()
     ensures tried_with_itself { (budget : ℕ) (steps : List Step) → IsTried one_clause budget (minus 1 ∷ []) (true ∷ []) 0 (minus 1 ∷ []) steps → ⊥ }
 {}
 
-/// A core is some of the assumptions, with a refutation under them.
+/// A core is some of the assumptions, with a refutation under them each of whose steps but the last is named later.
 pub fn cores()
     ensures core { IsCore one_clause 1 (pos 2 ∷ minus 1 ∷ []) (minus 1 ∷ []) (chain [] (1 ∷ 2 ∷ []) ∷ []) (need.Model (true ∷ []) ∷ []) }
     ensures no_refutation { IsCore one_clause 1 (minus 1 ∷ []) (minus 1 ∷ []) [] (need.Model (true ∷ []) ∷ []) → ⊥ }
     ensures number_of_the_larger_list { IsCore one_clause 1 (pos 2 ∷ minus 1 ∷ []) (minus 1 ∷ [])
         (chain [] (1 ∷ 3 ∷ []) ∷ []) (need.Model (true ∷ []) ∷ []) → ⊥ }
+    ensures named_later { IsCore one_clause 1 (pos 2 ∷ minus 1 ∷ []) (minus 1 ∷ [])
+        (chain (pos 1 ∷ []) (1 ∷ []) ∷ chain [] (3 ∷ 2 ∷ []) ∷ []) (need.Model (true ∷ []) ∷ []) }
+    ensures idle_chain { IsCore one_clause 1 (pos 2 ∷ minus 1 ∷ []) (minus 1 ∷ [])
+        (chain (pos 1 ∷ []) (1 ∷ []) ∷ chain [] (1 ∷ 2 ∷ []) ∷ []) (need.Model (true ∷ []) ∷ []) → ⊥ }
 {}
 
 /// The variable of a dropped assumption is none of the first.

@@ -52,7 +52,7 @@ use Rattle.mono_theory.proofs.PartsOfSides.{part_len}
 use Rattle.mono_theory.proofs.SidesStay.{shown_now}
 use Rattle.mono_theory.proofs.KeptEvidenceDecides.{rising_decides, sound_witness}
 use Rattle.mono_distance.specs.declared.node_labels.Labels.{Labels}
-use Rattle.mono_distance.specs.Readings.{AreBothDecided, DistanceView, IsDecidedSide, IsPossiblyDecided, IsPossiblyRight, IsReached, IsLeast, IsRightSide, above, bound_number, labels_at, labels_in, over_at, over_by, over_in, over_known, over_of, under_at, under_in}
+use Rattle.mono_distance.specs.Readings.{AreBothDecided, DistanceView, IsDecidedSide, IsPossiblyDecided, IsPossiblyRight, IsReached, IsBelowEachWalk, IsRightSide, above, bound_number, labels_at, labels_in, over_at, over_by, over_in, over_known, over_of, under_at, under_in}
 use Rattle.mono_theory.specs.SureRows.{row_of_atom}
 use Rattle.mono_distance.specs.SureLabels.{SureLabels, AreLabelsAfter, first_node, last_node, limit_of, under_label}
 use Rattle.mono_distance.proofs.DistanceEvidence.{distance_rises}
@@ -113,8 +113,8 @@ rises_by_most g P l label c u (k ∷ ks) v known here way =
     rw sums (omega (arith, ints, step, rest))
 
 -- a label that a labelling gives is at most what walks cost
-labelled_least : (g : Digraph) (P : List Bool) (u w v : ℕ) (l : Limit) (ls : List Label) (ks : List ℕ) → HasBound l → IsTrue (is_labelling g P u w l ls) → IsTrue (is_walk g P u v ks) → over_in l ls v ≤ cost_along l g ks
-labelled_least g P u w v l ls ks bound h way =
+labelled_below : (g : Digraph) (P : List Bool) (u w v : ℕ) (l : Limit) (ls : List Label) (ks : List ℕ) → HasBound l → IsTrue (is_labelling g P u w l ls) → IsTrue (is_walk g P u v ks) → over_in l ls v ≤ cost_along l g ks
+labelled_below g P u w v l ls ks bound h way =
     let label : ℕ → ℤ = label_at ls (bound_of l) in
     let a = and_parts _ (list_all (λ k. not (present P k && is_tense label l (edge_at g k))) (places g)) h in
     let b = and_parts _ (int_lt (bound_of l) (label w)) a.0 in
@@ -134,32 +134,32 @@ up_to_above l n b le = within (pos n) (bound_of l +ℤ pos 1) (let h = above_is 
     within : (x y : ℤ) → x ≤ℤ y → IsTrue (int_le x y)
     within x y e = grind (arith, ints)
 
-pub none_least : (g : Digraph) (P : List Bool) (q : Predicate) (v : ℕ) → HasBound (limit_of q) → IsLeast g P q v 0
-none_least g P q v bound = record { least = λ ks w. omega arith; most = up_to_above (limit_of q) 0 bound (omega arith) }
+pub none_below : (g : Digraph) (P : List Bool) (q : Predicate) (v : ℕ) → HasBound (limit_of q) → IsBelowEachWalk g P q v 0
+none_below g P q v bound = record { below = λ ks w. omega arith; most = up_to_above (limit_of q) 0 bound (omega arith) }
 
 -- what a witness against a predicate says is at most what walks cost
-pub witness_least : (g : Digraph) (P : List Bool) (q : Predicate) (v : ℕ) (w : Witness) → HasBound (limit_of q) → IsTrue (is_distance q) → IsTrue (passes g P q w) → IsLeast g P q v (over_by (limit_of q) v w)
-witness_least g P (kind.Steps x y most) v (by.Label ls) bound d h = record {
-  least = λ ks way. labelled_least g P x y v (limit.Steps most) ls ks bound h way;
+pub witness_below : (g : Digraph) (P : List Bool) (q : Predicate) (v : ℕ) (w : Witness) → HasBound (limit_of q) → IsTrue (is_distance q) → IsTrue (passes g P q w) → IsBelowEachWalk g P q v (over_by (limit_of q) v w)
+witness_below g P (kind.Steps x y most) v (by.Label ls) bound d h = record {
+  below = λ ks way. labelled_below g P x y v (limit.Steps most) ls ks bound h way;
   most = up_to_above (limit.Steps most) (over_in (limit.Steps most) ls v) bound (omega arith);
 }
-witness_least g P (kind.Distance x y most) v (by.Label ls) bound d h = record {
-  least = λ ks way. labelled_least g P x y v (limit.Weight most) ls ks bound h way;
+witness_below g P (kind.Distance x y most) v (by.Label ls) bound d h = record {
+  below = λ ks way. labelled_below g P x y v (limit.Weight most) ls ks bound h way;
   most = up_to_above (limit.Weight most) (over_in (limit.Weight most) ls v) bound (omega arith);
 }
-witness_least g P q v (by.Path es) bound d h = none_least g P q v bound
-witness_least g P q v (by.Cut es) bound d h = none_least g P q v bound
-witness_least g P q v (by.Flow es) bound d h = none_least g P q v bound
-witness_least g P q v (by.FlowCut es) bound d h = none_least g P q v bound
-witness_least g P q v (by.Tree es) bound d h = none_least g P q v bound
-witness_least g P q v (by.Split es) bound d h = none_least g P q v bound
-witness_least g P q v (by.Least es) bound d h = none_least g P q v bound
-witness_least g P q v (by.Cycle es) bound d h = none_least g P q v bound
-witness_least g P q v (by.Order us) bound d h = none_least g P q v bound
-witness_least g P (kind.Reach x y) v (by.Label ls) bound d h = absurd cc
-witness_least g P (kind.Flow x y least) v (by.Label ls) bound d h = absurd cc
-witness_least g P (kind.Tree most) v (by.Label ls) bound d h = absurd cc
-witness_least g P kind.Acyclic v (by.Label ls) bound d h = absurd cc
+witness_below g P q v (by.Path es) bound d h = none_below g P q v bound
+witness_below g P q v (by.Cut es) bound d h = none_below g P q v bound
+witness_below g P q v (by.Flow es) bound d h = none_below g P q v bound
+witness_below g P q v (by.FlowCut es) bound d h = none_below g P q v bound
+witness_below g P q v (by.Tree es) bound d h = none_below g P q v bound
+witness_below g P q v (by.Split es) bound d h = none_below g P q v bound
+witness_below g P q v (by.Least es) bound d h = none_below g P q v bound
+witness_below g P q v (by.Cycle es) bound d h = none_below g P q v bound
+witness_below g P q v (by.Order us) bound d h = none_below g P q v bound
+witness_below g P (kind.Reach x y) v (by.Label ls) bound d h = absurd cc
+witness_below g P (kind.Flow x y least) v (by.Label ls) bound d h = absurd cc
+witness_below g P (kind.Tree most) v (by.Label ls) bound d h = absurd cc
+witness_below g P kind.Acyclic v (by.Label ls) bound d h = absurd cc
 
 -- where nothing is shown, nothing is known
 pub over_none : (l : Limit) (v : ℕ) (s : Stage) (o : Option Evidence) → shows s ≡ false → over_of l v s o ≡ 0
@@ -334,10 +334,10 @@ no_walk_below g P q ks bound none way = elim (cases_lt (cost_along (limit_of q) 
   | inr high ↦ high
 ]
 
-pub rows_least : (g : Digraph) (t : List ℤ) (n : ℕ) (q : Predicate) (v : ℕ) (b : Bool) → IsTrue (asks_walk q) → HasBound (limit_of q) → v ≡ last_node q → (IsTrue b → Decides g (part_of g (take n t) true) q (shown_by q false)) → IsLeast g (over g t) q v (cond b (above (bound_of (limit_of q))) 0)
-rows_least g t n q v false asks bound last fails = none_least g (over g t) q v bound
-rows_least g t n q v true asks bound last fails = record {
-  least = λ ks way. no_walk_below g (over g t) q ks bound (none_later g t n q asks (fails refl)) (subst (λ (w : ℕ). IsTrue (is_walk g (over g t) (first_node q) w ks)) last way);
+pub rows_below : (g : Digraph) (t : List ℤ) (n : ℕ) (q : Predicate) (v : ℕ) (b : Bool) → IsTrue (asks_walk q) → HasBound (limit_of q) → v ≡ last_node q → (IsTrue b → Decides g (part_of g (take n t) true) q (shown_by q false)) → IsBelowEachWalk g (over g t) q v (cond b (above (bound_of (limit_of q))) 0)
+rows_below g t n q v false asks bound last fails = none_below g (over g t) q v bound
+rows_below g t n q v true asks bound last fails = record {
+  below = λ ks way. no_walk_below g (over g t) q ks bound (none_later g t n q asks (fails refl)) (subst (λ (w : ℕ). IsTrue (is_walk g (over g t) (first_node q) w ks)) last way);
   most = up_to_above (limit_of q) (above (bound_of (limit_of q))) bound (omega arith);
 }
 
@@ -436,12 +436,12 @@ over_read (Some w) value r l v st kept is none some its = is ∙ sym (over_some 
 pub known_read : (s : SideView) (a v u w r : ℕ) (l : Limit) (q : Predicate) → q ≡ predicate_of u w l → r ≡ over_of l v (stage_at s.stages a) (evidence_at s.shown a) → r ≡ over_of (limit_of q) v (stage_at s.stages a) (evidence_at s.shown a)
 known_read s a v u w r l q is read = read ∙ ap (λ (k : Limit). over_of k v (stage_at s.stages a) (evidence_at s.shown a)) (sym (limit_is q u w l is))
 
-pub least_read : {W : Type 0} (o : Option W) (value : W → Witness) (r : ℕ) (g : Digraph) (P : List Bool) (q : Predicate) (u x v : ℕ) (l : Limit) → q ≡ predicate_of u x l → HasBound l → IsTrue (is_distance q) → MatchOption o (r ≡ 0) (λ w. r ≡ over_by l v (value w))
-    → IfSome o (λ w. IsWitnessIn g P q false (value w)) → IsLeast g P q v r
-least_read None value r g P q u x v l is bound d r-is right = subst (IsLeast g P q v) (sym r-is) (none_least g P q v (subst HasBound (sym (limit_is q u x l is)) bound))
-least_read (Some w) value r g P q u x v l is bound d r-is right =
-    subst (IsLeast g P q v) (sym (r-is ∙ ap (λ (k : Limit). over_by k v (value w)) (sym (limit_is q u x l is))))
-    (witness_least g P q v (value w) (subst HasBound (sym (limit_is q u x l is)) bound) d right.passes)
+pub below_read : {W : Type 0} (o : Option W) (value : W → Witness) (r : ℕ) (g : Digraph) (P : List Bool) (q : Predicate) (u x v : ℕ) (l : Limit) → q ≡ predicate_of u x l → HasBound l → IsTrue (is_distance q) → MatchOption o (r ≡ 0) (λ w. r ≡ over_by l v (value w))
+    → IfSome o (λ w. IsWitnessIn g P q false (value w)) → IsBelowEachWalk g P q v r
+below_read None value r g P q u x v l is bound d r-is right = subst (IsBelowEachWalk g P q v) (sym r-is) (none_below g P q v (subst HasBound (sym (limit_is q u x l is)) bound))
+below_read (Some w) value r g P q u x v l is bound d r-is right =
+    subst (IsBelowEachWalk g P q v) (sym (r-is ∙ ap (λ (k : Limit). over_by k v (value w)) (sym (limit_is q u x l is))))
+    (witness_below g P q v (value w) (subst HasBound (sym (limit_is q u x l is)) bound) d right.passes)
 
 -- a label of rows
 pub rows_read : (s : SureLabels) (a v u w label : ℕ) (l : Limit) (q : Predicate) (o : Option ℕ) → q ≡ predicate_of u w l → label ≡ under_label s a v → o ≡ cond (admits l label) (Some label) None → o ≡ under_at s a q v

@@ -23,7 +23,7 @@ use Rattle.mono_problem.specs.declared.atom.Predicate.TheVariants as kind
 use Rattle.mono_theory.specs.Asked.{asks_walk, HasTarget}
 use Rattle.mono_theory.specs.PossibleRows.{possible_parts, target_at, AreTargetsOf, IsRowFor}
 use Rattle.mono_theory.specs.Supports.{atom_at}
-use Rattle.mono_distance.specs.Readings.{IsLeast, IsReached}
+use Rattle.mono_distance.specs.Readings.{IsBelowEachWalk, IsReached}
 use Rattle.mono_distance.specs.Worked.{along_the_edge, facts_with, to_node_1, tree_rows, tree_view, ways_from, within_7}
 
 abbrev edge_of_5 : Digraph
@@ -49,14 +49,14 @@ none_leads ks h = cut_excludes edge_of_5 (false ∷ []) 0 1 (0 ∷ []) ks refl h
 pub never_absent : IsReached edge_of_5 (false ∷ []) (kind.Distance 0 1 (pos 7)) 1 5 → ⊥
 never_absent h = none_leads h.walk h.leads
 
-pub least_is_5 : IsLeast edge_of_5 (true ∷ []) (kind.Distance 0 1 (pos 7)) 1 5
-least_is_5 = record { least = λ ks h. each_costs (true ∷ []) ks h; most = refl }
+pub below_at_5 : IsBelowEachWalk edge_of_5 (true ∷ []) (kind.Distance 0 1 (pos 7)) 1 5
+below_at_5 = record { below = λ ks h. each_costs (true ∷ []) ks h; most = refl }
 
-pub least_is_above : IsLeast edge_of_5 (false ∷ []) (kind.Distance 0 1 (pos 7)) 1 8
-least_is_above = record { least = λ ks h. absurd (none_leads ks h); most = refl }
+pub below_at_8 : IsBelowEachWalk edge_of_5 (false ∷ []) (kind.Distance 0 1 (pos 7)) 1 8
+below_at_8 = record { below = λ ks h. absurd (none_leads ks h); most = refl }
 
-pub never_above : IsLeast edge_of_5 (true ∷ []) (kind.Distance 0 1 (pos 7)) 1 6 → ⊥
-never_above h = let most = h.least (0 ∷ []) refl in omega (arith, most)
+pub never_above : IsBelowEachWalk edge_of_5 (true ∷ []) (kind.Distance 0 1 (pos 7)) 1 6 → ⊥
+never_above h = let most = h.below (0 ∷ []) refl in omega (arith, most)
 
 -- ---- rows of the possibly present edges
 

@@ -33,8 +33,8 @@ pub record IsReached (g : Digraph) (P : List Bool) (q : Predicate) (v d : ℕ) :
   pub cost : cost_along (limit_of q) g walk ≤ d
 
 -- each walk in the part from the predicate's first node to the node costs at least so much, at most one more than the bound
-pub record IsLeast (g : Digraph) (P : List Bool) (q : Predicate) (v d : ℕ) : Type 0 where
-  pub least : (ks : List ℕ) → IsTrue (is_walk g P (first_node q) v ks) → d ≤ cost_along (limit_of q) g ks
+pub record IsBelowEachWalk (g : Digraph) (P : List Bool) (q : Predicate) (v d : ℕ) : Type 0 where
+  pub below : (ks : List ℕ) → IsTrue (is_walk g P (first_node q) v ks) → d ≤ cost_along (limit_of q) g ks
   pub most : IsTrue (int_le (pos d) (bound_of (limit_of q) +ℤ pos 1))
 
 -- one more than the bound

@@ -12,7 +12,7 @@ ghost use Rattle.mono_theory.specs.Stages.{NoneWaits, shows, stage_at};
 ghost use Rattle.mono_theory.specs.Supports.{atom_at, IsSideFor};
 ghost use Rattle.mono_distance.specs.Distances.{is_distance, predicate_of};
 ghost use Rattle.mono_distance.specs.Labels.{entry_in, value_by};
-ghost use Rattle.mono_distance.specs.Readings.{above, bound_number, over_at, over_by as over_by_of, over_known as over_known_of, over_of, under_at, under_in, IsLeast, IsPossiblyDecided, IsPossiblyRight, IsReached, IsRightSide};
+ghost use Rattle.mono_distance.specs.Readings.{above, bound_number, over_at, over_by as over_by_of, over_known as over_known_of, over_of, under_at, under_in, IsBelowEachWalk, IsPossiblyDecided, IsPossiblyRight, IsReached, IsRightSide};
 ghost use Rattle.mono_distance.specs.SureLabels.{last_node, limit_of, AreLabelsAfter};
 
 use crate::distance::{Distance, what_is_asked};
@@ -26,8 +26,9 @@ use mono_theory::{Asked, EitherSide, Frame, GraphTheory, KeptSide, PossibleRows,
 #[derive(Clone, Copy, Debug, PartialEq, Eq)]
 pub struct Labels {
     /// What a walk along the surely present edges costs at most from the atom's first node to the node, as far as one within
-    /// the atom's bound is known. Where rows of labels are kept, it is what the cheapest walk costs. Where they would be too
-    /// many, it is known of the atom's last node alone, and is the bound.
+    /// the atom's bound is known. Where rows of labels are kept, it is what the cheapest walk costs along the edges of the
+    /// literals that were looked at. A literal is looked at with the next question what is forced, and what it brings isn't
+    /// known before that. Where rows would be too many, the label is known of the atom's last node alone, and is the bound.
     pub under: Option<u64>,
     /// What each walk along the possibly present edges costs at least, as far as it is known: at most one more than the
     /// bound. Where rows of the possibly present edges are kept, since many atoms have one first node, it is known of the
@@ -46,7 +47,7 @@ pub trait HasLabels {
     ghost use Rattle.mono_problem.specs.Quiet.{under, over};
     ghost use Rattle.mono_theory.specs.Evidences.{Decides};
     ghost use Rattle.mono_theory.specs.Theories.{Facts, atom_of};
-    ghost use Rattle.mono_distance.specs.Readings.{IsReached, IsLeast};
+    ghost use Rattle.mono_distance.specs.Readings.{IsReached, IsBelowEachWalk};
     ghost use Rattle.mono_graph.specs.Walks.{admits};
     ghost use Rattle.mono_distance.specs.SureLabels.{last_node, limit_of};
     ghost use Rattle.mono_distance.specs.declared.node_labels.Labels.{Labels};
@@ -66,7 +67,7 @@ pub trait HasLabels {
         ensures under { IfSome result.under (λ d. MatchOption (atom_of (facts self.now).atoms atom) ⊥
             (λ x. IsReached (facts self.now).graph (under (facts self.now).graph (facts self.now).seen) x.predicate node d)) }
         ensures over { MatchOption (atom_of (facts self.now).atoms atom) ⊥
-            (λ x. IsLeast (facts self.now).graph (over (facts self.now).graph (facts self.now).seen) x.predicate node result.over) }
+            (λ x. IsBelowEachWalk (facts self.now).graph (over (facts self.now).graph (facts self.now).seen) x.predicate node result.over) }
         ensures decided_under { is_decided self.now
             → MatchOption (atom_of (facts self.now).atoms atom) ⊥ (λ x. node ≡ last_node x.predicate
             → Decides (facts self.now).graph (under (facts self.now).graph (facts self.now).seen) x.predicate (is_some result.under)) }
@@ -219,7 +220,7 @@ fn over_by_rows(
     requires asked { (atom_at frame.now.atoms place).predicate ≡ predicate_of asked.from asked.to asked.limit }
     requires limit { HasBound asked.limit }
     ensures value { result ≡ over_at side.now.rows place (atom_at frame.now.atoms place).predicate node }
-    ensures least { IsLeast frame.now.graph (over frame.now.graph frame.now.seen) (atom_at frame.now.atoms place).predicate node result }
+    ensures below { IsBelowEachWalk frame.now.graph (over frame.now.graph frame.now.seen) (atom_at frame.now.atoms place).predicate node result }
     ensures decides { AreUpToDate RowsStand frame.now side.now → node ≡ last_node (atom_at frame.now.atoms place).predicate
         → Decides frame.now.graph (over frame.now.graph frame.now.seen) (atom_at frame.now.atoms place).predicate
         (admits (limit_of (atom_at frame.now.atoms place).predicate) result) }
@@ -243,7 +244,7 @@ fn over_by_searches(kept: &KeptSide, frame: &Frame, place: u32, asked: Asked, no
     requires limit { HasBound asked.limit }
     ensures value { result
         ≡ over_of (limit_of (atom_at frame.now.atoms place).predicate) node (stage_at kept.now.stages place) (evidence_at kept.now.shown place) }
-    ensures least { IsLeast frame.now.graph (over frame.now.graph frame.now.seen) (atom_at frame.now.atoms place).predicate node result }
+    ensures below { IsBelowEachWalk frame.now.graph (over frame.now.graph frame.now.seen) (atom_at frame.now.atoms place).predicate node result }
     ensures decides { NoneWaits kept.now.stages → node ≡ last_node (atom_at frame.now.atoms place).predicate
         → Decides frame.now.graph (over frame.now.graph frame.now.seen) (atom_at frame.now.atoms place).predicate
         (admits (limit_of (atom_at frame.now.atoms place).predicate) result) }
@@ -267,7 +268,7 @@ fn over_known(
     requires asked { (atom_at frame.now.atoms place).predicate ≡ predicate_of asked.from asked.to asked.limit }
     requires limit { HasBound asked.limit }
     ensures value { result ≡ over_known_of side.now place (atom_at frame.now.atoms place).predicate node }
-    ensures least { IsLeast frame.now.graph (over frame.now.graph frame.now.seen) (atom_at frame.now.atoms place).predicate node result }
+    ensures below { IsBelowEachWalk frame.now.graph (over frame.now.graph frame.now.seen) (atom_at frame.now.atoms place).predicate node result }
     ensures decides { IsPossiblyDecided frame.now side.now → node ≡ last_node (atom_at frame.now.atoms place).predicate
         → Decides frame.now.graph (over frame.now.graph frame.now.seen) (atom_at frame.now.atoms place).predicate
         (admits (limit_of (atom_at frame.now.atoms place).predicate) result) }

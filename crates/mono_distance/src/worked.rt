@@ -6,7 +6,7 @@ ghost use Rattle.mono_graph.specs.Worked.{edge, label, single};
 ghost use Rattle.mono_problem.specs.declared.atom.Predicate.TheVariants as kind;
 ghost use Rattle.mono_steps.specs.declared.lemma.Witness.TheVariants as by;
 ghost use Rattle.mono_theory.specs.declared.stage.Stage.TheVariants as stage;
-ghost use Rattle.mono_distance.specs.Readings.{AreBothDecided, IsLeast, IsReached, labels_in};
+ghost use Rattle.mono_distance.specs.Readings.{AreBothDecided, IsBelowEachWalk, IsReached, labels_in};
 ghost use Rattle.mono_distance.specs.SureLabels.{shows_last, IsRowFor};
 ghost use Rattle.mono_theory.specs.PossibleRows.{AreTargetsOf};
 ghost use Rattle.mono_distance.specs.Worked.{along_the_edge, facts_with, keeping, labelled, labels_with, possibly, rows_up_to_9, rows_with, searched, to_node_1, tree_rows, tree_view, trees_with, ways_from, within_7};
@@ -22,18 +22,18 @@ pub fn nodes_reached()
 {}
 
 /// With the possibly present edges each walk costs at least as much as the label, which is at most one more than the bound.
-pub fn labels_least()
-    ensures exact { IsLeast (single (edge 1 0 1 5)) (true ∷ []) (kind.Distance 0 1 (pos 7)) 1 5 }
-    ensures lower { IsLeast (single (edge 1 0 1 5)) (true ∷ []) (kind.Distance 0 1 (pos 7)) 1 0 }
-    ensures above_a_walk { IsLeast (single (edge 1 0 1 5)) (true ∷ []) (kind.Distance 0 1 (pos 7)) 1 6 → ⊥ }
-    ensures unreached { IsLeast (single (edge 1 0 1 5)) (false ∷ []) (kind.Distance 0 1 (pos 7)) 1 8 }
-    ensures too_great { IsLeast (single (edge 1 0 1 5)) (false ∷ []) (kind.Distance 0 1 (pos 7)) 1 9 → ⊥ }
+pub fn labels_below_each_walk()
+    ensures exact { IsBelowEachWalk (single (edge 1 0 1 5)) (true ∷ []) (kind.Distance 0 1 (pos 7)) 1 5 }
+    ensures lower { IsBelowEachWalk (single (edge 1 0 1 5)) (true ∷ []) (kind.Distance 0 1 (pos 7)) 1 0 }
+    ensures above_a_walk { IsBelowEachWalk (single (edge 1 0 1 5)) (true ∷ []) (kind.Distance 0 1 (pos 7)) 1 6 → ⊥ }
+    ensures unreached { IsBelowEachWalk (single (edge 1 0 1 5)) (false ∷ []) (kind.Distance 0 1 (pos 7)) 1 8 }
+    ensures too_great { IsBelowEachWalk (single (edge 1 0 1 5)) (false ∷ []) (kind.Distance 0 1 (pos 7)) 1 9 → ⊥ }
 {}
 
 /// A label is that of the node which is asked for, whatever node the predicate asks for.
 pub fn other_nodes()
     ensures first_node { IsReached (single (edge 1 0 1 5)) (true ∷ []) (kind.Distance 0 1 (pos 7)) 0 0 }
-    ensures above_the_empty_walk { IsLeast (single (edge 1 0 1 5)) (true ∷ []) (kind.Distance 0 1 (pos 7)) 0 1 → ⊥ }
+    ensures above_the_empty_walk { IsBelowEachWalk (single (edge 1 0 1 5)) (true ∷ []) (kind.Distance 0 1 (pos 7)) 0 1 → ⊥ }
 {}
 
 /// With the surely present edges the label is that of the atom's row, where it is within the bound. What a search found is

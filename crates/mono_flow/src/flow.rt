@@ -163,8 +163,7 @@ impl Flow {
         let found = self
             .finder
             .find_flow_from(alloc, graph, part, source, sink, least, &mut flow)?;
-        let is_enough = matches!(found.answer, FlowOrCut::Flow(_));
-        self.kept.put(source, sink, is_enough, flow)?;
+        self.kept.put(source, sink, flow)?;
         Ok(found)
     }
 

@@ -1,8 +1,9 @@
 //! Flows that earlier searches came to, with which later ones begin.
 //!
-//! Nothing is claimed of them: a search tests what it begins with. Of a source and a sink two flows are kept, the last
-//! that carried as much as was asked for and the last that didn't, since the surely present edges mostly carry less and
-//! the possibly present ones more.
+//! Nothing is claimed of them: a search tests what it begins with. Of a source and a sink one flow is kept, the one to
+//! which the last search between them came, whether it carries as much as was asked for or not. The surely present
+//! edges mostly carry less and the possibly present ones more; but a flow kept apart for either would be older, and to
+//! mend it costs more than to begin with the last.
 
 ghost use Rattle.std.specs.Prelude.{◌<◌, All, IfSome, IsTrue, length};
 ghost use Rattle.mono_graph.specs.Digraph.{IsPartOf};
@@ -11,12 +12,11 @@ use mono_graph::{Amount, Graph, Part};
 use std::alloc::{AllocError, Global};
 use std::mem;
 
-/// A flow from one node to another, and whether it carries as much as was asked for.
+/// A flow from one node to another.
 #[derive(Drop)]
 struct KeptFlow {
     source: u32,
     sink: u32,
-    is_enough: bool,
     amounts: Vec<Amount>,
 }
 
@@ -26,17 +26,16 @@ pub(crate) struct KeptFlows {
     flows: Vec<KeptFlow>,
 }
 
-/// How much the amounts come to in sum along edges that are present.
-fn carried_in(graph: &Graph, part: &Part, amounts: &[Amount]) -> u64
+/// Whether one of the edges is present.
+fn is_any_present(graph: &Graph, part: &Part, amounts: &[Amount]) -> bool
     requires { IsPartOf part.now graph.now }
 {
-    let mut sum: u64 = 0;
     for amount in amounts {
         if amount.edge < graph.edge_count() && part.has(amount.edge) {
-            sum = sum.saturating_add(amount.amount);
+            return true;
         }
     }
-    sum
+    false
 }
 
 /// Whether all edges are of the graph.
@@ -59,27 +58,20 @@ impl KeptFlows {
         }
     }
 
-    /// The place of the flow between the nodes that carries most along present edges.
-    fn best(&self, graph: &Graph, part: &Part, source: u32, sink: u32) -> Option<usize>
-        requires { IsPartOf part.now graph.now }
+    /// The place of the flow between the nodes.
+    fn place_of(&self, source: u32, sink: u32) -> Option<usize>
         ensures { IfSome result (λ place. place < length self.now.flows.items) }
     {
-        let mut best = None;
-        let mut most = 0;
         for place in 0..self.flows.len() {
             let flow = &self.flows[place];
             if flow.source == source && flow.sink == sink {
-                let carried = carried_in(graph, part, flow.amounts.as_slice());
-                if carried > most {
-                    most = carried;
-                    best = Some(place);
-                }
+                return Some(place);
             }
         }
-        best
+        None
     }
 
-    /// Takes the flow between the nodes that carries most along present edges; nothing where none does.
+    /// Takes the flow between the nodes; nothing where none of its edges is present.
     pub(crate) fn take(
         &mut self,
         alloc: Global,
@@ -91,35 +83,31 @@ impl KeptFlows {
         requires { IsPartOf part.now graph.now }
         ensures { All (λ a. a.edge < length graph.now.edges) result.items }
     {
-        let Some(place) = self.best(graph, part, source, sink) else {
+        let Some(place) = self.place_of(source, sink) else {
             return Vec::new(alloc);
         };
         let amounts = mem::replace(&mut self.flows[place].amounts, Vec::new(alloc));
-        if are_known(graph, amounts.as_slice()) {
+        let listed = amounts.as_slice();
+        if are_known(graph, listed) && is_any_present(graph, part, listed) {
             return amounts;
         }
         Vec::new(alloc)
     }
 
-    /// Keeps the flow in place of the last between these nodes that was enough, or wasn't, as it.
+    /// Keeps the flow in place of the last between these nodes.
     pub(crate) fn put(
         &mut self,
         source: u32,
         sink: u32,
-        is_enough: bool,
         amounts: Vec<Amount>,
     ) -> Result<(), AllocError> {
-        for place in 0..self.flows.len() {
-            let flow = &self.flows[place];
-            if flow.source == source && flow.sink == sink && flow.is_enough == is_enough {
-                self.flows[place].amounts = amounts;
-                return Ok(());
-            }
+        if let Some(place) = self.place_of(source, sink) {
+            self.flows[place].amounts = amounts;
+            return Ok(());
         }
         self.flows.push(KeptFlow {
             source,
             sink,
-            is_enough,
             amounts,
         })?;
         Ok(())

@@ -1,1 +1,2 @@
 pub mod SlotNumbers
+pub mod WorkedTheories

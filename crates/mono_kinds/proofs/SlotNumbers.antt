@@ -1,5 +1,5 @@
 -- The numbers of a slot, and the theories that the slots make one after the other.
-use Rattle.std.proofs.Common.{◌≡◌, ℕ, zero, suc, ◌+◌, ◌-◌, ◌*◌, ◌/◌, ◌%◌, ◌<◌, ◌≤◌, Bool, true, false, not, ◌&&◌, ◌||◌, ◌==◌, cond, List, [], ◌∷◌, ◌++◌, length, map, get_or, set, append-nil, eqb, eq-eqb, ltb, refl, sym, ap, subst, ◌∙◌, ◌⊎◌, inl, inr, arith, All}
+use Rattle.std.proofs.Common.{◌≡◌, ℕ, zero, suc, ◌+◌, ◌-◌, ◌/◌, ◌%◌, ◌<◌, ◌≤◌, Bool, true, false, not, ◌||◌, ◌==◌, cond, List, [], ◌∷◌, ◌++◌, length, map, get_or, set, append-nil, eqb, eq-eqb, ltb, refl, sym, ap, subst, ◌∙◌, ◌⊎◌, inl, inr, arith, All}
 use Rattle.std.specs.Prelude.{IsTrue, Some, filter, replicate}
 use Rattle.mono_reach.specs.Reaches.{is_reach}
 use Rattle.mono_distance.specs.Distances.{is_distance}
@@ -7,29 +7,28 @@ use Rattle.mono_flow.specs.Flowing.{is_flow_predicate}
 use Rattle.mono_tree.specs.Spanning.{is_tree_predicate}
 use Rattle.mono_acyclic.specs.Cyclic.{is_cycle_predicate}
 use Rattle.mono_problem.specs.declared.atom.Predicate.TheVariants as kind
-use Rattle.std.specs.List.{range_with_len, list_all, list_any}
-use Rattle.std.proofs.lemmas.Bool.{and_from, and_parts, both_ways, not-true, not_from_false, cases_Bool, cases_eq, cases_lt, false_from_ne_true, eqb-true, ne_eqb, lt-ltb, le-ltb}
-use Rattle.std.proofs.lemmas.List.{length-set, length-replicate, get_or-replicate, get_or-set_same, get_or-set_other}
+use Rattle.std.specs.List.{range_with_len}
+use Rattle.std.proofs.lemmas.Bool.{and_from, and_parts, not_from_false, cases_eq, false_from_ne_true, eqb-true, ne_eqb, lt-ltb, le-ltb}
+use Rattle.std.proofs.lemmas.List.{length-set, length-replicate, get_or-replicate, get_or-set_same, get_or-set_other, get_or_default, length-map}
 use Rattle.std.proofs.lemmas.List.Elements.{All-map, All-nil, All-push, All-tail, filter-append}
-use Rattle.std.proofs.lemmas.List.Folds.{list_all_at}
 use Rattle.std.proofs.lemmas.Grind.{common_steps}
 use Rattle.std.proofs.lemmas.List.Sums.{sum_by_push}
 use Rattle.mono_graph.proofs.Ranges.{range_push}
 use Rattle.mono_graph.specs.Digraph.{has, is_distinct}
-use Rattle.mono_graph.proofs.Membership.{has_range, range_has, has_filter, filter_has, same_truth, has_get_or}
+use Rattle.mono_graph.proofs.Membership.{has_range, range_has, has_filter, filter_has, same_truth}
 use Rattle.mono_problem.specs.declared.atom.Atom.{Atom}
 use Rattle.mono_problem.specs.declared.atom.Predicate.{Predicate}
 use Rattle.mono_problem.specs.Instance.{Instance, graph_at, numbered}
 use Rattle.mono_problem.specs.Read.{atom_numbered, no_atom}
-use Rattle.mono_problem.specs.WellFormed.{IsInstance, IsAtomAt}
+use Rattle.mono_problem.specs.WellFormed.{IsInstance}
 use Rattle.mono_theory.specs.Frames.{AreNumbersOf}
 use Rattle.mono_theory.specs.Owners.{OwnsEach}
 use Rattle.mono_theory.specs.Theories.{Facts, owns_of}
 use Rattle.mono_theory.proofs.AtomsByNumber.{own_number, IsHeld}
 use Rattle.mono_theory.proofs.LemmasAreJustified.{numbered_is}
-use Rattle.mono_graph.proofs.Pigeons.{all_has}
 use Rattle.mono_theory.proofs.WalksAsEvidence.{all_by}
-use Rattle.mono_kinds.specs.Slots.{kind_index, slot_of, slot_count, numbers_in, AreSlots, AreMade, made_of}
+use Rattle.mono_kinds.specs.Sharing.{are_alike, kind_index}
+use Rattle.mono_kinds.specs.Slots.{slot_of, slot_count, numbers_in, AreSlots, AreMade, made_of}
 
 -- ---- the numbers of a slot
 
@@ -182,17 +181,57 @@ graphs_made p j =
     let ns : List ℕ = numbers_in p (length p.atoms) j in
     All-map (λ (x : Atom). graph_at p (j / 5) ≡ graph_at p x.graph) (atom_numbered p) ns (λ i d lt. ap (graph_at p) (sym (graph_in p j i d lt)))
 
+-- two atoms are of one slot exactly where they are alike
+one_slot : (x y : Atom) → (slot_of y == slot_of x) ≡ are_alike x y
+one_slot x y = same_truth (slot_of y == slot_of x) (are_alike x y)
+    (λ h.
+    let e : slot_of y ≡ slot_of x = eqb-true (slot_of y) (slot_of x) h in
+    let few = kind_few x.predicate in
+    let few_too = kind_few y.predicate in
+    and_from (x.graph == y.graph) (kind_index x.predicate == kind_index y.predicate) (eq-eqb x.graph y.graph (omega (arith, e, few, few_too)))
+    (eq-eqb (kind_index x.predicate) (kind_index y.predicate) (omega (arith, e, few, few_too))))
+    (λ h.
+    let both = and_parts (x.graph == y.graph) (kind_index x.predicate == kind_index y.predicate) h in
+    let graph : x.graph ≡ y.graph = eqb-true x.graph y.graph both.0 in
+    let index : kind_index x.predicate ≡ kind_index y.predicate = eqb-true (kind_index x.predicate) (kind_index y.predicate) both.1 in
+    eq-eqb (slot_of y) (slot_of x) (omega (arith, graph, index)))
+
+slot_in : (p : Instance) (j : ℕ) → All (λ n. slot_of (atom_numbered p n) ≡ j) (numbers_in p (length p.atoms) j)
+slot_in p j = all_by (λ n. slot_of (atom_numbered p n) ≡ j) (numbers_in p (length p.atoms) j) (λ n h. (in_range p (length p.atoms) j n h).2)
+
+-- the theory of a slot owns the atoms that are like one of its own
+shared_made : (p : Instance) (j : ℕ) → IsInstance p
+    → All (λ x. All (λ y. owns_of (made_of p j (numbers_in p (length p.atoms) j)).atoms y.number ≡ are_alike x y) p.atoms) (made_of p j (numbers_in p (length p.atoms) j)).atoms
+shared_made p j ok =
+    let ns : List ℕ = numbers_in p (length p.atoms) j in
+    let own : List Atom = map (atom_numbered p) ns in
+    All-map (λ (x : Atom). All (λ y. owns_of own y.number ≡ are_alike x y) p.atoms) (atom_numbered p) ns (λ i d lt. λ k e held.
+    let x : Atom = atom_numbered p (get_or ns i d) in
+    let y : Atom = atom_numbered p (k + 1) in
+    let same : y ≡ get_or p.atoms k e = ap (λ (m : ℕ). get_or p.atoms m no_atom) (let back : k + 1 - 1 ≡ k = omega arith in back) ∙ get_or_default p.atoms k no_atom e held in
+    subst (λ (z : Atom). owns_of own z.number ≡ are_alike x z) same
+    (ap (owns_of own) (own_number p (k + 1) ok (omega arith, omega (arith, held)))
+    ∙ owns_made p j (k + 1) ok (omega arith) (omega (arith, held))
+    ∙ ap (λ (s : ℕ). slot_of y == s) (sym (slot_in p j i d lt))
+    ∙ one_slot x y))
+
 -- ---- one slot after the other
 
 pub made_none : (p : Instance) → AreMade p 0 []
-made_none p = record { once = λ n low high. sym (ap (λ (b : Bool). cond b 1 0) (le-ltb (slot_of (atom_numbered p n)) 0 (omega arith))); exact = All-nil _; graphs = All-nil _; unseen = All-nil _ }
+made_none p = record {
+  once = λ n low high. sym (ap (λ (b : Bool). cond b 1 0) (le-ltb (slot_of (atom_numbered p n)) 0 (omega arith)));
+  exact = All-nil _;
+  graphs = All-nil _;
+  grouped = record { none_empty = All-nil _; shared = All-nil _ };
+  unseen = All-nil _;
+}
 
 -- below the next number are those below this one, and this one
 below_next : (s j : ℕ) → cond (ltb s j) 1 0 + cond (eqb s j) 1 0 ≡ cond (ltb s (j + 1)) 1 0
 below_next s j = grind (arith, common_steps)
 
-pub made_push : (p : Instance) (j : ℕ) (fs : List Facts) (f : Facts) → IsInstance p → AreMade p j fs → f ≡ made_of p j (numbers_in p (length p.atoms) j) → AreMade p (j + 1) (fs ++ f ∷ [])
-made_push p j fs f ok h is =
+pub made_push : (p : Instance) (j : ℕ) (fs : List Facts) (f : Facts) → IsInstance p → AreMade p j fs → f ≡ made_of p j (numbers_in p (length p.atoms) j) → 0 < length (numbers_in p (length p.atoms) j) → AreMade p (j + 1) (fs ++ f ∷ [])
+made_push p j fs f ok h is some =
     let ns : List ℕ = numbers_in p (length p.atoms) j in
     record {
       once = λ n low high.
@@ -202,6 +241,11 @@ made_push p j fs f ok h is =
           ∙ below_next (slot_of (atom_numbered p n)) j;
       exact = All-push (λ (g : Facts). All (λ x. numbered p.atoms x.number ≡ Some x) g.atoms) fs f h.exact (subst (λ (g : Facts). All (λ x. numbered p.atoms x.number ≡ Some x) g.atoms) (sym is) (exact_made p j ok));
       graphs = All-push (λ (g : Facts). All (λ x. g.graph ≡ graph_at p x.graph) g.atoms) fs f h.graphs (subst (λ (g : Facts). All (λ x. g.graph ≡ graph_at p x.graph) g.atoms) (sym is) (graphs_made p j));
+      grouped = record {
+        none_empty = All-push (λ (g : Facts). 0 < length g.atoms) fs f h.grouped.none_empty (let as_many = ap (λ (g : Facts). length g.atoms) is ∙ length-map ns (atom_numbered p) in omega (arith, as_many, some));
+        shared = All-push (λ (g : Facts). All (λ x. All (λ y. owns_of g.atoms y.number ≡ are_alike x y) p.atoms) g.atoms) fs f h.grouped.shared
+            (subst (λ (g : Facts). All (λ x. All (λ y. owns_of g.atoms y.number ≡ are_alike x y) p.atoms) g.atoms) (sym is) (shared_made p j ok));
+      };
       unseen = All-push (λ (g : Facts). g.seen ≡ []) fs f h.unseen (ap (λ (g : Facts). g.seen) is);
     }
 
@@ -215,6 +259,7 @@ made_skip p j fs h empty = record {
       ∙ ap (λ (b : Bool). cond (ltb s j) 1 0 + cond b 1 0) (sym other) ∙ below_next s j;
   exact = h.exact;
   graphs = h.graphs;
+  grouped = h.grouped;
   unseen = h.unseen;
 }
 

@@ -1,2 +1,4 @@
 pub mod Kinds
+pub mod Sharing
 pub mod Slots
+pub mod Worked

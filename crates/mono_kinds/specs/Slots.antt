@@ -2,20 +2,10 @@
 use Rattle.std.specs.Prelude.{◌≡◌, ℕ, ◌+◌, ◌*◌, ◌/◌, ◌<◌, ◌≤◌, ◌==◌, nat_lt, if◌then◌else◌, List, [], length, map, filter, slice_index_or, count_by, Some, All}
 use Rattle.std.specs.List.{range_with_len}
 use Rattle.mono_problem.specs.declared.atom.Atom.{Atom}
-use Rattle.mono_problem.specs.declared.atom.Predicate.{Predicate}
-use Rattle.mono_problem.specs.declared.atom.Predicate.TheVariants as kind
 use Rattle.mono_problem.specs.Instance.{Instance, graph_at, numbered}
 use Rattle.mono_problem.specs.Read.{atom_numbered}
 use Rattle.mono_theory.specs.Theories.{Facts, owns_of}
-
--- the kinds of predicates, numbered
-abbrev pub kind_index : Predicate → ℕ
-kind_index (kind.Reach u v) = 0
-kind_index (kind.Steps u v most) = 1
-kind_index (kind.Distance u v most) = 1
-kind_index (kind.Flow s t least) = 2
-kind_index (kind.Tree most) = 3
-kind_index kind.Acyclic = 4
+use Rattle.mono_kinds.specs.Sharing.{AreByGraphAndKind, kind_index}
 
 -- the slot of an atom: each graph has one for each kind
 abbrev pub slot_of : Atom → ℕ
@@ -43,4 +33,5 @@ pub record AreMade (p : Instance) (j : ℕ) (fs : List Facts) : Type 0 where
       → count_by (λ f. owns_of f.atoms n) fs ≡ (if nat_lt (slot_of (atom_numbered p n)) j then 1 else 0)
   pub exact : All (λ f. All (λ x. numbered p.atoms x.number ≡ Some x) f.atoms) fs
   pub graphs : All (λ f. All (λ x. f.graph ≡ graph_at p x.graph) f.atoms) fs
+  pub grouped : AreByGraphAndKind p fs
   pub unseen : All (λ f. f.seen ≡ []) fs

@@ -3,6 +3,7 @@
 ghost use Rattle.std.specs.Prelude.{◌≡◌, ◌<◌, [], IfOk, All, length};
 ghost use Rattle.mono_theory.specs.Owners.{facts_of, fact_of, OwnsEach};
 ghost use Rattle.mono_kinds.specs.Kinds.{graph_of, atoms_of, seen_of};
+ghost use Rattle.mono_kinds.specs.Sharing.{AreByGraphAndKind};
 ghost use Rattle.mono_kinds.specs.Slots.{AreMade, AreSlots, made_of, numbers_in, slot_count as count_of_slots};
 
 use crate::AnyTheory;
@@ -70,9 +71,10 @@ fn theories_of(
 }
 
 /// The theories of a problem: each atom is owned by exactly one of them, each theory's graph is the problem's, and none
-/// has seen anything. The atoms of one graph and kind share a theory.
+/// has seen anything. The atoms of one graph and kind share a theory, and each theory is that of some.
 pub fn all_theories(alloc: Global, problem: &Problem) -> Result<Vec<AnyTheory>, AllocError>
     ensures owned { IfOk result (λ ts. OwnsEach problem.now (facts_of graph_of atoms_of seen_of ts.items)) }
+    ensures shared { IfOk result (λ ts. AreByGraphAndKind problem.now (facts_of graph_of atoms_of seen_of ts.items)) }
     ensures unseen { IfOk result (λ ts. All (λ f. f.seen ≡ []) (facts_of graph_of atoms_of seen_of ts.items)) }
 {
     let _ = problem.vars();

@@ -7,6 +7,8 @@ mod any;
 mod every;
 /// Atoms by graph and kind.
 mod slots;
+/// Worked rows of the definitions.
+pub mod worked;
 
 pub use any::AnyTheory;
 pub use every::all_theories;

@@ -1,7 +1,8 @@
 //! Atoms by graph and kind: those of one slot make one theory.
 
 ghost use Rattle.std.specs.Prelude.{◌≡◌, ◌<◌, IfOk, length};
-ghost use Rattle.mono_kinds.specs.Slots.{AreSlots, kind_index as index_of_kind, slot_of as slot_by, slot_count as count_of_slots};
+ghost use Rattle.mono_kinds.specs.Sharing.{kind_index as index_of_kind};
+ghost use Rattle.mono_kinds.specs.Slots.{AreSlots, slot_of as slot_by, slot_count as count_of_slots};
 
 use mono_base::Buckets;
 use mono_problem::{Atom, Predicate, Problem};

@@ -1,8 +1,9 @@
 -- Workers as their team keeps them.
 use Rattle.std.proofs.Common.{◌≡◌, ℕ, zero, suc, ◌+◌, ◌<◌, Bool, true, false, not, List, [], ◌∷◌, ◌++◌, length, map, get_or, set, replicate, Option, Some, None, refl, sym, ap, subst, ◌∙◌, arith, ℤ, All, length-append}
-use Rattle.std.specs.Prelude.{IsTrue, IfSome, nat_lt, ◌||◌, ◌==◌, Result, Ok, Err, OnErr}
+use Rattle.std.specs.Prelude.{IsTrue, nat_lt, ◌||◌, ◌==◌, Result, Ok, Err, OnErr}
 use Rattle.std.specs.List.{list_any}
 use Rattle.std.proofs.lemmas.Bool.{and_parts, cond-true, cond-false, lt-leb}
+use Rattle.std.proofs.lemmas.Option.{IfSome_then}
 use Rattle.std.proofs.lemmas.List.{append-nil, get_or-map, length-map, map-set, set-get_or}
 use Rattle.std.proofs.lemmas.List.Elements.{All-map, All-push, All-replicate, All-set, All-weaker}
 use Rattle.mono_base.specs.declared.limits.TheConstants.{MAX_CLAUSES, MAX_LITERALS}
@@ -22,7 +23,9 @@ use Rattle.mono_portfolio.specs.TeamView.{WorkerView, TeamView, idle, worker_at,
 use Rattle.mono_portfolio.specs.Refusals.{first_reply, lacks_worker, has_taken, is_full, refusal}
 use Rattle.mono_portfolio.specs.Plays.{Served, Answers}
 use Rattle.mono_portfolio.specs.Searched.{Tells, HasModelsOf}
-use Rattle.mono_portfolio.specs.Workers.{WorkerState, shown, idle_over, IsKept, shown_team, IsKeptTeam}
+use Rattle.mono_portfolio.specs.declared.building.Built.{Built}
+use Rattle.mono_portfolio.specs.Workers.{WorkerState, shown, idle_over, IsKept, SearchesOver, taken_at, unless_of, shown_team, IsKeptTeam}
+use Rattle.mono_portfolio.proofs.BuiltProblems.{taken_is_at, built_stays, built_takes, built_grows}
 use Rattle.mono_portfolio.proofs.Changes.{extended_kept, worker_kept, idle_ok}
 use Rattle.mono_portfolio.proofs.ExtendedLaws.{literals_of, lits_more, size_of}
 use Rattle.mono_portfolio.proofs.Follows.{follows}
@@ -30,8 +33,8 @@ use Rattle.mono_portfolio.proofs.Replies.{answers_served, answers_refused, may_r
 
 -- ---- what contracts see
 
-pub team_of : (p : Instance) (board : List Step) (xs : List WorkerState) → IsKeptTeam p board xs → IsTeam (shown_team p board xs)
-team_of p board xs h = record {
+pub team_of : (p : Instance) (board : List Step) (xs : List WorkerState) (o : Option Built) → IsKeptTeam p board xs o → IsTeam (shown_team p board xs)
+team_of p board xs o h = record {
   problem = h.problem;
   justified = h.justified;
   workers = All-map (IsWorker p board) shown xs (All-weaker (IsKept p board) (λ x. IsWorker p board (shown x)) (λ x k. k.worker) xs h.workers);
@@ -50,7 +53,6 @@ pub kept_new : (p : Instance) (board : List Step) → IsInstance p → IsKept p 
 kept_new p board ok = record {
   worker = idle_ok p board ok;
   literals = ap (λ (cs : List (List ℤ)). literals_total (record p { clauses = cs })) (sym (append-nil p.clauses));
-  over = tt;
 }
 
 pub kept_grows : (p : Instance) (board more : List Step) (x : WorkerState) → IsKept p board x → IsKept p (board ++ more) x
@@ -59,26 +61,14 @@ kept_grows p board more x k =
     record {
       worker = worker_kept p board more (shown x) k.worker;
       literals = k.literals ∙ ap literals_total (sym same);
-      over = subst (λ (q : Instance). IfSome x.over (λ r. r ≡ q)) (sym same) k.over;
     }
 
 pub kept_makes : (p : Instance) (board : List Step) (x : WorkerState) (steps : List Step) → IsKept p board x → IsTrue (are_justified (extended p board x.taken) steps) → IsKept p board (record x { made = steps })
-kept_makes p board x steps k j = record { worker = record { held = k.worker.held; fits = k.worker.fits; justified = j }; literals = k.literals; over = k.over }
-
-pub kept_builds : (p : Instance) (board : List Step) (x : WorkerState) (q : Instance) → q ≡ extended p board x.taken → IsKept p board x → IsKept p board (record x { over = Some q })
-kept_builds p board x q e k = record { worker = k.worker; literals = k.literals; over = e }
-
--- the built problem is taken out
-pub kept_without : (p : Instance) (board : List Step) (x : WorkerState) → IsKept p board x → IsKept p board (record x { over = None })
-kept_without p board x k = record { worker = k.worker; literals = k.literals; over = tt }
-
--- a problem that was built is the worker's
-pub built : (o : Option Instance) (q r : Instance) → o ≡ Some q → IfSome o (λ x. x ≡ r) → q ≡ r
-built o q r e h = subst (λ (x : Option Instance). IfSome x (λ y. y ≡ r)) e h
+kept_makes p board x steps k j = record { worker = record { held = k.worker.held; fits = k.worker.fits; justified = j }; literals = k.literals }
 
 -- one more number is taken
 abbrev pub with_taken : Instance → List Step → WorkerState → ℕ → WorkerState
-with_taken p board x n = record { taken = x.taken ++ n ∷ []; made = []; literals = x.literals + length (board_clause p board n); over = None }
+with_taken p board x n = record { taken = x.taken ++ n ∷ []; made = []; literals = x.literals + length (board_clause p board n) }
 
 pub more_literals : (p : Instance) (board : List Step) (taken : List ℕ) (n : ℕ) → literals_total (extended p board (taken ++ n ∷ [])) ≡ literals_total (extended p board taken) + length (board_clause p board n)
 more_literals p board taken n = omega (arith, literals_of p board (taken ++ n ∷ []), lits_more p board taken n, literals_of p board taken)
@@ -87,16 +77,15 @@ pub kept_takes : (p : Instance) (board : List Step) (x : WorkerState) (n : ℕ) 
 kept_takes p board x n k h fits = record {
   worker = record { held = All-push (λ m. IsTrue (has_chain p board m)) x.taken n k.worker.held h; fits = fits; justified = refl };
   literals = ap (λ (m : ℕ). m + length (board_clause p board n)) k.literals ∙ sym (more_literals p board x.taken n);
-  over = tt;
 }
 
 -- the state after it, from its parts
 pub taken_is : (p : Instance) (board : List Step) (x : WorkerState) (n literals : ℕ) (taken : List ℕ) (made : List Step) → taken ≡ x.taken ++ n ∷ [] → made ≡ [] → literals ≡ x.literals + length (board_clause p board n)
-    → ◌≡◌ {A = WorkerState} (record { taken = taken; made = made; literals = literals; over = None }) (with_taken p board x n)
+    → ◌≡◌ {A = WorkerState} (record { taken = taken; made = made; literals = literals }) (with_taken p board x n)
 taken_is p board x n literals taken made t m l =
-    ap (λ (ns : List ℕ). record { taken = ns; made = made; literals = literals; over = None }) t
-    ∙ ap (λ (ss : List Step). record { taken = x.taken ++ n ∷ []; made = ss; literals = literals; over = None }) m
-    ∙ ap (λ (k : ℕ). record { taken = x.taken ++ n ∷ []; made = []; literals = k; over = None }) l
+    ap (λ (ns : List ℕ). record { taken = ns; made = made; literals = literals }) t
+    ∙ ap (λ (ss : List Step). record { taken = x.taken ++ n ∷ []; made = ss; literals = literals }) m
+    ∙ ap (λ (k : ℕ). record { taken = x.taken ++ n ∷ []; made = []; literals = k }) l
 
 -- whether there is room, by the counts
 pub full_by_counts : (p : Instance) (board : List Step) (x : WorkerState) (n clauses literals : ℕ) → IsKept p board x → clauses ≡ length p.clauses + length x.taken + 1 → literals ≡ x.literals + length (board_clause p board n)
@@ -113,17 +102,42 @@ on_error (Err e) h = h
 
 -- ---- a team
 
-pub team_new : (p : Instance) (n : ℕ) → IsInstance p → IsKeptTeam p [] (replicate n (idle_over p))
-team_new p n ok = record { problem = ok; justified = refl; workers = All-replicate (IsKept p []) n (idle_over p) (kept_new p [] ok) }
+pub team_new : (p : Instance) (n : ℕ) → IsInstance p → IsKeptTeam p [] (replicate n (idle_over p)) None
+team_new p n ok = record { problem = ok; justified = refl; workers = All-replicate (IsKept p []) n (idle_over p) (kept_new p [] ok); built = tt }
 
-pub team_sets : (p : Instance) (board : List Step) (xs : List WorkerState) (w : ℕ) (y : WorkerState) → IsKeptTeam p board xs → IsKept p board y → IsKeptTeam p board (set xs w y)
-team_sets p board xs w y h k = record { problem = h.problem; justified = h.justified; workers = All-set (IsKept p board) xs w y k h.workers }
+-- one worker becomes y, which took the same
+pub team_sets : (p : Instance) (board : List Step) (xs : List WorkerState) (o : Option Built) (w : ℕ) (x y : WorkerState) → IsKeptTeam p board xs o → x ≡ get_or xs w x → IsKept p board y → y.taken ≡ x.taken → IsKeptTeam p board (set xs w y) o
+team_sets p board xs o w x y h is k same = record {
+  problem = h.problem;
+  justified = h.justified;
+  workers = All-set (IsKept p board) xs w y k h.workers;
+  built = IfSome_then o h.built (λ b. built_stays p board xs w x y b is same);
+}
 
-pub team_gives : (p : Instance) (board more : List Step) (xs : List WorkerState) (w : ℕ) (y : WorkerState) → IsKeptTeam p board xs → IsKept p board y → IsTrue (are_justified p (board ++ more)) → IsKeptTeam p (board ++ more) (set xs w y)
-team_gives p board more xs w y h k j = record {
+-- one worker becomes y, and its built problem is dropped
+pub team_takes : (p : Instance) (board : List Step) (xs : List WorkerState) (o : Option Built) (w : ℕ) (y : WorkerState) → IsKeptTeam p board xs o → IsKept p board y → IsKeptTeam p board (set xs w y) (unless_of w o)
+team_takes p board xs o w y h k = record {
+  problem = h.problem;
+  justified = h.justified;
+  workers = All-set (IsKept p board) xs w y k h.workers;
+  built = built_takes p board xs w y o h.built;
+}
+
+pub team_gives : (p : Instance) (board more : List Step) (xs : List WorkerState) (o : Option Built) (w : ℕ) (x y : WorkerState) → IsKeptTeam p board xs o → x ≡ get_or xs w x → IsKept p board y → y.taken ≡ x.taken → IsTrue (are_justified p (board ++ more)) → IsKeptTeam p (board ++ more) (set xs w y) o
+team_gives p board more xs o w x y h is k same j = record {
   problem = h.problem;
   justified = j;
   workers = All-set (IsKept p (board ++ more)) xs w y (kept_grows p board more y k) (All-weaker (IsKept p board) (IsKept p (board ++ more)) (kept_grows p board more) xs h.workers);
+  built = IfSome_then o (IfSome_then o h.built (λ b. built_stays p board xs w x y b is same)) (λ b. built_grows p board more (set xs w y) b (All-set (IsKept p board) xs w y k h.workers));
+}
+
+-- the search of a worker of a team
+pub searches : (p : Instance) (board : List Step) (xs : List WorkerState) (o : Option Built) (w : ℕ) (x : WorkerState) (q : Instance) → IsKeptTeam p board xs o → w < length xs → x ≡ get_or xs w x → q ≡ extended p board (taken_at xs w) → SearchesOver p board x q
+searches p board xs o w x q h lt is over = record {
+  problem = h.problem;
+  justified = h.justified;
+  kept = subst (λ (y : WorkerState). IsKept p board y) (sym is) (h.workers w x lt);
+  over = over ∙ ap (extended p board) (sym (taken_is_at xs w x lt is));
 }
 
 -- ---- what the calls of a team come to, where one worker becomes y
@@ -226,7 +240,7 @@ kept_names p board x count taken made k count_is taken_is made_is =
 -- ---- a search of a worker
 
 -- the clauses that it took follow from the problem, so its models are the problem's
-pub models_of : (p : Instance) (board : List Step) (taken : List ℕ) → IsInstance p → IsTrue (are_justified p board) → All (λ n. IsTrue (has_chain p board n)) taken → HasModelsOf p (extended p board taken)
+models_of : (p : Instance) (board : List Step) (taken : List ℕ) → IsInstance p → IsTrue (are_justified p board) → All (λ n. IsTrue (has_chain p board n)) taken → HasModelsOf p (extended p board taken)
 models_of p board taken ok j held = λ model h. record { len = h.len; satisfies = (follows p board taken (value_in model) ok j held).1 h.satisfies }
 
 tells_justified : (p q : Instance) (slice : ℕ) (r : Reply) (made : List Step) → Tells p q slice r made → IsTrue (are_justified q made)
@@ -242,5 +256,8 @@ tells_justified p q slice reply.NoStep made h = absurd h
 tells_justified p q slice reply.AlreadyTaken made h = absurd h
 tells_justified p q slice reply.Full made h = absurd h
 
-pub kept_runs : (p : Instance) (board : List Step) (x : WorkerState) (slice : ℕ) (r : Reply) (made : List Step) → IsKept p board x → Tells p (extended p board x.taken) slice r made → IsKept p board (record x { made = made })
-kept_runs p board x slice r made k h = kept_makes p board x made k (tells_justified p (extended p board x.taken) slice r made h)
+pub told_by : (p : Instance) (board : List Step) (x : WorkerState) (q : Instance) → SearchesOver p board x q → HasModelsOf p q
+told_by p board x q h = subst (λ (r : Instance). HasModelsOf p r) (sym h.over) (models_of p board x.taken h.problem h.justified h.kept.worker.held)
+
+pub kept_runs : (p : Instance) (board : List Step) (x : WorkerState) (q : Instance) (slice : ℕ) (r : Reply) (made : List Step) → SearchesOver p board x q → Tells p q slice r made → IsKept p board (record x { made = made })
+kept_runs p board x q slice r made h tells = kept_makes p board x made h.kept (subst (λ (i : Instance). IsTrue (are_justified i made)) h.over (tells_justified p q slice r made tells))

@@ -7,6 +7,7 @@ pub mod Changes
 pub mod Playing
 pub mod ExtendedLaws
 pub mod Replies
+pub mod BuiltProblems
 pub mod Kept
 pub mod RoundLaws
 pub mod TakeLaws

@@ -6,7 +6,7 @@ use Rattle.std.proofs.lemmas.List.Elements.{All-nil, All-cons, All-head, All-tai
 use Rattle.mono_problem.specs.Instance.{Instance}
 use Rattle.mono_steps.specs.declared.step.Step.{Step}
 use Rattle.mono_portfolio.specs.Extended.{extended, passes_limits}
-use Rattle.mono_portfolio.specs.TeamView.{WorkerView, TeamView, idle, worker_at, start}
+use Rattle.mono_portfolio.specs.TeamView.{WorkerView, TeamView, idle, worker_at}
 use Rattle.mono_portfolio.specs.Rounds.{is_short, short_chains, taking, IsRound, AreRounds, Rounds}
 use Rattle.mono_portfolio.specs.Turns.{even, having, IsRounded, taken_after}
 
@@ -91,15 +91,6 @@ pub record RoundsSoFar (p : Instance) (workers rounds : ℕ) (t : TeamView) : Ty
   pub low : All (λ n. n ≤ length p.clauses + length t.board) taken
   pub few : 0 < rounds → 0 < workers → 1000 < 3 ^ p.vars
   pub leads : (more : ℕ) (board : List Step) → AreRounds 1000 p workers more taken t.board board → AreRounds 1000 p workers (rounds + more) [] [] board
-
-pub no_rounds : (p : Instance) (workers : ℕ) → RoundsSoFar p workers 0 (start p workers)
-no_rounds p workers = record {
-  taken = [];
-  is = refl;
-  low = All-nil (λ n. n ≤ length p.clauses + 0);
-  few = λ lt. absurd (omega arith);
-  leads = λ more board r. let e : more ≡ 0 + more = omega arith in subst (λ (n : ℕ). AreRounds 1000 p workers n [] [] board) e r;
-}
 
 -- a round on it
 pub rounded : (p : Instance) (workers rounds : ℕ) (s u : TeamView) → (h : RoundsSoFar p workers rounds s) → IsRounded s workers u → (u ≡ even p workers h.taken u.board) × IsRound 1000 p workers h.taken s.board u.board

@@ -3,7 +3,7 @@ use Rattle.std.proofs.Common.{◌≡◌, ℕ, ◌+◌, ◌-◌, ◌<◌, ◌≤�
 use Rattle.std.specs.Prelude.{IsTrue, MatchOption, ◌==◌}
 use Rattle.std.specs.List.{list_any}
 use Rattle.std.proofs.lemmas.Bool.{ne_eqb, or_from, cond-true, cond-false, lt-leb, not_from_true}
-use Rattle.std.proofs.lemmas.List.{set-get_or, get_or-set_same, set-set, drop_more, drop_all, length-set}
+use Rattle.std.proofs.lemmas.List.{set-get_or, get_or-set_same, set-set, drop_more, length-set}
 use Rattle.std.proofs.lemmas.List.Elements.{All-head, All-tail, All-push, All-weaker}
 use Rattle.mono_problem.specs.Instance.{Instance, numbered}
 use Rattle.mono_steps.specs.declared.step.Step.{Step}
@@ -153,10 +153,3 @@ took_short s m t w from place d r lt h within short a = record {
     by_case : (b : Bool) → All (λ k. k ≤ length s.problem.clauses + (place + 1)) (cond b h.taken (h.taken ++ n ∷ []))
     by_case true = lower (length s.problem.clauses) place h.taken h.low
     by_case false = All-push (λ k. k ≤ length s.problem.clauses + (place + 1)) h.taken n (lower (length s.problem.clauses) place h.taken h.low) (omega arith)
-
-pub took_all : (s : TeamView) (w from place : ℕ) (t : TeamView) → TookBelow s w from place t → length s.board ≤ place
-    → t ≡ having s w (taking s.problem s.board (worker_at s w).taken (short_chains (length s.problem.clauses + from + 1) (drop from s.board)))
-took_all s w from place t h le =
-    let e : taking s.problem s.board h.taken (short_chains (length s.problem.clauses + place + 1) (drop place s.board)) ≡ h.taken =
-    ap (λ (ss : List Step). taking s.problem s.board h.taken (short_chains (length s.problem.clauses + place + 1) ss)) (drop_all place s.board le) in
-    h.after ∙ ap (having s w) (sym e ∙ h.same)

@@ -62,9 +62,10 @@ given_first = chain (pos 1 ∷ pos 2 ∷ []) (1 ∷ 2 ∷ [])
 abbrev pub given_next : Step
 given_next = chain (pos 1 ∷ []) (3 ∷ 4 ∷ 5 ∷ [])
 
--- chains with so many literals
+-- so many literals
 abbrev pub eight : List ℤ
 eight = pos 1 ∷ pos 2 ∷ pos 3 ∷ pos 4 ∷ pos 5 ∷ pos 6 ∷ pos 7 ∷ pos 8 ∷ []
 
+-- a lemma, and chains of eight, of nine and of no literals
 abbrev pub long_and_short : List Step
 long_and_short = some_lemma ∷ chain eight (1 ∷ []) ∷ chain (pos 9 ∷ eight) (1 ∷ []) ∷ chain [] (1 ∷ []) ∷ []

@@ -5,6 +5,8 @@
 //! problem, and a refutation that one makes is one on the board: whatever the order of searches, gifts and takings.
 #![tactic(auto)]
 
+/// The problem that was built last for a worker's search.
+mod building;
 /// What a team is asked, and what it answers.
 mod event;
 /// A problem with clauses of the board behind its own.

@@ -31,7 +31,7 @@ pub(crate) enum Turn {
     Gave,
 }
 
-/// A worker searches, and gives.
+/// A worker searches, and gives what it made, unless it found a model.
 fn take_turn<'p, T: Theory, F: Fn(&Problem) -> Result<Vec<T>, AllocError>>(
     team: &mut Team<'p>,
     make: &F,
@@ -90,7 +90,7 @@ fn is_short(step: &Step) -> bool
     }
 }
 
-/// A worker that made nothing takes each short chain of the board, from a place on.
+/// A worker that made nothing takes each short chain of the board, from a place on, but for those that find no room.
 fn take_short<'p>(team: &mut Team<'p>, worker: u32, from: usize) -> Result<(), AllocError>
     requires worker { worker < length team.old.workers }
     requires idle { (worker_at team.old worker).made ≡ [] }
@@ -109,7 +109,7 @@ fn take_short<'p>(team: &mut Team<'p>, worker: u32, from: usize) -> Result<(), A
     Ok(())
 }
 
-/// Each worker takes each short chain of the board, from a place on.
+/// Each worker takes each short chain of the board, from a place on, but for those that find no room.
 fn take_short_by_all<'p>(team: &mut Team<'p>, workers: u32, from: usize) -> Result<(), AllocError>
     requires workers { workers ≡ length team.old.workers }
     requires even { IsEven team.old from }

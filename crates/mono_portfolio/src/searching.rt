@@ -22,6 +22,7 @@ pub(crate) struct Told {
     pub(crate) made: Row<Step>,
 }
 
+/// What a search came to, as a reply, and what it made.
 fn tell(alloc: Global, solved: Solved) -> Told
     ensures { (p q : Instance) (slice : ℕ) → HasModelsOf p q → IsSolved q slice solved → Tells p q slice result.reply result.made }
 {

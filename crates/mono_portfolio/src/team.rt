@@ -14,6 +14,7 @@ ghost use Rattle.mono_portfolio.specs.Plays.{Answers, Plays};
 ghost use Rattle.mono_portfolio.specs.Soundness.{IsSound};
 ghost use Rattle.mono_search.specs.Solving.{MakesTheories};
 
+use crate::building::{Built, build_for, drop_built_of, problem_of};
 use crate::event::{Event, Reply};
 use crate::extending::has_chain;
 use crate::moving::moved_steps;
@@ -31,6 +32,8 @@ pub struct Team<'p> {
     problem: &'p Problem,
     board: Vec<Step>,
     workers: Vec<Worker>,
+    /// At most one problem that was built is kept, however many workers there are.
+    built: Option<Built>,
 }
 
 impl<'p> Model for Team<'p> {
@@ -41,9 +44,10 @@ impl<'p> Model for Team<'p> {
 
     ghost view = { λ t. shown_team t.problem.now t.board.items t.workers.items };
 
-    ghost invariant = { λ t. IsKeptTeam t.problem.now t.board.items t.workers.items };
+    ghost invariant = { λ t. IsKeptTeam t.problem.now t.board.items t.workers.items t.built };
 }
 
+/// So many workers that took nothing and made nothing.
 fn idle_workers(alloc: Global, problem: &Problem, count: u32) -> Result<Vec<Worker>, AllocError>
     ensures { IfOk result (λ workers. workers.items ≡ replicate count (idle_over problem.now)) }
 {
@@ -69,6 +73,7 @@ impl<'p> Team<'p> {
             problem,
             board,
             workers: idle,
+            built: None,
         })
     }
 
@@ -96,6 +101,7 @@ impl<'p> Team<'p> {
             problem: _,
             board,
             workers: _,
+            built: _,
         } = self;
         board
     }
@@ -141,14 +147,16 @@ impl<'p> Team<'p> {
         if slice == 0 {
             return Ok(Reply::ZeroSlice);
         }
-        self.workers[place].run::<T, F>(
-            self.alloc,
+        let workers = self.workers.as_slice();
+        build_for(
             self.problem,
             self.board.as_slice(),
-            make,
-            worker,
-            slice,
-        )
+            workers,
+            place,
+            &mut self.built,
+        )?;
+        let over = problem_of(self.problem, &self.built, place);
+        self.workers[place].run::<T, F>(self.alloc, over, make, worker, slice)
     }
 
     /// What a worker made joins the board.
@@ -194,6 +202,7 @@ impl<'p> Team<'p> {
             return Ok(Reply::Full);
         }
         self.workers[place].take(self.problem, board, step)?;
+        drop_built_of(place, &mut self.built);
         Ok(Reply::Taken)
     }
 }

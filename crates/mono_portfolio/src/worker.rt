@@ -1,21 +1,20 @@
-//! A worker: what it took, what it made, and the problem that its searches are over.
+//! A worker: what it took, and what it made.
 //!
-//! The problem is built when a search first asks for it, and again only after something was taken. Whether a number was
-//! taken, and whether there is room for one more clause, is told without a look at what was taken before.
+//! Whether a number was taken, and whether there is room for one more clause, is told without a look at what was taken
+//! before.
 
-ghost use Rattle.std.specs.Prelude.{◌≡◌, ◌≤◌, ◌==◌, nat_lt, ◌||◌, false, [], ◌∷◌, ◌++◌, None, IfOk, OnOk, OnErr, IsTrue};
+ghost use Rattle.std.specs.Prelude.{◌≡◌, ◌≤◌, ◌==◌, nat_lt, ◌||◌, false, [], ◌∷◌, ◌++◌, ℕ, List, IfOk, OnOk, OnErr, IsTrue};
 ghost use Rattle.std.specs.List.{list_any};
-ghost use Rattle.mono_problem.specs.Instance.{literals_total};
-ghost use Rattle.mono_problem.specs.WellFormed.{IsInstance};
-ghost use Rattle.mono_steps.specs.Steps.{are_justified};
+ghost use Rattle.mono_problem.specs.Instance.{Instance, literals_total};
+ghost use Rattle.mono_steps.specs.declared.step.Step.{Step};
 ghost use Rattle.mono_theory.specs.Owners.{facts_of};
 ghost use Rattle.mono_portfolio.specs.Extended.{extended as extended_by, has_chain, passes_limits};
 ghost use Rattle.mono_search.specs.Solving.{MakesTheories};
 ghost use Rattle.mono_portfolio.specs.Searched.{Tells};
-ghost use Rattle.mono_portfolio.specs.Workers.{IsKept, shown};
+ghost use Rattle.mono_portfolio.specs.Workers.{IsKept, SearchesOver, shown};
 
 use crate::event::Reply;
-use crate::extending::{clause_of, extended};
+use crate::extending::clause_of;
 use crate::searching::search_over;
 use indexmap::IndexSet;
 use mono_base::limits::{MAX_CLAUSES, MAX_LITERALS};
@@ -25,13 +24,13 @@ use mono_theory::Theory;
 use std::alloc::{AllocError, Global};
 use std::marker::Model;
 
-/// The numbers of the steps that it took, in order, and the steps that it made over the problem that these extend.
+/// The numbers of the steps that it took, in order; the steps that it made over the problem that these extend; and how many
+/// literals that problem has.
 #[derive(Drop)]
 pub(crate) struct Worker {
     taken: IndexSet<u64>,
     made: Vec<Step>,
     literals: u64,
-    over: Option<Problem>,
 }
 
 impl Model for Worker {
@@ -39,19 +38,18 @@ impl Model for Worker {
 
     ghost Value = { WorkerState };
 
-    ghost view = { λ w. record { taken = w.taken.keys; made = w.made.items; literals = w.literals; over = w.over } };
+    ghost view = { λ w. record { taken = w.taken.keys; made = w.made.items; literals = w.literals } };
 }
 
 impl Worker {
     /// It took nothing and made nothing.
     pub(crate) fn new(alloc: Global, problem: &Problem) -> Worker
-        ensures { result ≡ record { taken = []; made = []; literals = literals_total problem.now; over = None } }
+        ensures { result ≡ record { taken = []; made = []; literals = literals_total problem.now } }
     {
         Worker {
             taken: IndexSet::new(alloc),
             made: Vec::new(alloc),
             literals: u64::from(problem.literal_count()),
-            over: None,
         }
     }
 
@@ -69,7 +67,7 @@ impl Worker {
         self.made.as_slice()
     }
 
-    /// It made nothing.
+    /// Drops what it made.
     pub(crate) fn clear_made(&mut self)
         ensures { self.new ≡ record self.old { made = [] } }
     {
@@ -112,31 +110,15 @@ impl Worker {
         let literals = clause_of(problem, board, step).len() as u64;
         add_number(&mut self.taken, step)?;
         self.literals += literals;
-        self.over = None;
         self.clear_made();
         Ok(())
-    }
-
-    /// Its problem, taken out of it, or built where it isn't there.
-    fn take_over(&mut self, problem: &Problem, board: &[Step]) -> Result<Problem, AllocError>
-        requires justified { IsTrue (are_justified problem.now board.now) }
-        requires kept { IsKept problem.now board.now self.old }
-        ensures kept { IsKept problem.now board.now self.new }
-        ensures shown { shown self.new ≡ shown self.old }
-        ensures ok { IfOk result (λ over. over ≡ extended_by problem.now board.now self.old.taken) }
-    {
-        if let Some(over) = self.over.take() {
-            return Ok(over);
-        }
-        extended(problem, board, self.taken.as_slice())
     }
 
     /// Searches over its problem from the beginning, until so many clauses are learned. It makes what the search did.
     pub(crate) fn run<T: Theory, F: Fn(&Problem) -> Result<Vec<T>, AllocError>>(
         &mut self,
         alloc: Global,
-        problem: &Problem,
-        board: &[Step],
+        over: &Problem,
         make: &F,
         number: u32,
         slice: u64,
@@ -144,17 +126,13 @@ impl Worker {
         requires callable { F.IsAlwaysCallable make.now }
         requires makes { MakesTheories (F.post make.now) (λ ts. facts_of T.graph T.atoms T.seen ts.items) }
         requires slice { 1 ≤ slice }
-        requires instance { IsInstance problem.now }
-        requires justified { IsTrue (are_justified problem.now board.now) }
-        requires kept { IsKept problem.now board.now self.old }
-        ensures kept { IsKept problem.now board.now self.new }
-        ensures ok { IfOk result (λ r. Tells problem.now (extended_by problem.now board.now self.old.taken) slice r self.new.made
-            × (self.new.taken ≡ self.old.taken)) }
-        ensures err { OnErr result (shown self.new ≡ shown self.old) }
+        ensures kept { (p : Instance) (board : List Step) → SearchesOver p board self.old over.now → IsKept p board self.new }
+        ensures taken { self.new.taken ≡ self.old.taken }
+        ensures ok { (p : Instance) (board : List Step) → SearchesOver p board self.old over.now
+            → IfOk result (λ r. Tells p over.now slice r self.new.made) }
+        ensures err { OnErr result (self.new ≡ self.old) }
     {
-        let over = self.take_over(problem, board)?;
-        let told = search_over::<T, F>(alloc, &over, make, number, slice)?;
-        self.over = Some(over);
+        let told = search_over::<T, F>(alloc, over, make, number, slice)?;
         self.made = told.made.into_vec();
         Ok(told.reply)
     }

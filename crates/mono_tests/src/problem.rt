@@ -73,7 +73,8 @@ pub fn predicates_by_number()
 
 /// There is room for as many assumptions as clauses and literals are left up to their limits.
 pub fn room_for_assumptions()
-    ensures last { (p : Instance) (lits : List ℤ) → length p.clauses + length lits ≡ MAX_CLAUSES → literals_total p + length lits ≡ MAX_LITERALS → HasRoom p lits }
+    ensures last { (p : Instance) (lits : List ℤ) → length p.clauses + length lits ≡ MAX_CLAUSES → literals_total p + length lits ≡ MAX_LITERALS
+        → HasRoom p lits }
     ensures no_clause { (p : Instance) (lits : List ℤ) → length p.clauses + length lits ≡ MAX_CLAUSES + 1 → HasRoom p lits → ⊥ }
     ensures no_literal { (p : Instance) (lits : List ℤ) → literals_total p + length lits ≡ MAX_LITERALS + 1 → HasRoom p lits → ⊥ }
 {}

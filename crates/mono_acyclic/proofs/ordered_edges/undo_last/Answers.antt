@@ -7,9 +7,9 @@ use Rattle.mono_acyclic.proofs.ordered_edges.undo_last.Goals as goal
 pub returns-then-is_positive : goal.returns-then-is_positive
 returns-then-is_positive c =
     let f = c.args.frame.now in
-    let ks = c.places_of.result.now in
+    let ks = c.edges_of.result.now in
     let lit = c.literal_at-lit.result in
-    let its : AreItsEdges f c.args.at lit ks = record { more = c.requires.at; next = sym c.literal_at-lit.ensures; partial = c.seen.ensures.partial; positive = sym c.is_positive.ensures ∙ c.if-is_positive.true; places = rw (c.requires.vars, c.var-var.ensures.value) at c.places_of.ensures } in
+    let its : AreItsEdges f c.args.at lit ks = record { more = c.requires.at; next = sym c.literal_at-lit.ensures; partial = c.seen.ensures.partial; positive = sym c.is_positive.ensures ∙ c.if-is_positive.true; places = rw c.var-var.ensures.value at c.edges_of.ensures } in
     let out = c.remove_all.ensures in
     ordered_back f c.args.at lit ks c.args.ordered.now c.remove_all.new.ordered its c.requires.ordered out.size out.part_size out.part (out.order f.graph)
 

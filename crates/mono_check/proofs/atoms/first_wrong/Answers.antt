@@ -19,7 +19,7 @@ returns-then-not-branch c =
 
 pub loop-place-preserved : goal.loop-place-preserved
 loop-place-preserved c = (
-  c.in_ok-is_right.ensures.enabled,
+  c.in_ok-is_right.ensures.parts,
   one_right c.args.problem.now (value_in c.args.model.now) c.loop-place.place c.in_ok-is_right.field-0 (omega arith) c.loop-place.invariant.1 c.in_ok-is_right.ensures.right c.if-not-branch.false,
 )
 

@@ -10,7 +10,9 @@ use Rattle.mono_cmd.proofs.Solves.{satisfiable, unsatisfiable, unknown, its_verd
 use Rattle.mono_cmd.proofs.Summaries.{gen_satisfiable, gen_unsatisfiable, gen_unknown, summed}
 use Rattle.mono_cmd.proofs.Sound.{refutes, models}
 use Rattle.mono_cmd.proofs.SoundWith.{refutes_with, models_with}
-use Rattle.mono_cmd.proofs.Narrows.{core_satisfiable, core_unsatisfiable, its_core}
+use Rattle.mono_cmd.proofs.Narrows.{core_satisfiable, core_unsatisfiable, core_unknown, its_core}
+use Rattle.mono_cmd.proofs.Migrations.{migrated}
+use Rattle.mono_cmd.proofs.Prints.{printed}
 use Rattle.mono_cmd.proofs.Bests.{best_is_never_met, best_unknown, its_bound, asked}
 use Rattle.mono_cmd.proofs.TeamRuns.{team_satisfiable, team_unsatisfiable, team_unknown, its_board}
 use Rattle.mono_cmd.proofs.run.run.Goals as goal
@@ -45,10 +47,13 @@ returns g c =
       summary = λ p there written solves. summed _ _ _ _ _ _ runs p solves there written;
       core_satisfiable = core_satisfiable _ _ _ _ _ _ runs;
       core_unsatisfiable = core_unsatisfiable _ _ _ _ _ _ runs;
+      core_unknown = core_unknown _ _ _ _ _ _ runs;
       core = λ p lits there written narrows. its_core _ _ _ _ _ _ runs p lits narrows there written;
       best_bound = λ p n there written bounds. its_bound _ _ _ _ _ _ runs p n bounds there written;
       best_is_never_met = best_is_never_met _ _ _ _ _ _ runs;
       best_unknown = best_unknown _ _ _ _ _ _ runs;
+      printed = λ p there written prints is. printed _ _ _ _ _ _ runs p prints is there written;
+      migrated = λ p answer there written v migrates is. migrated _ _ _ _ _ _ runs p answer v migrates is there written;
       asked = λ p n b there written asks is. asked _ _ _ _ _ _ runs p n b asks is there written;
       team_satisfiable = team_satisfiable _ _ _ _ _ _ runs;
       team_unsatisfiable = team_unsatisfiable _ _ _ _ _ _ runs;

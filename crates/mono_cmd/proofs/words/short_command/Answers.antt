@@ -20,10 +20,14 @@ many (a ∷ b ∷ d ∷ e ∷ []) more = absurd (omega (arith, more))
 many (a ∷ b ∷ d ∷ e ∷ f ∷ []) more = absurd (omega (arith, more))
 many (a ∷ b ∷ d ∷ e ∷ f ∷ g ∷ ws) more = refl
 
-pub returns-in_default-clause-form : goal.returns-in_default-clause-form
-returns-in_default-clause-form c =
+pub returns-in_default : goal.returns-in_default
+returns-in_default c =
     let same = length-map c.args.words.now string_bytes in
-    elim c.in_default.branch [
-      | in_default-via-then-words-lt2 w ↦ few (map string_bytes c.args.words.now) (grind (arith, nat_tests, same))
-      | in_default-via-else-words-lt2+else-words-lt3+else-words-lt4+else-words-lt5+else-words-lt6 w ↦ many (map string_bytes c.args.words.now) (grind (arith, nat_tests, same))
-    ]
+    record {
+      form = elim c.in_default.branch [
+        | in_default-via-then-words-lt2 w ↦ few (map string_bytes c.args.words.now) (grind (arith, nat_tests, same))
+        | in_default-via-else-words-lt2+else-words-lt3+else-words-lt4+else-words-lt5+else-words-lt6 w ↦ many (map string_bytes c.args.words.now) (grind (arith, nat_tests, same))
+      ];
+      ranges = tt;
+      memory = tt;
+    }

@@ -25,7 +25,7 @@ returns-clause-core c = record {
     kept = false ∷ true ∷ [];
     as_many = refl;
     is = refl;
-    refutes = refl;
+    refutes = record { refutes = refl; named = λ k lt. absurd (omega (arith, lt)) };
     needed = (record { len = refl; satisfies = (refl, (λ k d lt. absurd (omega arith))) }, tt);
   };
   accepted = refl;
@@ -100,7 +100,16 @@ returns-clause-core_without_a_line c = λ h. let same : 115 ≡ 99 = ap (λ t. s
 
 pub returns-clause-progress_of_one_chain : goal.returns-clause-progress_of_one_chain
 unfolding digits
-returns-clause-progress_of_one_chain c = λ h. let e : verdict.Progress 100000 ≡ verdict.Progress 1 = h in cc
+returns-clause-progress_of_one_chain c = λ h. let e : verdict.Progress 100000 ≡ verdict.Progress 1 = h.3 in cc
+
+pub returns-clause-progress_written : goal.returns-clause-progress_written
+returns-clause-progress_written c = λ p lits steps progress accepted. (steps, progress, refl, accepted)
+
+pub returns-clause-line_before_progress : goal.returns-clause-line_before_progress
+returns-clause-line_before_progress c = λ rest h. let same : 99 ≡ 115 = ap (λ (t : List ℕ). slice_index t 0) h.2 in omega (arith, same)
+
+pub returns-clause-too_few_variables : goal.returns-clause-too_few_variables
+returns-clause-too_few_variables c = λ text h. let few = h.1.few in omega (arith, few)
 
 pub returns-clause-core_without_a_refutation : goal.returns-clause-core_without_a_refutation
 unfolding digits

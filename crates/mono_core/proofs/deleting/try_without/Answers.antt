@@ -1,6 +1,5 @@
 use Rattle.std.proofs.Common.{◌≡◌, ◌∙◌, ap, subst, sym, length, List, Bool, ℤ, false}
-use Rattle.std.specs.Prelude.{slice_set, IsTrue}
-use Rattle.mono_steps.specs.Steps.{is_refutation}
+use Rattle.std.specs.Prelude.{slice_set}
 use Rattle.mono_steps.specs.Renumbering.{pick}
 use Rattle.mono_search.specs.declared.solving.Solved.{Solved}
 use Rattle.mono_search.specs.Outcomes.{HasModel}
@@ -45,7 +44,7 @@ shrunk-requires g c =
     record {
       refuted = record {
         as_many = ap length c.in_ok-others.ensures ∙ length-others assumed kept j c.requires.refuted.as_many;
-        refutes = subst (λ (ls : List ℤ). IsTrue (is_refutation (assuming p ls) steps)) lits refuted.refutes;
+        refutes = subst (λ (ls : List ℤ). IsTrimRefutation (assuming p ls) steps) lits refuted;
       };
     }
 

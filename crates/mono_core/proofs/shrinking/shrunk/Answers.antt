@@ -18,7 +18,7 @@ named_by-requires-clause-names c =
     let many : length fewer ≡ c.len.result = omega (arith, ap (λ (ls : List ℤ). length ls) lits, c.len.ensures) in
     subst (λ (ss : List Step). All (StepNamesHeld c.from-count.result (c.len.result + length ss)) ss) (sym c.as_slice-2.ensures)
     (subst (λ (m : ℕ). All (StepNamesHeld m (c.len.result + length c.args.steps)) c.args.steps) (sym count)
-    (subst (λ (n : ℕ). All (StepNamesHeld (length p.clauses) (n + length c.args.steps)) c.args.steps) many (names_behind p fewer c.args.steps c.requires.refuted.refutes)))
+    (subst (λ (n : ℕ). All (StepNamesHeld (length p.clauses) (n + length c.args.steps)) c.args.steps) many (names_behind p fewer c.args.steps c.requires.refuted.refutes.refutes)))
 
 pub without_unnamed-requires-clause-names : goal.without_unnamed-requires-clause-names
 without_unnamed-requires-clause-names c =
@@ -30,7 +30,7 @@ without_unnamed-requires-clause-names c =
     let many : length fewer ≡ length flags = omega (arith, ap (λ (ls : List ℤ). length ls) lits, c.len.ensures, c.in_ok-named.ensures.len, ap (λ (bs : List Bool). length bs) c.as_slice-then-are_over.ensures.value) in
     subst (λ (ss : List Step). All (StepNamesHeld c.from-count.result (length flags + length ss)) ss) (sym c.as_slice-then-are_over-2.ensures)
     (subst (λ (m : ℕ). All (StepNamesHeld m (length flags + length c.args.steps)) c.args.steps) (sym count)
-    (subst (λ (n : ℕ). All (StepNamesHeld (length p.clauses) (n + length c.args.steps)) c.args.steps) many (names_behind p fewer c.args.steps c.requires.refuted.refutes)))
+    (subst (λ (n : ℕ). All (StepNamesHeld (length p.clauses) (n + length c.args.steps)) c.args.steps) many (names_behind p fewer c.args.steps c.requires.refuted.refutes.refutes)))
 
 pub returns-then-are_over-clause-refuted : goal.returns-then-are_over-clause-refuted
 returns-then-are_over-clause-refuted c =

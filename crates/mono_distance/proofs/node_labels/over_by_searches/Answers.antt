@@ -4,10 +4,10 @@ use Rattle.std.proofs.lemmas.Option.{IfSome_then}
 use Rattle.mono_problem.specs.Quiet.{over}
 use Rattle.mono_problem.specs.Read.{no_atom}
 use Rattle.mono_theory.specs.Sound.{IsWitnessIn, evidence_at}
-use Rattle.mono_theory.specs.Stages.{shows, stage_at}
+use Rattle.mono_theory.specs.Stages.{stage_at}
 use Rattle.mono_theory.specs.Supports.{atom_at}
 use Rattle.mono_distance.specs.Readings.{over_of}
-use Rattle.mono_distance.proofs.KnownLabels.{known_read, least_read, over_decides, over_read}
+use Rattle.mono_distance.proofs.KnownLabels.{known_read, below_read, over_decides, over_read}
 use Rattle.mono_distance.proofs.node_labels.over_by_searches.Goals as goal
 
 pub shown_witness-witness-requires : goal.shown_witness-witness-requires
@@ -24,15 +24,15 @@ returns-clause-value c =
     (over_read c.shown_witness-witness.result (λ w. w.now) c.over_by.result x.limit c.args.node (stage_at s.stages a) (evidence_at s.shown a) c.over_by.ensures
     (c.shown_witness-witness.ensures.none f true h.side h.thorough) c.shown_witness-witness.ensures.shows c.shown_witness-witness.ensures.its)
 
-pub returns-clause-least : goal.returns-clause-least
-returns-clause-least c =
+pub returns-clause-below : goal.returns-clause-below
+returns-clause-below c =
     let f = c.args.frame.now in
     let a : ℕ = c.args.place in
     let x = c.args.asked in
     let q = (atom_at f.atoms a).predicate in
     let right : IfSome c.shown_witness-witness.result (λ w. IsWitnessIn f.graph (over f.graph f.seen) q false w.now) =
     IfSome_then c.shown_witness-witness.result c.shown_witness-witness.ensures.right (λ w r. r f true c.requires.right.side) in
-    least_read c.shown_witness-witness.result (λ w. w.now) c.over_by.result f.graph (over f.graph f.seen) q x.from x.to c.args.node x.limit c.requires.asked c.requires.limit c.requires.kind c.over_by.ensures right
+    below_read c.shown_witness-witness.result (λ w. w.now) c.over_by.result f.graph (over f.graph f.seen) q x.from x.to c.args.node x.limit c.requires.asked c.requires.limit c.requires.kind c.over_by.ensures right
 
 pub returns-clause-decides : goal.returns-clause-decides
 returns-clause-decides c none last =

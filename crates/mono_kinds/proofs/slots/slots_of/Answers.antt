@@ -1,7 +1,7 @@
-use Rattle.std.proofs.Common.{◌≡◌, ◌+◌, ◌<◌, length, arith, ap, sym, ◌∙◌}
+use Rattle.std.proofs.Common.{◌≡◌, ◌+◌, ◌<◌, length, arith, ap, ◌∙◌}
 use Rattle.mono_problem.specs.Read.{atom_numbered}
-use Rattle.mono_kinds.specs.Slots.{slot_of, slot_count}
-use Rattle.mono_kinds.proofs.SlotNumbers.{slots_none, slots_more, slot_held}
+use Rattle.mono_kinds.specs.Slots.{slot_of}
+use Rattle.mono_kinds.proofs.SlotNumbers.{slots_more, slot_held}
 use Rattle.mono_kinds.proofs.slots.slots_of.Goals as goal
 
 pub loop-place-preserved : goal.loop-place-preserved

@@ -14,7 +14,7 @@ use Rattle.mono_theory.specs.Supports.{atom_at, facts_in}
 use Rattle.mono_theory.specs.Theories.{atom_of}
 use Rattle.mono_theory.proofs.PlacesOfAtoms.{place_is}
 use Rattle.mono_distance.specs.Distances.{is_distance}
-use Rattle.mono_distance.specs.Readings.{IsLeast, IsReached, over_known, under_in}
+use Rattle.mono_distance.specs.Readings.{IsBelowEachWalk, IsReached, over_known, under_in}
 use Rattle.mono_distance.specs.SureLabels.{AreSureLabels, shows_last, last_node, limit_of}
 use Rattle.mono_distance.proofs.DistanceEvidence.{has_bound}
 use Rattle.mono_distance.proofs.KnownLabels.{reading_is, under_decides}
@@ -43,8 +43,8 @@ returns-clause-over c =
     let s = c.args.self.now in
     let a : ℕ = c.place_of-place.result in
     let found : atom_of s.atoms c.args.atom ≡ Some (atom_at s.atoms a) = rw c.frame-frame.ensures at c.place_of-place.ensures.is in
-    let least : IsLeast s.graph (over s.graph s.seen) (atom_at s.atoms a).predicate c.args.node c.over_known.result = rw c.frame-frame.ensures at c.over_known.ensures.least in
-    subst (λ (o : Option Atom). MatchOption o ⊥ (λ y. IsLeast s.graph (over s.graph s.seen) y.predicate c.args.node c.over_known.result)) (sym found) least
+    let below : IsBelowEachWalk s.graph (over s.graph s.seen) (atom_at s.atoms a).predicate c.args.node c.over_known.result = rw c.frame-frame.ensures at c.over_known.ensures.below in
+    subst (λ (o : Option Atom). MatchOption o ⊥ (λ y. IsBelowEachWalk s.graph (over s.graph s.seen) y.predicate c.args.node c.over_known.result)) (sym found) below
 
 pub returns-clause-decided_under : goal.returns-clause-decided_under
 returns-clause-decided_under c decided =

@@ -4,4 +4,4 @@ use Rattle.mono_portfolio.proofs.Kept.{team_of}
 use Rattle.mono_portfolio.proofs.team.Team.board.Goals as goal
 
 pub returns-clause-team : goal.returns-clause-team
-returns-clause-team c = subst IsTeam c.self.view_is (team_of c.self.inside.problem.now c.self.inside.board.items c.self.inside.workers.items c.self.invariant)
+returns-clause-team c = subst IsTeam c.self.view_is (team_of c.self.inside.problem.now c.self.inside.board.items c.self.inside.workers.items c.self.inside.built c.self.invariant)

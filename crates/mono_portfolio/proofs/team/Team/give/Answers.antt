@@ -64,8 +64,10 @@ invariant_of-self-2 c =
     let kept : IsKept p b x = subst (λ (y : WorkerState). IsKept p b y) (sym (changed_is e)) (e.self.invariant.workers e.args.worker x (there e)) in
     let y : IsKept p b e.clear_made.new.self = subst (λ (z : WorkerState). IsKept p b z) (sym e.clear_made.ensures) (kept_makes p b x [] kept refl) in
     let joined = moved_justified p b x.taken x.made e.self.invariant.justified kept.worker.held kept.worker.justified in
-    subst (λ (ss : List Step). IsKeptTeam p ss (set xs e.args.worker e.clear_made.new.self)) (ap (λ (ss : List Step). b ++ ss) (sym (more_is e)) ∙ sym (board_is e))
-    (team_gives p b (moved p x.made x.taken b) xs e.args.worker e.clear_made.new.self e.self.invariant y joined)
+    let o = e.self.inside.built in
+    let same : e.clear_made.new.self.taken ≡ x.taken = ap (λ (z : WorkerState). z.taken) e.clear_made.ensures in
+    subst (λ (ss : List Step). IsKeptTeam p ss (set xs e.args.worker e.clear_made.new.self) o) (ap (λ (ss : List Step). b ++ ss) (sym (more_is e)) ∙ sym (board_is e))
+    (team_gives p b (moved p x.made x.taken b) xs o e.args.worker x e.clear_made.new.self e.self.invariant (changed_is e) y same joined)
 
 pub returns-clause-ok : goal.returns-clause-ok
 returns-clause-ok c =

@@ -1,4 +1,4 @@
-use Rattle.std.proofs.Common.{◌≡◌, ◌<◌, ◌++◌, ◌∷◌, [], ◌∙◌, true, false, length, set, ap, sym, subst, arith, List}
+use Rattle.std.proofs.Common.{◌≡◌, ◌<◌, ◌++◌, ◌∷◌, [], ◌∙◌, true, false, length, set, ap, sym, subst, arith, List, Option}
 use Rattle.std.specs.Prelude.{◌==◌}
 use Rattle.std.specs.List.{list_any}
 use Rattle.std.proofs.lemmas.List.{get_or_read}
@@ -8,8 +8,9 @@ use Rattle.mono_portfolio.specs.declared.event.Reply.TheVariants as reply
 use Rattle.mono_portfolio.specs.Extended.{extended as extended_by, has_chain, passes_limits}
 use Rattle.mono_portfolio.specs.Plays.{Answers}
 use Rattle.mono_portfolio.specs.TeamView.{TeamView}
-use Rattle.mono_portfolio.specs.Workers.{WorkerState, IsKept, shown, shown_team}
-use Rattle.mono_portfolio.proofs.Kept.{on_error, team_sets, unchanged, take_answers, already_taken, full}
+use Rattle.mono_portfolio.specs.declared.building.Built.{Built}
+use Rattle.mono_portfolio.specs.Workers.{WorkerState, IsKept, shown, shown_team, IsKeptTeam}
+use Rattle.mono_portfolio.proofs.Kept.{on_error, team_sets, team_takes, unchanged, take_answers, already_taken, full}
 use Rattle.mono_portfolio.proofs.team.Team.take.Goals as goal
 
 pub is_full-requires-clause-kept : goal.is_full-requires-clause-kept
@@ -70,13 +71,18 @@ pub invariant_of-self : goal.invariant_of-self
 invariant_of-self c =
     let p = c.self.inside.problem.now in
     let y = c.take.new.self in
-    team_sets p c.self.inside.board.items c.self.inside.workers.items c.args.worker y c.self.invariant (subst (λ (ss : List Step). IsKept p ss y) c.as_slice-board.ensures.value c.take.ensures.kept)
+    let same : y.taken ≡ c.index_mut.result.now.taken = ap (λ (z : WorkerState). z.taken) c.in_err-take.ensures.err in
+    team_sets p c.self.inside.board.items c.self.inside.workers.items c.self.inside.built c.args.worker c.index_mut.result.now y c.self.invariant c.index_mut.ensures.value
+    (subst (λ (ss : List Step). IsKept p ss y) c.as_slice-board.ensures.value c.take.ensures.kept) same
 
 pub invariant_of-self-2 : goal.invariant_of-self-2
 invariant_of-self-2 c =
     let p = c.self.inside.problem.now in
+    let b = c.self.inside.board.items in
+    let xs = c.self.inside.workers.items in
     let y = c.take.new.self in
-    team_sets p c.self.inside.board.items c.self.inside.workers.items c.args.worker y c.self.invariant (subst (λ (ss : List Step). IsKept p ss y) c.as_slice-board.ensures.value c.take.ensures.kept)
+    subst (λ (r : Option Built). IsKeptTeam p b (set xs c.args.worker y) r) (sym c.drop_built_of.ensures)
+    (team_takes p b xs c.self.inside.built c.args.worker y c.self.invariant (subst (λ (ss : List Step). IsKept p ss y) c.as_slice-board.ensures.value c.take.ensures.kept))
 
 pub returns-in_err-take-clause-err : goal.returns-in_err-take-clause-err
 returns-in_err-take-clause-err c =

@@ -1,0 +1,69 @@
+//! Worked rows: what a theory is over. Edges 1 and 2 of a graph, whose variables are 1 and 2, lead from node 0 over node 1 to
+//! node 2.
+
+ghost use Rattle.std.specs.Prelude.{[], ◌∷◌, not, pos};
+ghost use Rattle.mono_graph.specs.Worked.{both, first_alone, neither, pipe};
+ghost use Rattle.mono_problem.specs.declared.atom.Predicate.TheVariants as kind;
+ghost use Rattle.mono_problem.specs.Holds.{falls};
+ghost use Rattle.mono_steps.specs.WorkedLemmas.{minus};
+ghost use Rattle.mono_theory.specs.Bound.{IsBoundOf};
+ghost use Rattle.mono_theory.specs.Frames.{AreAtomsOf, AreNumbersOf, IsVar};
+ghost use Rattle.mono_theory.specs.Index.{ArePlacesOf};
+ghost use Rattle.mono_theory.specs.Variables.{AreVarsOf};
+ghost use Rattle.mono_theory.specs.Worked.{reaches};
+ghost use Rattle.mono_search_tests.specs.Worked.{atom, of_four_atoms};
+
+/// The places of a key are those that have it, in any order, and no others.
+pub fn places_of_a_key()
+    ensures its { ArePlacesOf (7 ∷ 5 ∷ 7 ∷ []) 7 (2 ∷ 0 ∷ []) }
+    ensures none { ArePlacesOf (7 ∷ 5 ∷ 7 ∷ []) 6 [] }
+    ensures one_left_out { ArePlacesOf (7 ∷ 5 ∷ 7 ∷ []) 7 (0 ∷ []) → ⊥ }
+    ensures one_of_another { ArePlacesOf (7 ∷ 5 ∷ 7 ∷ []) 7 (0 ∷ 1 ∷ 2 ∷ []) → ⊥ }
+    ensures no_such_place { ArePlacesOf (7 ∷ 5 ∷ 7 ∷ []) 0 (3 ∷ []) → ⊥ }
+{}
+
+/// The numbers are those of different atoms of the problem, of the kind and over the graph.
+pub fn numbers_of_atoms()
+    ensures first_and_last { AreNumbersOf (λ q. not (falls q)) of_four_atoms 0 (4 ∷ 1 ∷ []) }
+    ensures of_another_graph { AreNumbersOf (λ q. not (falls q)) of_four_atoms 0 (1 ∷ 3 ∷ []) → ⊥ }
+    ensures of_another_kind { AreNumbersOf (λ q. not (falls q)) of_four_atoms 0 (1 ∷ 2 ∷ []) → ⊥ }
+    ensures twice { AreNumbersOf (λ q. not (falls q)) of_four_atoms 0 (1 ∷ 4 ∷ 1 ∷ []) → ⊥ }
+    ensures beyond_the_last { AreNumbersOf (λ q. not (falls q)) of_four_atoms 0 (1 ∷ 5 ∷ []) → ⊥ }
+    ensures below_the_first { AreNumbersOf (λ q. not (falls q)) of_four_atoms 0 (0 ∷ []) → ⊥ }
+{}
+
+/// Variables are numbered from 1, and there is a greatest one.
+pub fn numbers_of_variables()
+    ensures first { IsVar 1 }
+    ensures last { IsVar 1000000 }
+    ensures none { IsVar 0 → ⊥ }
+    ensures beyond { IsVar 1000001 → ⊥ }
+{}
+
+/// Atoms are over the graph, each has a variable, and no two of them have one number.
+pub fn atoms_over_a_graph()
+    ensures two { AreAtomsOf (pipe 1 1) (atom 4 3 (kind.Reach 0 2) ∷ atom 1 3 (kind.Reach 0 2) ∷ []) }
+    ensures no_such_node { AreAtomsOf (pipe 1 1) (atom 4 3 (kind.Reach 0 3) ∷ []) → ⊥ }
+    ensures no_variable { AreAtomsOf (pipe 1 1) (atom 4 0 (kind.Reach 0 2) ∷ []) → ⊥ }
+    ensures one_number { AreAtomsOf (pipe 1 1) (atom 4 3 (kind.Reach 0 2) ∷ atom 4 3 (kind.Reach 0 1) ∷ []) → ⊥ }
+    ensures twice { AreAtomsOf (pipe 1 1) (atom 4 3 (kind.Reach 0 2) ∷ atom 4 3 (kind.Reach 0 2) ∷ []) → ⊥ }
+{}
+
+/// The variables are those of the edges and of the atoms, in their order, each once.
+pub fn variables_that_concern()
+    ensures all { AreVarsOf (pipe 1 1) reaches (1 ∷ 2 ∷ 3 ∷ []) }
+    ensures atom_left_out { AreVarsOf (pipe 1 1) reaches (1 ∷ 2 ∷ []) → ⊥ }
+    ensures edge_left_out { AreVarsOf (pipe 1 1) reaches (1 ∷ 3 ∷ []) → ⊥ }
+    ensures one_too_many { AreVarsOf (pipe 1 1) reaches (1 ∷ 2 ∷ 3 ∷ 4 ∷ []) → ⊥ }
+    ensures out_of_order { AreVarsOf (pipe 1 1) reaches (2 ∷ 1 ∷ 3 ∷ []) → ⊥ }
+    ensures twice { AreVarsOf (pipe 1 1) reaches (1 ∷ 2 ∷ 2 ∷ 3 ∷ []) → ⊥ }
+{}
+
+/// Bounds by place of a variable: whether it is true, and whether it isn't false.
+pub fn bounds_of_variables()
+    ensures theirs { IsBoundOf (record { vars = 1 ∷ 2 ∷ []; under = first_alone; over = both }) (1 ∷ 2 ∷ []) (pos 1 ∷ []) }
+    ensures absent { IsBoundOf (record { vars = 1 ∷ 2 ∷ []; under = neither; over = first_alone }) (1 ∷ 2 ∷ []) (minus 2 ∷ []) }
+    ensures of_others { IsBoundOf (record { vars = 1 ∷ 4 ∷ []; under = first_alone; over = both }) (1 ∷ 2 ∷ []) (pos 1 ∷ []) → ⊥ }
+    ensures not_surely { IsBoundOf (record { vars = 1 ∷ 2 ∷ []; under = both; over = both }) (1 ∷ 2 ∷ []) (pos 1 ∷ []) → ⊥ }
+    ensures not_possibly { IsBoundOf (record { vars = 1 ∷ 2 ∷ []; under = first_alone; over = first_alone }) (1 ∷ 2 ∷ []) (pos 1 ∷ []) → ⊥ }
+{}
