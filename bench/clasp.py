@@ -8,13 +8,14 @@ a `reach` one atom a node is derived from it along the edges whose variables are
 predicate's variable agrees with its last node's atom. The edges of a graph that has to have no cycle stand under
 their variables as `#edge` directives. So the models are those of the input. Times are processor times of whole runs,
 reading and writing included; `solve` prints its model or its refutation, clasp its model alone. The status is 1 where
-the two differ in what they answer.
+a run ends without an answer before its limit, `check` refuses one, or the two differ in it.
 """
 
 from __future__ import annotations
 
 import argparse
 import os
+import shutil
 import sys
 import tempfile
 from collections.abc import Iterable, Iterator
@@ -22,7 +23,7 @@ from pathlib import Path
 
 import flags
 from families.catalogue import FAMILIES
-from runs import Solver, geometric_mean, ratio, timed
+from runs import ANSWERS, Solver, geometric_mean, ratio, timed
 
 USUAL = ["routing", "boards", "reaching", "wall", "feedback", "schedules"]
 
@@ -131,11 +132,20 @@ def beside(name: str, solver: Solver, args: argparse.Namespace) -> int:
         ours = solver.solve()
         theirs = timed(["clasp", "--quiet=2", solver.path("asp")], os.devnull, args.limit)
         theirs.status = {30: 10}.get(theirs.status, theirs.status)
-        wrong += ours.answered and theirs.answered and ours.status != theirs.status
-        ratios.append(ratio(ours.seconds, theirs.seconds))
+        # at the limit clasp ends by itself
+        theirs.stopped |= not theirs.answered and theirs.seconds > 0.9 * args.limit
+        says = solver.check()[1] if ours.answered else ""
         both = f"{ours.name:8} {ours.seconds:8.3f} s, clasp {theirs.name:8} {theirs.seconds:8.3f} s"
-        print(f"{name:12} {label:22} {both}, ratio {ratios[-1]:.2f}", flush=True)
-    print(f"{name:12} geometric mean of the ratios: {geometric_mean(ratios):.2f}")
+        row = f"{name:12} {label:22} {both}"
+        differs = ours.answered and (says != ANSWERS[ours.status] or (theirs.answered and ours.status != theirs.status))
+        if ours.failed or theirs.failed or differs:
+            wrong += 1
+            print(f"WRONG {row}, {says}", flush=True)
+            continue
+        ratios.append(ratio(ours.seconds, theirs.seconds))
+        print(f"{row}, ratio {ratios[-1]:.2f}", flush=True)
+    if ratios:
+        print(f"{name:12} geometric mean of the ratios: {geometric_mean(ratios):.2f}")
     return wrong
 
 
@@ -145,6 +155,8 @@ def main() -> None:
         with open(args.text) as lines:
             sys.stdout.write(program_of(lines))
         return
+    if shutil.which("clasp") is None:
+        sys.exit("there is no clasp (Debian's package clasp)")
     with tempfile.TemporaryDirectory() as folder:
         solver = Solver(args.program, folder, args.limit)
         wrong = sum(beside(name, solver, args) for name in args.families)

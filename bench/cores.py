@@ -10,7 +10,7 @@ A row says how long the first refutation takes (`solve` with one more clause for
 takes, how many assumptions are left, for how many of these a model shows that they are needed, and a ratio that should
 be at most 1: on boards to 3 times the first refutation's time and 0.2 of it for each assumption that is left, on
 clauses to twice picomus' time. Each core is judged by `check-with`. Times are processor times of whole runs. No time is
-tested; the status is 1 where a core is refused.
+tested; the status is 1 where a core is refused, or a run ends without one before its limit.
 """
 
 from __future__ import annotations
@@ -25,7 +25,7 @@ from pathlib import Path
 import flags
 from families.boards import routed
 from families.encoding import Encoding
-from runs import Run, Solver, ratio, timed
+from runs import ANSWERS, Run, Solver, ratio, timed, verdict
 
 NETS = 50
 
@@ -100,27 +100,31 @@ class Cores(Solver):
 
     def found(self) -> tuple[list[str], int]:
         """The core that was written, and how many of its members are needed for a model's sake."""
-        lines = Path(self.path("a")).read_text().splitlines()
-        notes = [line.split() for line in lines if line.startswith("c ")]
-        return notes[0][2:-1], sum(words[1] == "needed" for words in notes)
+        lines = Path(self.path("a")).read_text(errors="replace").splitlines()
+        notes = [line.split() for line in lines if line.startswith("c ")] or [[]]
+        return notes[0][2:-1], sum(words[1:2] == ["needed"] for words in notes)
 
     def judge(self, core: list[str]) -> None:
         """Says where `check-with` refuses the core."""
         form = "check-with" if core else "check"
         timed([self.program, form, self.path("f"), self.path("a"), *core], self.path("verdict"), 10 * self.limit)
-        verdict = Path(self.path("verdict")).read_text().strip()
-        if verdict != "accepted refutation":
+        says = verdict(self.path("verdict"))
+        if says != ANSWERS[20]:
             self.wrong += 1
-            print(f"  {form}: {verdict}")
+            print(f"  WRONG {form}: {says}")
 
     def row(self, label: str, given: Input, clauses: str | None) -> None:
         """One row of the table; the clauses are what picomus reads."""
-        aim = 2 * self.picomus(clauses).seconds if clauses else 0
+        theirs = self.picomus(clauses) if clauses else Run(0, 20)
         first, whole = self.first(given), self.core(given)
         both = f"{label:14} {first.name:8} {first.seconds:8.3f} s, core {whole.name:8} {whole.seconds:8.3f} s"
-        if whole.status != 20:
-            print(both, flush=True)
+        if any(run.status != 20 for run in (theirs, first, whole)):
+            # none of the inputs has a model
+            failed = any(run.status != 20 and not run.stopped for run in (theirs, first, whole))
+            self.wrong += failed
+            print(f"{'WRONG ' * failed}{both}", flush=True)
             return
+        aim = 2 * theirs.seconds
         core, models = self.found()
         aim = aim or (3 + 0.2 * len(core)) * first.seconds
         left = f"{len(core)} of {len(given.assumed)} left, {models} models"
@@ -133,8 +137,8 @@ def arguments() -> argparse.Namespace:
     parser = flags.parser(__doc__)
     add = parser.add_argument
     add("--clauses", action="store_true", help="clauses in place of boards")
-    add("--seeds", metavar="N", type=int, default=3, help="so many inputs of a size (%(default)s)")
-    add("--limit", metavar="S", type=int, default=60, help="seconds that a run may take (%(default)s)")
+    add("--seeds", metavar="N", type=flags.positive, default=3, help="so many inputs of a size (%(default)s)")
+    add("--limit", metavar="S", type=flags.positive, default=60, help="seconds that a run may take (%(default)s)")
     add("sizes", nargs="*", type=int, metavar="SIZE")
     args = parser.parse_args()
     args.sizes = args.sizes or ([30, 40] if args.clauses else [16, 20])

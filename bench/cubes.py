@@ -3,17 +3,15 @@
 cubes.py [--program PATH] [FAMILY..]         one row for each of the inputs below, none of which has a model
 
 All times are processor times of whole runs of `solve`, in seconds; the cubes are solved one after the other, each
-answer is judged, and so is their cover. Nothing is tested.
+answer is judged, and so is their cover. No time is tested; the status is 1 where an answer is wrong or missing.
 """
 
 from __future__ import annotations
 
 import argparse
 import os
-import subprocess
 import sys
 import tempfile
-import time
 from collections.abc import Callable
 from pathlib import Path
 
@@ -28,6 +26,7 @@ from gulfezo.cubes.folder import Folder  # noqa: E402
 from gulfezo.cubes.main import judge_cover  # noqa: E402
 from gulfezo.cubes.run import Plan, Run  # noqa: E402
 from gulfezo.cubes.splitting import METHODS, Splitting  # noqa: E402
+from runs import ANSWERS, timed, verdict  # noqa: E402
 
 # By name: what makes the inputs, and each one's size and seed. The sizes: cells on a side and nets; sites and links;
 # elements and triples.
@@ -35,7 +34,10 @@ INPUTS: dict[str, tuple[Callable[[tuple[int, int], int], Encoding], list[tuple[t
     "routing": (boards.routing, [((14, 8), 7), ((14, 8), 1), ((14, 8), 6), ((16, 9), 4)]),
     "network": (sites.network_within, [((40, 19), 2), ((40, 20), 2)]),
     "orders": (orders.any_betweenness, [((120, 192), 3), ((140, 224), 1)]),
+    # an input that takes no time, to try this script itself
+    "trial": (boards.routing, [((10, 5), 6)]),
 }
+USUAL = ["routing", "network", "orders"]
 
 
 def known(name: str) -> str:
@@ -52,34 +54,19 @@ def arguments() -> argparse.Namespace:
     add("--cubes", metavar="N", type=int, default=8, help="how many cubes are made at first (%(default)s)")
     add("--budget", metavar="N", type=int, default=100_000, help="learned clauses until a cube is split (%(default)s)")
     add("--probe", metavar="N", type=int, default=2_000, help="those of a run before there are so many (%(default)s)")
-    add("--limit", metavar="S", type=float, default=120.0, help="seconds that the one run may take (%(default)s)")
-    usual = ", ".join(INPUTS)
-    add("families", nargs="*", type=known, default=list(INPUTS), metavar="FAMILY", help=f"by name ({usual})")
+    add("--limit", metavar="S", type=flags.positive, default=120, help="seconds of the one run (%(default)s)")
+    add("families", nargs="*", type=known, default=USUAL, metavar="FAMILY", help=f"by name ({', '.join(INPUTS)})")
     return parser.parse_args()
 
 
 def one_run(args: argparse.Namespace, file: str) -> tuple[int | None, float]:
     """The exit code and the time of one run; the code is None where it takes longer than the limit."""
-    began = os.times()
-    words = [args.program, "solve", file, "--conflicts", str(2**63)]
-    with subprocess.Popen(words, stdout=subprocess.DEVNULL) as child:
-        status = None
-        while status is None and seconds_of(child.pid) < args.limit:
-            time.sleep(0.05)
-            status = child.poll()
-        if status is None:
-            child.kill()
-    ended = os.times()
-    return status, ended.children_user + ended.children_system - began.children_user - began.children_system
-
-
-def seconds_of(pid: int) -> float:
-    """The processor time that a process has taken."""
-    try:
-        fields = Path(f"/proc/{pid}/stat").read_text().rsplit(")", 1)[1].split()
-    except OSError:
-        return 0
-    return (int(fields[11]) + int(fields[12])) / os.sysconf("SC_CLK_TCK")
+    run = timed([args.program, "solve", file, "--conflicts", str(2**63)], f"{file}.answer", args.limit)
+    says = f"{file}.verdict"
+    timed([args.program, "check", file, f"{file}.answer"], says, 10 * args.limit)
+    if run.status == 20 and verdict(says) != ANSWERS[20]:
+        sys.exit(f"check says {verdict(says)!r} of the answer of one run")
+    return None if run.stopped else run.status, run.seconds
 
 
 def cubes(args: argparse.Namespace, problem: bytes, method: str) -> tuple[int, float, float]:
@@ -103,10 +90,10 @@ def main() -> None:
         make, inputs = INPUTS[name]
         for size, seed in inputs:
             problem = make(size, seed).text().encode()
-            with tempfile.NamedTemporaryFile() as file:
-                file.write(problem)
-                file.flush()
-                status, alone = one_run(args, file.name)
+            with tempfile.TemporaryDirectory() as place:
+                file = os.path.join(place, "f")
+                Path(file).write_bytes(problem)
+                status, alone = one_run(args, file)
             if status != 20:
                 sys.exit(f"{name} {size}, seed {seed}: one run ended with {status} after {alone:.1f} s")
             row = []

@@ -13,8 +13,18 @@ BUILT = Path(__file__).resolve().parents[1] / "crates" / "mono_cmd" / "out" / "m
 
 
 def absolute(path: str) -> str:
-    """The path, which runs in any folder can name."""
+    """The absolute path of a program, which runs in any folder can name."""
+    if not os.path.isfile(path) or not os.access(path, os.X_OK):
+        raise argparse.ArgumentTypeError(f"there is no program {path}")
     return os.path.abspath(path)
+
+
+def positive(text: str) -> int:
+    """A number of inputs or seconds: with none nothing would be measured."""
+    number = int(text)
+    if number < 1:
+        raise argparse.ArgumentTypeError("at least 1 is wanted")
+    return number
 
 
 def parser(doc: str | None) -> argparse.ArgumentParser:
@@ -32,12 +42,12 @@ def family(name: str) -> str:
     return name
 
 
-def family_parser(doc: str | None, families: Iterable[str], seeds: int, limit: float) -> argparse.ArgumentParser:
+def family_parser(doc: str | None, families: Iterable[str], seeds: int, limit: int) -> argparse.ArgumentParser:
     """`--program`, the families whose inputs are measured, how many of them, and how long a run may take."""
     made = parser(doc)
     add = made.add_argument
-    add("--seeds", metavar="N", type=int, default=seeds, help="at most N inputs of a size (%(default)s)")
-    add("--limit", metavar="S", type=type(limit), default=limit, help="seconds that a run may take (%(default)s)")
+    add("--seeds", metavar="N", type=positive, default=seeds, help="at most N inputs of a size (%(default)s)")
+    add("--limit", metavar="S", type=positive, default=limit, help="seconds that a run may take (%(default)s)")
     usual = list(families)
     add("families", nargs="*", type=family, default=usual, metavar="FAMILY", help=f"by name ({', '.join(usual)})")
     return made

@@ -139,7 +139,7 @@ def arguments() -> argparse.Namespace:
     """What the command's words say."""
     parser = flags.parser(__doc__)
     add = parser.add_argument
-    add("--limit", metavar="S", type=int, default=60, help="seconds that a run may take (%(default)s)")
+    add("--limit", metavar="S", type=flags.positive, default=60, help="seconds that a run may take (%(default)s)")
     usual = ", ".join(SHAPES)
     add("shapes", nargs="*", type=known, default=list(SHAPES), metavar="SHAPE", help=f"by name ({usual})")
     return parser.parse_args()

@@ -3,14 +3,18 @@
 
 The input is a chain of implications over some variables, and each step of the log names as many clauses. Nothing of the
 log stands in a file. It prints the processor time and the peak of resident memory of `check` and of `wc` on the same
-bytes, and what `check` says. Nothing here is tested: a machine's load moves both.
+bytes, and what `check` says. No time is tested: a machine's load moves both. The status is 1 where `check` doesn't
+accept the log with the number of its steps, or takes longer than the limit by the clock.
 """
 
 from __future__ import annotations
 
 import os
+import signal
 import subprocess
+import sys
 import tempfile
+import threading
 from collections.abc import Iterator
 
 import flags
@@ -24,23 +28,44 @@ def problem(numbers: int) -> str:
 def log(numbers: int, size: int) -> Iterator[bytes]:
     """A status line, and steps that each derive the last variable."""
     yield b"s UNKNOWN\n"
-    step = f"chain {numbers} 0 {' '.join(str(n) for n in range(1, numbers + 1))}\n".encode()
-    piece = step * max(1, (1 << 20) // len(step))
-    written = 0
-    while written < size:
+    piece = step(numbers) * steps_at_once(numbers)
+    for _ in range(pieces_of(numbers, size)):
         yield piece
-        written += len(piece)
 
 
-def measure(words: list[str], pieces: Iterator[bytes]) -> tuple[float, int, str]:
+def step(numbers: int) -> bytes:
+    """The line of a step."""
+    return f"chain {numbers} 0 {' '.join(str(n) for n in range(1, numbers + 1))}\n".encode()
+
+
+def steps_at_once(numbers: int) -> int:
+    """How many steps are written at once."""
+    return max(1, (1 << 20) // len(step(numbers)))
+
+
+def pieces_of(numbers: int, size: int) -> int:
+    """How many times so many steps are written."""
+    return -(-size // (steps_at_once(numbers) * len(step(numbers))))
+
+
+def measure(words: list[str], pieces: Iterator[bytes], limit: int) -> tuple[float, int, str]:
     """The processor time in seconds, the peak in kB, and the text of a run that is fed these bytes."""
-    child = subprocess.Popen(words, stdin=subprocess.PIPE, stdout=subprocess.PIPE)
+    child = subprocess.Popen(words, stdin=subprocess.PIPE, stdout=subprocess.PIPE, start_new_session=True)
     assert child.stdin is not None and child.stdout is not None
-    for piece in pieces:
-        child.stdin.write(piece)
-    child.stdin.close()
-    text = child.stdout.read().decode().strip()
-    _, _, usage = os.wait4(child.pid, 0)
+    timer = threading.Timer(limit, os.killpg, [child.pid, signal.SIGKILL])
+    timer.start()
+    try:
+        for piece in pieces:
+            child.stdin.write(piece)
+        child.stdin.close()
+    except BrokenPipeError:
+        pass  # it ended before the log did: its text tells
+    text = child.stdout.read().decode("latin1")
+    _, status, usage = os.wait4(child.pid, 0)
+    timer.cancel()
+    child.returncode = os.waitstatus_to_exitcode(status)
+    if child.returncode:
+        sys.exit(f"{' '.join(words)}: ended with {child.returncode} and wrote {text!r}")
     return usage.ru_utime + usage.ru_stime, usage.ru_maxrss, text
 
 
@@ -48,6 +73,7 @@ def main() -> None:
     parser = flags.parser(__doc__)
     parser.add_argument("--bytes", metavar="N", type=int, default=1 << 30, help="the log's size (%(default)s)")
     parser.add_argument("--numbers", metavar="N", type=int, default=1000, help="of clauses a step names (%(default)s)")
+    parser.add_argument("--limit", metavar="S", type=flags.positive, default=600, help="seconds of a run (%(default)s)")
     options = parser.parse_args()
     with tempfile.NamedTemporaryFile("w", suffix=".gnf") as file:
         file.write(problem(options.numbers))
@@ -57,8 +83,11 @@ def main() -> None:
             "check": [options.program, "check", file.name, "/dev/stdin"],
         }
         for name, words in runs.items():
-            seconds, peak, text = measure(words, log(options.numbers, options.bytes))
-            print(f"{name:6} {seconds:7.2f} s {peak:9} kB   {text}")
+            seconds, peak, text = measure(words, log(options.numbers, options.bytes), options.limit)
+            steps = steps_at_once(options.numbers) * pieces_of(options.numbers, options.bytes)
+            if name == "check" and text != f"accepted progress {steps}\n":
+                sys.exit(f"{' '.join(words)}: it says {text!r} of {steps} steps")
+            print(f"{name:6} {seconds:7.2f} s {peak:9} kB   {text.strip()}")
 
 
 if __name__ == "__main__":

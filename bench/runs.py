@@ -5,21 +5,26 @@ from __future__ import annotations
 import math
 import os
 import resource
+import signal
 import subprocess
+import sys
+import threading
 from dataclasses import dataclass
 from pathlib import Path
 
 NO_BUDGET = 2**64 - 1
 ANSWERS = {10: "accepted model", 20: "accepted refutation"}
 NAMES = {10: "model", 20: "refuted"}
+PATIENCE = 20  # a run that takes so many times its limit by the clock does nothing, even where others work beside it
 
 
 @dataclass
 class Run:
-    """The processor time and the status of a run."""
+    """The processor time and the status of a run, and whether it was stopped at its limit."""
 
     seconds: float
     status: int
+    stopped: bool = False
 
     @property
     def answered(self) -> bool:
@@ -27,22 +32,48 @@ class Run:
         return self.status in ANSWERS
 
     @property
+    def failed(self) -> bool:
+        """Whether it ended by itself and without an answer: its time says nothing."""
+        return not self.answered and not self.stopped
+
+    @property
     def name(self) -> str:
-        """How it ended; a negative status is that of a run that was stopped."""
-        return "limit" if self.status < 0 else NAMES.get(self.status, f"status {self.status}")
+        """How it ended."""
+        if self.stopped:
+            return "limit"
+        return f"signal {-self.status}" if self.status < 0 else NAMES.get(self.status, f"status {self.status}")
 
 
 def timed(words: list[str], out: str, limit: int) -> Run:
-    """A run whose output goes to a file; after so many seconds of processor time it is stopped."""
+    """A run whose output goes to a file; after so many seconds of processor time it is stopped.
+
+    One that hangs, which takes no such time, ends the script.
+    """
 
     def bound() -> None:
         resource.setrlimit(resource.RLIMIT_CPU, (limit, limit + 1))
 
     with open(out, "wb") as written:
-        process = subprocess.Popen(words, stdout=written, stderr=subprocess.DEVNULL, preexec_fn=bound)
+        process = subprocess.Popen(
+            words, stdout=written, stderr=subprocess.DEVNULL, preexec_fn=bound, start_new_session=True
+        )
+        hangs = threading.Event()
+        timer = threading.Timer(PATIENCE * limit, stop, [process.pid, hangs])
+        timer.start()
         _, status, used = os.wait4(process.pid, 0)
+        timer.cancel()
     process.returncode = os.waitstatus_to_exitcode(status)
-    return Run(used.ru_utime + used.ru_stime, process.returncode)
+    if hangs.is_set():
+        sys.exit(f"{' '.join(words)}: it hangs: stopped after {PATIENCE * limit} s by the clock")
+    seconds = used.ru_utime + used.ru_stime
+    by_limit = process.returncode in (-signal.SIGXCPU, -signal.SIGKILL) and seconds > 0.9 * limit
+    return Run(seconds, process.returncode, by_limit)
+
+
+def stop(process: int, hangs: threading.Event) -> None:
+    """Ends a run, with all that it began."""
+    hangs.set()
+    os.killpg(process, signal.SIGKILL)
 
 
 class Solver:
@@ -67,20 +98,32 @@ class Solver:
     def check(self) -> tuple[Run, str]:
         """The run of `check` on the answer, and what it says."""
         run = timed([self.program, "check", self.path("f"), self.path("a")], self.path("verdict"), 10 * self.limit)
-        return run, Path(self.path("verdict")).read_text().strip()
+        return run, verdict(self.path("verdict"))
 
     def conflicts(self) -> int:
         """The least budget that brings the answer, to within a twentieth: so many clauses are learned."""
         low, high = 0, 1
-        while not self.solve(high, "unused").answered:
+        while not self.ends_within(high):
             low, high = high, 4 * high
         while high - low > 1 + high // 20:
             middle = (low + high) // 2
-            if self.solve(middle, "unused").answered:
+            if self.ends_within(middle):
                 high = middle
             else:
                 low = middle
         return high
+
+    def ends_within(self, budget: int) -> bool:
+        """Whether this budget brings the answer."""
+        run = self.solve(budget, "unused")
+        if run.failed and run.status != 0:
+            sys.exit(f"solve with a budget of {budget}: {run.name}")
+        return run.answered
+
+
+def verdict(path: str) -> str:
+    """What a run of `check` wrote into this file, without the end of its one line."""
+    return Path(path).read_text(errors="replace").removesuffix("\n")
 
 
 def minisat(folder: str, limit: int) -> Run:

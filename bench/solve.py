@@ -6,7 +6,7 @@ solve.py --old PATH --new PATH [FAMILY..]    the ratio of two programs in one ru
 
 Each answer is judged by `check`, outside the time of `solve`. Times are processor times of whole runs, reading and
 writing included: `solve` prints its model or its refutation, MiniSat its model alone. No time is tested; the status
-is 1 where `check` refuses an answer, or two programs differ in what they answer.
+is 1 where a run ends without an answer before its limit, `check` refuses one, or two programs differ in it.
 """
 
 from __future__ import annotations

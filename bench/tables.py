@@ -28,9 +28,9 @@ class Row:
 
     @property
     def right(self) -> bool:
-        """Whether `check` accepts the answer, and MiniSat doesn't say otherwise."""
+        """Whether `check` accepts the answer, and MiniSat says nothing else; only the limit excuses a lack of it."""
         if not self.run.answered:
-            return True
+            return self.run.stopped
         theirs = self.minisat
         agrees = theirs is None or not theirs.answered or theirs.status == self.run.status
         return self.says == runs.ANSWERS[self.run.status] and agrees
@@ -114,22 +114,27 @@ class Ratios:
 
     def family(self, name: str, _: Family[Any], inputs: Iterable[Input]) -> None:
         """Measures these inputs; prints a line for each."""
-        ratios = [self.ratio(name, label, make) for label, make in inputs]
+        ratios = [found for label, make in inputs if (found := self.ratio(name, label, make)) is not None]
         if ratios:
             self.sums.append((name, ratios))
 
-    def ratio(self, name: str, label: str, make: Callable[[], Encoding]) -> float:
-        """Of one input. A run at the limit counts with the limit, so that the ratio is a bound."""
+    def ratio(self, name: str, label: str, make: Callable[[], Encoding]) -> float | None:
+        """Of one input. A run at the limit counts with it, so that the ratio is a bound; a wrong one has none."""
         self.new.put(make().text())
         old = self.old.solve(out="unused")
         new = self.new.solve()
-        says = "-"
+        says, is_right = "-", True
         if new.answered:
             _, says = self.new.check()
-            self.wrong += says != runs.ANSWERS[new.status] or (old.answered and old.status != new.status)
-        found = runs.ratio(new.seconds, old.seconds)
+            is_right = says == runs.ANSWERS[new.status] and (not old.answered or old.status == new.status)
         both = f"old {old.name:8} {old.seconds:8.3f} s, new {new.name:8} {new.seconds:8.3f} s"
-        print(f"{name:12} {label:22} {both}, ratio {found:7.3f}, {says}", flush=True)
+        row = f"{name:12} {label:22} {both}"
+        if old.failed or new.failed or not is_right:
+            self.wrong += 1
+            print(f"WRONG {row}, {says}", flush=True)
+            return None
+        found = runs.ratio(new.seconds, old.seconds)
+        print(f"{row}, ratio {found:7.3f}, {says}", flush=True)
         return found
 
     def summary(self) -> None:

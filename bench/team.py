@@ -4,8 +4,8 @@ A row has the time and the conflicts of `solve`, and of `team FILE K R` the time
 it ended, and what part of that time the beginnings of all turns but the first take. A beginning costs what `solve`
 with a budget of one conflict takes more than `check` of an empty file. In the first round nothing is shared yet, so
 there it is known which search found the answer; of a later round all turns are counted. Each answer is judged by
-`check`. Times are processor times of whole runs. No time is tested; the status is 1 where an answer is refused, or the
-two differ.
+`check`. Times are processor times of whole runs. No time is tested; the status is 1 where an answer is refused, the
+two differ, or a run ends without an answer before its limit (a team that is out of turns has none).
 """
 
 from __future__ import annotations
@@ -67,7 +67,7 @@ class Teams(Solver):
         says = self.check()[1]
         if says != ANSWERS[run.status]:
             self.wrong += 1
-            print(f"  check: {says}")
+            print(f"  WRONG check: {says}")
         rounds = least(self.rounds, lambda r: self.team(self.searches, r).answered)
         turns = self.searches * rounds
         if rounds == 1:
@@ -88,7 +88,12 @@ class Teams(Solver):
         beginning, found = self.beginning(), self.found()
         share = 100 * (found.turns - 1) * beginning / max(found.run.seconds, 0.001)
         both = alone.answered and found.run.answered
-        self.wrong += both and alone.status != found.run.status
+        spent = found.run.failed and found.run.status == 0 and Path(self.path("a")).read_bytes()[:9] == b"s UNKNOWN"
+        failed = alone.failed or (found.run.failed and not spent)
+        if failed or (both and alone.status != found.run.status):
+            self.wrong += 1
+            print(f"WRONG {label:14} solve {alone.name}, team {found.run.name}", flush=True)
+            return None
         conflicts = f"{self.conflicts():7} conflicts" if alone.answered else ""
         row = f"{label:14} solve {alone.name:8} {alone.seconds:7.3f} s {conflicts:17}, team {found.text()}"
         print(f"{row}, beginnings {share:.0f} %", flush=True)
@@ -99,11 +104,11 @@ def arguments() -> argparse.Namespace:
     """What the command's words say."""
     parser = flags.parser(__doc__)
     add = parser.add_argument
-    add("--searches", metavar="K", type=int, default=4, help="searches that take turns (%(default)s)")
-    add("--rounds", metavar="R", type=int, default=8, help="rounds of their turns (%(default)s)")
+    add("--searches", metavar="K", type=flags.positive, default=4, help="searches that take turns (%(default)s)")
+    add("--rounds", metavar="R", type=flags.positive, default=8, help="rounds of their turns (%(default)s)")
     add("--nets", metavar="N", type=int, default=6, help="nets of a board (%(default)s)")
-    add("--seeds", metavar="N", type=int, default=10, help="so many inputs of a size (%(default)s)")
-    add("--limit", metavar="S", type=int, default=60, help="seconds that a run may take (%(default)s)")
+    add("--seeds", metavar="N", type=flags.positive, default=10, help="so many inputs of a size (%(default)s)")
+    add("--limit", metavar="S", type=flags.positive, default=60, help="seconds that a run may take (%(default)s)")
     add("sizes", nargs="*", type=int, metavar="SIZE", default=[20])
     return parser.parse_args()
 

@@ -58,7 +58,8 @@ class Examples(unittest.TestCase):
                 two = Path(folder, "two")
                 two.write_text(self.run_program("migrate", example.file("gnf"), example.file("answer"), "2"))
                 self.assertEqual(self.check(example.file("gnf"), two), example.verdict)
-                self.assertEqual(self.run_program("migrate", example.file("gnf"), two, "1"), example.file("answer").read_text())
+                back = self.run_program("migrate", example.file("gnf"), two, "1")
+                self.assertEqual(back, example.file("answer").read_text())
 
     def test_solving_gives_the_expected_answer(self):
         for example in kept.all_kept():

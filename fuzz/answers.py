@@ -10,58 +10,56 @@ from __future__ import annotations
 
 import argparse
 import random
-import sys
-import tempfile
 
-import flags
 import kinds
 import mutations
 import problems
 import reference
 import refutations
 from comparison import Comparison
+from rounds import Rounds, play
+from runs import Program, Wrong
 
 ALTERED = 12  # altered answers a problem
 
 
-class Round:
-    """The runs of one seed."""
+class Answers(Rounds):
+    """Right answers, and altered ones."""
 
-    def __init__(self, comparison: Comparison, seed: int) -> None:
-        self.comparison, self.seed = comparison, seed
-        self.text = problems.Small(seed).text()
-        self.drawn = random.Random(-seed)
+    def __init__(self, program: Program, args: argparse.Namespace) -> None:
+        super().__init__(program, args)
+        self.comparison = Comparison(program, self.found)
+        self.migrates = kinds.MIGRATE not in args.without
+        self.drawn = random.Random()
         self.changes = mutations.Mutations(self.drawn)
 
-    def wrong(self, what: str) -> None:
-        """A right answer isn't handled as one."""
-        self.comparison.different += 1
-        print(f"seed {self.seed}: {what}")
-
-    def run(self) -> None:
+    def compare(self, seed: int) -> str:
         """The runs on the right answer, and on altered ones."""
-        rows = refutations.answer(reference.read(self.text), self.drawn)
+        self.drawn.seed(-seed)
+        text = problems.Small(seed).text()
+        rows = refutations.answer(reference.read(text), self.drawn)
         plain = self.changes.plain(rows)
-        said = self.comparison.compare("check", self.text, plain)
+        said = self.comparison.compare("check", text, plain)
         if not said.startswith("accepted"):
-            self.wrong(f"a right answer is due to be {said!r}")
-        if self.comparison.migrates:
-            rows = self.versioned(plain, said)
-        self.alter(rows)
-        self.comparison.compare("check", self.changes.input(self.text), self.changes.plain(rows))
+            raise Wrong(f"a right answer is due to be {said!r}: input {text!r}, answer {plain!r}")
+        if self.migrates:
+            rows = self.versioned(text, plain, said)
+        self.alter(text, rows)
+        self.comparison.compare("check", self.changes.input(text), self.changes.plain(rows))
+        return "problems"
 
-    def versioned(self, plain: bytes, said: str) -> list[mutations.Row]:
+    def versioned(self, text: bytes, plain: bytes, said: str) -> list[mutations.Row]:
         """The rows of a right answer in version 1 or 2, which are compared before."""
-        two = self.comparison.compare("migrate", self.text, plain, 2).encode()
-        if self.comparison.compare("migrate", self.text, two, 1).encode() != plain:
-            self.wrong("a right answer isn't the same there and back")
+        two = self.comparison.compare("migrate", text, plain, 2).encode()
+        if self.comparison.compare("migrate", text, two, 1).encode() != plain:
+            raise Wrong(f"a right answer isn't the same there and back: input {text!r}, answer {plain!r}")
         if self.drawn.choice([1, 2]) == 1:
             return rows_of(plain)
-        if self.comparison.compare("check", self.text, two) != said:
-            self.wrong("the versions of a right answer are judged differently")
+        if self.comparison.compare("check", text, two) != said:
+            raise Wrong(f"the versions of a right answer are judged differently: input {text!r}, answer {two!r}")
         return rows_of(two)
 
-    def alter(self, rows: list[mutations.Row]) -> None:
+    def alter(self, text: bytes, rows: list[mutations.Row]) -> None:
         """The runs on altered answers."""
         for _ in range(ALTERED):
             altered = [list(row) for row in rows]
@@ -69,9 +67,9 @@ class Round:
                 if altered:
                     self.changes.alter(altered)
             made = self.changes.text(altered)
-            self.comparison.compare("check", self.text, made)
-            if self.comparison.migrates and self.drawn.random() < 0.1:
-                self.comparison.compare("migrate", self.text, made, self.drawn.choice([1, 2]))
+            self.comparison.compare("check", text, made)
+            if self.migrates and self.drawn.random() < 0.1:
+                self.comparison.compare("migrate", text, made, self.drawn.choice([1, 2]))
 
 
 def rows_of(answer: bytes) -> list[mutations.Row]:
@@ -79,20 +77,5 @@ def rows_of(answer: bytes) -> list[mutations.Row]:
     return [line.split() for line in answer.decode().splitlines()]
 
 
-def main() -> None:
-    parser = flags.parser(__doc__, "problems", 150)
-    parser.add_argument("--problems", dest="rounds", type=int, help=argparse.SUPPRESS)  # its name in earlier versions
-    args = parser.parse_args()
-    kinds.known(args.program)
-    with tempfile.TemporaryDirectory() as folder:
-        comparison = Comparison(args.program, folder)
-        for count, seed in enumerate(range(args.first, args.first + args.rounds), 1):
-            Round(comparison, seed).run()
-            if count % 500 == 0:
-                print(f"{count} problems, {comparison.different} different", file=sys.stderr)
-    comparison.show()
-    sys.exit(1 if comparison.different else 0)
-
-
 if __name__ == "__main__":
-    main()
+    play(__doc__, Answers, "problems", 150)

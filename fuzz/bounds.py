@@ -19,7 +19,8 @@ import problems
 import reference
 from assignments import is_model, satisfying
 from reference import Predicate, Problem, Signs
-from rounds import Rounds, Wrong, play
+from rounds import Rounds, play
+from runs import Wrong
 
 MOST = 2**53
 STATUSES = {"best": 10, "never": 20, "beyond": 10}

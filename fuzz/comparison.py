@@ -5,40 +5,46 @@ from __future__ import annotations
 import collections
 
 import reference
-from runs import Program
+from runs import Program, Stopped, Wrong
+from shrinking import shrunk
 
 
 class Comparison:
-    """What the runs came to, and how many of them differ from the reference."""
+    """Runs over files of one folder, and what they came to."""
 
-    def __init__(self, path: str, folder: str) -> None:
-        self.program = Program(path, folder)
-        self.kinds: collections.Counter[str] = collections.Counter()
-        self.different = 0
-        self.migrates = self.takes("migrate", "f", "a", "2")
+    def __init__(self, program: Program, kinds: collections.Counter[str]) -> None:
+        self.program, self.kinds = program, kinds
 
     def compare(self, verb: str, text: bytes, answer: bytes = b"", version: int = 1) -> str:
-        """The text that is due, which is counted, and a line where the program writes another one."""
-        names = ["f"] if verb == "print" else ["f", "a"]
-        for name, held in zip(names, (text, answer)):
-            self.program.put(name, held)
-        run = self.program.run(verb, *names, *([str(version)] if verb == "migrate" else []))
+        """The text that is due, which is counted. `Wrong`: the program writes another one; over shorter files, too."""
         status, due = reference.outcome(verb, text, answer, version)
         done = f"migrated to {version}" if verb == "migrate" else " ".join(due.split()[:2])
         self.kinds[due.split()[2] if status else done] += 1
-        if (run.returncode, run.stdout, run.stderr) != (status, due.encode(), b""):
-            self.different += 1
-            print(f"{verb} differs: input {text!r}, answer {answer!r}")
-            print(f"  due {status} {due!r}, found {run.returncode} {run.stdout!r} {run.stderr!r}", flush=True)
+        try:
+            what = self.difference(verb, text, answer, version)
+        except Stopped as stopped:
+            raise Stopped(f"{verb} of input {text!r}, answer {answer!r}: {stopped}") from stopped
+        if what is not None:
+            answer = shrunk(answer, lambda some: self.differs(verb, text, some, version))
+            text = shrunk(text, lambda some: self.differs(verb, some, answer, version))
+            what = self.difference(verb, text, answer, version)
+            raise Wrong(f"{verb} differs: input {text!r}, answer {answer!r}\n  {what}")
         return due
 
-    def takes(self, *words: str) -> bool:
-        """Whether the words are a command of this program."""
-        return not self.program.run(*words).stdout.startswith(b"usage")
+    def differs(self, verb: str, text: bytes, answer: bytes, version: int) -> bool:
+        """Whether the program ends by itself, and with something else than what is due."""
+        try:
+            return self.difference(verb, text, answer, version) is not None
+        except Stopped:
+            return False
 
-    def show(self) -> None:
-        """How many runs there were of each kind."""
-        for kind, count in sorted(self.kinds.items()):
-            print(f"{count:7} {kind}")
-        print(self.program.count())
-        print(f"{sum(self.kinds.values())} runs compared, {self.different} different")
+    def difference(self, verb: str, text: bytes, answer: bytes, version: int) -> str | None:
+        """What the program says, where that isn't what is due."""
+        names = ["f"] if verb == "print" else ["f", "a"]
+        for name, held in zip(names, (text, answer)):
+            self.program.put(name, held)
+        status, due = reference.outcome(verb, text, answer, version)
+        run = self.program.run(verb, *names, *([str(version)] if verb == "migrate" else []))
+        if (run.returncode, run.stdout, run.stderr) == (status, due.encode(), b""):
+            return None
+        return f"due {status} {due!r}, found {run.returncode} {run.stdout!r} {run.stderr!r}"

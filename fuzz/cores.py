@@ -17,7 +17,8 @@ import problems
 import reference
 from assignments import is_model, is_satisfiable
 from reference import Problem
-from rounds import Rounds, Wrong, play
+from rounds import Rounds, play
+from runs import Wrong
 
 STATUSES = {"s SATISFIABLE": 10, "s UNSATISFIABLE": 20}
 

@@ -10,15 +10,17 @@ from __future__ import annotations
 
 import random
 import sys
-from collections.abc import Iterator
+from collections.abc import Iterable, Iterator
 
 import flags
 import reference
 from generator import generated
-from runs import Program
+from runs import Program, Stopped
 
 SEEDS = [0, 1, 7, 42, 2**32, 2**63, 2**64 - 1]
 RESULTS = {"grid": (10, "satisfiable", "model"), "wall": (20, "unsatisfiable", "refutation")}
+
+MOST_WRONG = 3  # boards that are told; a script that has met so many goes no further
 
 Board = tuple[str, int, int]  # a kind, a size and a seed
 
@@ -47,21 +49,37 @@ def differences(program: Program, board: Board, solved: bool) -> Iterator[str]:
         due.append((["--solve"], summary(board[0], text)))
     for more, ending in due:
         words = ["gen", *map(str, board), *more]
-        run = program.run(*words)
-        if (run.returncode, run.stdout.decode()) != ending or run.stderr:
-            yield f"{' '.join(words)}: another text, or ended with {run.returncode}"
+        try:
+            run = program.run(*words)
+        except Stopped as stopped:
+            yield f"{program.path} {' '.join(words)}: {stopped}"
+            continue
+        if (run.returncode, run.stdout.decode("latin1")) != ending or run.stderr:
+            yield f"{program.path} {' '.join(words)}: another text, or ended with {run.returncode}"
+
+
+def judged(program: Program, boards: Iterable[tuple[Board, bool]]) -> int:
+    """How many runs over these boards, each solved or not, are different; prints a line for each."""
+    wrong = 0
+    for board, solved in boards:
+        for row in differences(program, board, solved):
+            wrong += 1
+            print(row, flush=True)
+        if wrong >= MOST_WRONG:
+            print("so many are different that no further one is tried")
+            break
+    return wrong
 
 
 def main() -> None:
     args = flags.parser(__doc__, "boards", 50).parse_args()
-    program = Program(args.program, ".")
+    program = Program(args.program, ".", args.limit)
     fixed = [(kind, size, seed) for kind in RESULTS for size in [*range(2, 13), 100] for seed in SEEDS]
     drawn = [drawn_board(seed) for seed in range(args.first, args.first + args.rounds)]
-    wrong = [row for board in fixed for row in differences(program, board, solved=False)]
-    wrong += [row for board in drawn for row in differences(program, board, solved=True)]
-    print(*wrong, sep="\n", end="\n" * bool(wrong))
+    boards = [(board, False) for board in fixed] + [(board, True) for board in drawn]
+    wrong = judged(program, boards)
     print(program.count())
-    print(f"{len(fixed) + len(drawn)} generated inputs, {len(wrong)} different")
+    print(f"{len(boards)} generated inputs, {wrong} different")
     sys.exit(1 if wrong else 0)
 
 

@@ -11,6 +11,7 @@ from __future__ import annotations
 
 import itertools
 import os
+import signal
 import subprocess
 import sys
 import tempfile
@@ -20,10 +21,11 @@ from dataclasses import dataclass
 from pathlib import Path
 
 import flags
+from runs import MOST_STOPPED
 
 BASE = 4_000  # kB that a run takes without a file
 MOST_BYTES = 2**28  # of an input
-SECONDS = 600  # until a run is ended
+FORMATS = Path(__file__).resolve().parents[1] / "docs" / "FORMATS.md"
 
 # Clauses 2 and 3 turn {1} into {2} and back, as often as a chain names them.
 CIRCLE = b"1 0\n-1 2 0\n-2 1 0\n-1 0\n"
@@ -136,7 +138,13 @@ def strange_bytes() -> Iterator[Case]:
         yield Case(name, [[text]], PRINT, status, due)
     yield Case("NUL in an answer", [[CIRCLE], [b"s UNSATISFIABLE\0\n"]], CHECK, 1, b"rejected 1 NotAnswer\n")
     yield Case("a byte in a step", [[CIRCLE], [b"s UNKNOWN\nchain 0 \xff\n"]], CHECK, 1, b"rejected 2 BadLine\n")
-    yield Case("a name that is no text", [[CIRCLE]], ("print", b"f\xff"), 2, b"usage: ")
+    yield Case("a name that is no text", [[CIRCLE]], ("print", b"f\xff"), 2, usage())
+
+
+def usage() -> bytes:
+    """The usage line, as the formats show it."""
+    (line,) = [line for line in FORMATS.read_bytes().splitlines(keepends=True) if line.startswith(b"usage: ")]
+    return line
 
 
 def no_files(folder: Path) -> Iterator[Case]:
@@ -157,11 +165,11 @@ def no_files(folder: Path) -> Iterator[Case]:
 
 
 class Runs:
-    """Runs of the program in a folder."""
+    """Runs of the program in a folder, each within so many seconds."""
 
-    def __init__(self, program: str, folder: str) -> None:
-        self.program, self.folder = program, Path(folder)
-        self.wrong = self.count = 0
+    def __init__(self, program: str, folder: str, limit: float) -> None:
+        self.program, self.folder, self.limit = program, Path(folder), limit
+        self.wrong = self.count = self.stopped = 0
         # What a run is said to take is at least what this script took where it began the run.
         self.least = self.run(("print", "/dev/null"), "").peak
 
@@ -181,14 +189,19 @@ class Runs:
         """A run, whose output goes to the file of this name where there is one."""
         path = out or str(self.folder / "out")
         with open(path, "wb") as written:
-            run = subprocess.Popen([self.program, *words], cwd=self.folder, stdout=written)
-            timer = threading.Timer(SECONDS, run.kill)
+            run = subprocess.Popen([self.program, *words], cwd=self.folder, stdout=written, start_new_session=True)
+            timer = threading.Timer(self.limit, self.stop, [run.pid])
             timer.start()
             _, status, used = os.wait4(run.pid, 0)
             timer.cancel()
         run.returncode = os.waitstatus_to_exitcode(status)
         text = b"" if out else Path(path).read_bytes()
         return Found(run.returncode, text, used.ru_utime + used.ru_stime, used.ru_maxrss)
+
+    def stop(self, process: int) -> None:
+        """Ends a run that takes too long, with all that it began."""
+        self.stopped += 1
+        os.killpg(process, signal.SIGKILL)
 
     def judge(self, case: Case, rows: bool) -> None:
         """Runs a case, and says what is wrong with its end."""
@@ -197,27 +210,30 @@ class Runs:
             threading.Thread(target=(self.folder / "fifo").write_bytes, args=(case.fed,), daemon=True).start()
         found = self.run(case.words, case.out)
         most = max(self.least + 1_000, BASE + case.factor * size / 1_000)
-        ended = found.status == case.status and found.text.startswith(case.text)
+        ended = (found.status, found.text) == (case.status, case.text)
         row = f"{case.name}: {size} bytes, {found.status} {found.text[:60]!r}, {found.seconds:.2f} s, {found.peak} kB"
         self.count += 1
         if not ended or found.peak > most:
             self.wrong += 1
-            print(f"WRONG {row}; due are {case.status} {case.text!r} and at most {most:.0f} kB")
+            print(f"WRONG {row}; due are {case.status} {case.text!r} and at most {most:.0f} kB", flush=True)
         elif rows:
             print(f"{row}, {1_000 * (found.peak - BASE) / size:.1f} times" if size > 1_000_000 else row, flush=True)
 
 
 def main() -> None:
-    parser = flags.parser(__doc__)
+    parser = flags.parser(__doc__, limit=600)
     parser.add_argument("--large", action="store_true", help="texts 50 times as long, and a row for each")
     args = parser.parse_args()
     long_answer = 300_000_000 if args.large else 6_000_000
     long_input = min(long_answer, MOST_BYTES - 100)
     with tempfile.TemporaryDirectory() as folder:
-        runs = Runs(args.program, folder)
+        runs = Runs(args.program, folder, args.limit)
         few = (strange_bytes(), no_files(Path(folder)))
         for case in itertools.chain(inputs(long_input), counted(long_input), answers(long_answer), *few):
             runs.judge(case, args.large)
+            if runs.stopped >= MOST_STOPPED:
+                print(f"so many were stopped after {args.limit:g} s that no further one is tried")
+                break
     print(f"{runs.count} hostile files, {runs.wrong} wrong")
     sys.exit(1 if runs.wrong else 0)
 

@@ -1,14 +1,19 @@
-"""Which kinds of predicates, and which weights, a program knows."""
+"""What the scripts ask of a program: each kind of predicate, wide weights and the form `migrate`.
+
+A program of an earlier version may lack some. That is said by `--without WHAT`; what isn't left out so has to be there.
+"""
 
 from __future__ import annotations
 
+import argparse
+import sys
 import tempfile
 
 import graphs
 import reference
-from runs import Program
+from runs import Program, Wrong
 
-# A predicate of each kind over a graph of two nodes.
+# A line of each kind over a graph of two nodes.
 LINES = {
     "reach": b"reach 0 0 1 1",
     "steps": b"distance_leq 0 0 1 1 0",
@@ -16,40 +21,45 @@ LINES = {
     "flow": b"maximum_flow_geq 0 0 1 1 0",
     "tree": b"mst_weight_leq 0 1 0",
     "acyclic": b"acyclic 0 1",
+    "wide weights": b"edge 0 0 1 1 4294967296",
 }
+MIGRATE = "migrate"
 
 
-def status(path: str, verb: str, line: bytes) -> int:
-    """The status of a run over an input with one line about a graph of two nodes."""
+def add_flag(parser: argparse.ArgumentParser) -> None:
+    """The flag `--without`."""
+    what = [*LINES, MIGRATE]
+    told = "what this program lacks and isn't asked for: " + ", ".join(what)
+    parser.add_argument("--without", metavar="WHAT", choices=what, action="append", default=[], help=told)
+
+
+def ask(args: argparse.Namespace) -> None:
+    """Takes what the flags leave out from the reference, and ends the script where the program lacks something else."""
+    for what in set(args.without) - {MIGRATE}:
+        forget(what)
     with tempfile.TemporaryDirectory() as folder:
-        program = Program(path, folder)
-        program.put("f", b"digraph int 2 0 0\n" + line + b"\n")
-        return program.run(verb, "f").returncode
+        program = Program(args.program, folder, args.limit)
+        for what, line in LINES.items():
+            if what not in args.without and not is_read(program, line):
+                sys.exit(f"the program refuses a line of the kind {what}: {line.decode()}")
 
 
-def known(path: str) -> list[str]:
-    """The kinds that the program reads, and `wide weights` where it reads those above 32 bits.
+def is_read(program: Program, line: bytes) -> bool:
+    """Whether the program reads a line about a graph of two nodes, or does what other runs will tell better."""
+    program.put("f", b"digraph int 2 0 0\n" + line + b"\n")
+    try:
+        return program.run("print", "f").returncode != 3
+    except Wrong as wrong:
+        sys.exit(f"print of a file with the line {line.decode()}: {wrong}")
 
-    What it doesn't know is taken out of the reference, which then knows no more.
-    """
-    for kind, line in LINES.items():
-        if status(path, "print", line) == 3:
-            forget(kind)
-    if status(path, "print", b"edge 0 0 1 1 4294967296") == 3:
+
+def forget(what: str) -> None:
+    """Takes a kind out of the reference, with the words that serve it alone, or weights above 32 bits."""
+    if what not in graphs.WORDS:
         reference.MOST_WEIGHT = reference.MOST_32_BITS
-        return list(graphs.WORDS)
-    return [*graphs.WORDS, "wide weights"]
-
-
-def forget(kind: str) -> None:
-    """Takes a kind out of the reference, with the words that serve it alone."""
-    reference.PREDICATES.pop(LINES[kind].split()[0])
-    words = graphs.WORDS.pop(kind)
+        return
+    reference.PREDICATES.pop(LINES[what].split()[0])
+    words = graphs.WORDS.pop(what)
     for word in set(words) - {word for others in graphs.WORDS.values() for word in others}:
         reference.LEMMAS.pop(word)
     reference.read.cache_clear()
-
-
-def solved(path: str) -> list[str]:
-    """The kinds that `solve` takes; an input with another one ends with `refused 0 NotBuilt`."""
-    return [kind for kind in graphs.WORDS if status(path, "solve", LINES[kind]) != 3]

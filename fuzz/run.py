@@ -6,20 +6,19 @@ The same seed gives the same texts. The status is 0 exactly where no run differs
 
 from __future__ import annotations
 
+import argparse
 import itertools
 import random
-import sys
-import tempfile
 from typing import TypeVar
 
-import flags
 import graphs
-import kinds
 import reference
 import witnesses
 from comparison import Comparison
 from graphs import Edges, Meaning
 from reference import Clause, Problem, Step
+from rounds import Rounds, play
+from runs import Program
 from witnesses import Witness
 
 NUMBERS = [10**6, 10**6 + 1, 2**31, 2**32 - 1, 2**32, 2**53, 2**53 + 1, 2**63, 2**64 - 1, 2**64, 10**40]
@@ -280,24 +279,25 @@ class Texts:
         return (joined + "\n" * self.often(0.8)).encode("latin1")
 
 
-def main() -> None:
-    args = flags.parser(__doc__, "inputs", 500).parse_args()
-    kinds.known(args.program)
-    texts = Texts(args.first)
-    with tempfile.TemporaryDirectory() as folder:
-        comparison = Comparison(args.program, folder)
-        for _ in range(args.rounds):
-            text = texts.input()
-            comparison.compare("print", text)
-            try:
-                problem = reference.read(text)
-            except reference.Fault:
-                continue
-            for _ in range(3):
-                comparison.compare("check", text, texts.answer(problem))
-    comparison.show()
-    sys.exit(1 if comparison.different else 0)
+class Inputs(Rounds):
+    """Inputs, and answers to those that can be read."""
+
+    def __init__(self, program: Program, args: argparse.Namespace) -> None:
+        super().__init__(program, args)
+        self.comparison = Comparison(program, self.found)
+
+    def compare(self, seed: int) -> str:
+        texts = Texts(seed)
+        text = texts.input()
+        self.comparison.compare("print", text)
+        try:
+            problem = reference.read(text)
+        except reference.Fault:
+            return "inputs that are refused"
+        for _ in range(3):
+            self.comparison.compare("check", text, texts.answer(problem))
+        return "inputs that are read"
 
 
 if __name__ == "__main__":
-    main()
+    play(__doc__, Inputs, "inputs", 500)

@@ -8,12 +8,12 @@ write the same bytes. The status is 0 exactly where nothing differs.
 
 from __future__ import annotations
 
-import kinds
 import problems
 import reference
 from assignments import is_satisfiable
 from reference import Clause, Problem
-from rounds import Rounds, Wrong, play
+from rounds import Rounds, play
+from runs import Wrong
 
 STATUSES = {b"s SATISFIABLE": 10, b"s UNSATISFIABLE": 20, b"s UNKNOWN": 0}
 DEFAULT_BUDGET = 100_000
@@ -81,14 +81,6 @@ def check_is_trimmed(problem: Problem, answer: bytes) -> None:
 class Solved(Rounds):
     """Problems that are solved, most of them within a small budget."""
 
-    def __init__(self, path: str, folder: str) -> None:
-        super().__init__(path, folder)
-        self.solved = kinds.solved(path)
-
-    def is_built(self, problem: Problem) -> bool:
-        """Whether `solve` takes each predicate."""
-        return all(predicate.meaning.kind in self.solved for predicate in problem.predicates)
-
     def judge_answer(self, problem: Problem, status: int, answer: bytes, budget: int) -> None:
         """The verdict that the answer has to have, which the reference and the program have to give it."""
         first = answer.split(b"\n")[0]
@@ -113,10 +105,6 @@ class Solved(Rounds):
         budget = small.random.choice([1, 2, 3, 5, DEFAULT_BUDGET] if small.is_hard else [1, 3, DEFAULT_BUDGET])
         words = ["solve", "f"] + (["--conflicts", str(budget)] if budget != DEFAULT_BUDGET else [])
         status, answer = self.run(*words)
-        if not self.is_built(problem):
-            if (status, answer) != (3, b"refused 0 NotBuilt\n"):
-                raise Wrong(f"status {status} with {answer!r}, where a predicate isn't built")
-            return "NotBuilt"
         self.judge_answer(problem, status, answer, budget)
         if status and is_satisfiable(problem) != (status == 10):
             raise Wrong(f"status {status}, and trying all assignments says otherwise")

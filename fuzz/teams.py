@@ -17,7 +17,8 @@ import problems
 import reference
 from assignments import is_satisfiable
 from reference import Step
-from rounds import Rounds, Wrong, play
+from rounds import Rounds, play
+from runs import Wrong
 from solve import STATUSES, check_is_trimmed
 
 SLICE = 1000

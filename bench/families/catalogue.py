@@ -7,7 +7,7 @@ from dataclasses import dataclass
 from functools import partial
 from typing import Any, Generic, TypeVar
 
-from families import boards, clauses, grids, orders, precedence, sites
+from families import boards, clauses, grids, large, orders, precedence, sites
 from families.encoding import Encoding
 
 Size = TypeVar("Size")
@@ -58,6 +58,11 @@ FAMILIES: dict[str, Family[Any]] = {
     "flows": Family(grids.flows, [((8, 20), 5), ((16, 20), 5)], [((24, 20), 3), ((50, 20), 3)]),
     "tree-bounds": Family(grids.tree_bounds, [((8, 12), 5), ((12, 12), 5)], [((16, 12), 3), ((24, 12), 3)]),
     "wall": Family(grids.wall, [(100, 3)], [(300, 1)]),
+    # large networks: nodes on a side, the kind of the predicates; cells on a side; nodes on a side
+    "large": Family(large.networks, [((60, k), 1) for k in large.KINDS], [((120, k), 1) for k in large.KINDS]),
+    "large-shut": Family(large.shut, [((60, k), 1) for k in large.KINDS], [((120, k), 1) for k in large.KINDS]),
+    "large-maze": Family(large.cells, [(20, 1), (30, 1)], [(60, 1)]),
+    "large-orders": Family(large.one_way, [(60, 1)], [(120, 1), (240, 1)]),
     # variables; holes; nodes
     "random150": Family(clauses.uniform, [(150, 20)], [(300, 3)], True),
     "random200": Family(clauses.uniform, [(200, 20)], [(250, 3)], True),

@@ -7,7 +7,7 @@ from __future__ import annotations
 
 from pathlib import Path
 
-from gulfezo import Problem
+from gulfezo import Edge, Problem
 
 HERE = Path(__file__).parent
 
@@ -43,9 +43,9 @@ def main() -> None:
         if not answer:
             print(f"a budget of {budget} can't be met: the refutation has {len(answer.lemmas)} lemmas")
             continue
-        names = problem.graphs[0].names
-        tree = answer.tree(problem.predicates[0])
-        print(f"a budget of {budget}:", ", ".join(f"{names[e.start][:-4]}-{names[e.end][:-4]}" for e in tree))
+        names = [name.split("@")[0] for name in problem.graphs[0].names]
+        tree = (edge for edge in answer.tree(problem.predicates[0]) if isinstance(edge, Edge))
+        print(f"a budget of {budget}:", ", ".join(f"{names[e.start]}-{names[e.end]}" for e in tree))
         break
 
 

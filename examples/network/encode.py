@@ -9,8 +9,7 @@ from __future__ import annotations
 
 from pathlib import Path
 
-from gulfezo import Edge, Model, Problem, Sum
-from gulfezo.draw import drawing
+from gulfezo import Best, Link, Model, Problem, Sum, drawing
 
 HERE = Path(__file__).parent
 
@@ -20,7 +19,7 @@ def read_rows(name: str) -> list[list[str]]:
     return [line.split() for line in (HERE / name).read_text().splitlines()]
 
 
-def encode() -> tuple[Problem, list[Edge], Sum]:
+def encode() -> tuple[Problem, list[Link], Sum]:
     """The problem without a bound on the costs, the links, and the sum of their costs."""
     problem = Problem()
     graph = problem.add_graph("sites")
@@ -60,11 +59,13 @@ def main() -> None:
     if not best:
         print("no set of links will do")
         return
-    names = problem.graphs[0].names
-    built = [link for link in links if best.model[link]]
-    pairs = (f"{names[e.start].split('@')[0]}-{names[e.end].split('@')[0]}" for e in built)
-    print(f"cost {best.value}:", ", ".join(pairs))
-    print(f"nothing is cheaper: the refutation has {len(best.refutation.lemmas)} lemmas")
+    names = [name.split("@")[0] for name in problem.graphs[0].names]
+    built = (link for link in links if best.model[link])
+    print(f"cost {best.value}:", ", ".join("-".join(names[end] for end in link.ends) for link in built))
+    if isinstance(best, Best):
+        print(f"nothing is cheaper: the refutation has {len(best.refutation.lemmas)} lemmas")
+    else:
+        print(f"{best.gap or 'nobody knows how much'} less may be possible: the budget is spent")
 
 
 if __name__ == "__main__":

@@ -8,8 +8,7 @@ from __future__ import annotations
 
 from pathlib import Path
 
-from gulfezo import Model, Problem
-from gulfezo.draw import drawing
+from gulfezo import Link, Model, Problem, drawing
 
 HERE = Path(__file__).parent
 
@@ -56,13 +55,15 @@ def problems() -> dict[str, Problem]:
 
 
 def where(model: Model) -> dict[str, Cell]:
-    """The cell of each block: the end of the edge that leads there from the block."""
+    """The cell of each block: the other end of the link that leads there from the block."""
     names = model.problem.graphs[0].names
     found = {}
-    for edge in model.edges(model.problem.graphs[0]):
-        if "," in names[edge.end] and "," not in names[edge.start]:
-            x, y = map(int, names[edge.end].split(","))
-            found[names[edge.start]] = (x, y)
+    for link in model.edges(model.problem.graphs[0]):
+        assert isinstance(link, Link)
+        block, cell = (names[end] for end in link.ends)
+        if "," not in block:
+            x, y = map(int, cell.split(","))
+            found[block] = (x, y)
     return found
 
 

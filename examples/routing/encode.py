@@ -7,8 +7,7 @@ from __future__ import annotations
 
 from pathlib import Path
 
-from gulfezo import Literal, Model, Problem
-from gulfezo.draw import drawing
+from gulfezo import Literal, Model, Problem, drawing
 
 HERE = Path(__file__).parent
 
@@ -84,9 +83,8 @@ def main() -> None:
             print(f"{name}: the nets can't both be routed; the refutation has {len(answer.lemmas)} lemmas")
             continue
         for net in problem.predicates:
-            way, graph = answer.path(net), problem.graphs[net.graph]
-            nodes = [way[0].start] + [edge.end for edge in way]
-            print(f"{name}: {graph.name}: {' '.join(graph.names[node] for node in nodes)}")
+            graph = problem.graphs[net.graph]
+            print(f"{name}: {graph.name}: {' '.join(graph.names[node] for node in answer.nodes(net))}")
     say_why(crowded())
 
 

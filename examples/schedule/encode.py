@@ -2,6 +2,8 @@
 
 `jobs.txt` has a job on each line: its name, and its tasks as machines and hours. `wishes.txt` has on each line a
 machine and two jobs, the first of which is to be on it before the second.
+
+All is written by hand here, to show how clauses and a graph say it; `Problem.add_schedule` says it in five lines.
 """
 
 from __future__ import annotations
@@ -109,7 +111,7 @@ def require_deadline(problem: Problem, tasks: list[Task], deadline: int, done: l
 
 def starts_of(tasks: list[Task], model: Model) -> dict[Task, int]:
     """The hour at which each task starts, as early as the tasks before it allow."""
-    edges = model.edges(model.problem.graphs[0])
+    edges = model.present(model.problem.graphs[0])
     start = dict.fromkeys(range(len(tasks)), 0)
     for node in model.order(model.problem.predicates[0]):
         for edge in edges:

@@ -83,7 +83,8 @@ def write_wheel(folder: str, files: dict[str, bytes], tag: str = ANYWHERE, descr
 def modules() -> dict[str, bytes]:
     """The package's files."""
     package = ROOT / "gulfezo"
-    found = [path for path in sorted(package.rglob("*")) if path.suffix == ".py" or path.name == "py.typed"]
+    kinds = (".py", ".js", ".css")
+    found = [path for path in sorted(package.rglob("*")) if path.suffix in kinds or path.name == "py.typed"]
     return {str(path.relative_to(ROOT)): path.read_bytes() for path in found}
 
 

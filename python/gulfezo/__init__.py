@@ -10,9 +10,13 @@
 program's format, runs its `solve` and its `check`, and reads what they print. What is proved is proved of the program.
 """
 
+import logging
+
 from .answer import Answer, parse_answer, read_answer
-from .best import Best, NoBound
+from .best import Best, Incumbent, Incumbents, NoBound
 from .cores import Core, Need
+from .draw import drawing
+from .enumeration import Models
 from .errors import (
     BudgetSpent,
     FormatError,
@@ -26,13 +30,21 @@ from .errors import (
     UnexpectedStatus,
 )
 from .foreign import read_dimacs, read_monosat
+from .gates import And, If, Implies, Or, Xor
 from .graph import Graph, Node
-from .literals import And, Edge, Kind, Literal, Or, Predicate
-from .model import Model
+from .in_turn import Greatest, Least
+from .literals import Edge, Kind, Link, Literal, Predicate
+from .model import Flow, Model
 from .problem import Problem
 from .reading import parse_problem, read_problem
+from .schedules import Schedule, Task, Time
+from .session import Session
+from .statistics import Statistics
 from .steps import Derivation, Progress, Refutation, Step
 from .sums import Sum
+
+# Silent unless the user of the package wants to hear of it: each phase, its time, and the words of each run.
+logging.getLogger("gulfezo").addHandler(logging.NullHandler())
 
 __all__ = [
     "And",
@@ -42,12 +54,21 @@ __all__ = [
     "Core",
     "Derivation",
     "Edge",
+    "Flow",
     "FormatError",
     "Graph",
+    "Greatest",
     "GulfezoError",
+    "If",
+    "Implies",
+    "Incumbent",
+    "Incumbents",
     "Kind",
+    "Least",
+    "Link",
     "Literal",
     "Model",
+    "Models",
     "Need",
     "NoBound",
     "Node",
@@ -61,10 +82,17 @@ __all__ = [
     "Refutation",
     "RejectedAnswer",
     "RunError",
+    "Schedule",
+    "Session",
+    "Statistics",
     "Step",
     "Sum",
+    "Task",
+    "Time",
     "TimeSpent",
     "UnexpectedStatus",
+    "Xor",
+    "drawing",
     "parse_answer",
     "parse_problem",
     "read_answer",

@@ -14,7 +14,7 @@ from pathlib import Path
 from .errors import FormatError, UnexpectedStatus
 from .lines import Lines
 from .migrating import migrated
-from .model import Model
+from .model import Model, Values
 from .problem import Problem
 from .steps import Derivation, Progress, Refutation, Steps
 
@@ -73,15 +73,18 @@ def answer_of(problem: Problem, lines: Lines, assumed: Sequence[int] = ()) -> An
     raise FormatError(number, "an answer begins with `s SATISFIABLE`, `s UNSATISFIABLE` or `s UNKNOWN`")
 
 
-def values(problem: Problem, lines: Lines, first: int) -> dict[int, bool]:
+def values(problem: Problem, lines: Lines, first: int) -> Values:
     """The value of each variable, from the lines `v` of a model, of which the first has the place `first`."""
-    found: dict[int, bool] = {}
+    found = Values(problem.variables)
     for place in range(first, len(lines)):
         word, numbers = lines.numbers(place)
         if word != "v":
             raise FormatError(lines.number(place), "a model has only lines that begin with `v`")
-        found.update((abs(literal), literal > 0) for literal in numbers if literal)
-    missing = next((variable for variable in range(1, problem.variables + 1) if variable not in found), None)
-    if missing is not None:
+        try:
+            found.set(numbers)
+        except IndexError as fault:
+            raise FormatError(lines.number(place), "the model has a variable that the problem doesn't have") from fault
+    missing = found.signs.find(0, 1)
+    if missing > 0:
         raise FormatError(lines.number(len(lines) - 1), f"the model gives variable {missing} no value")
     return found

@@ -1,52 +1,81 @@
-"""At most so many of some literals, as clauses.
+"""At most so many of some literals: by pairs, by a totalizer, or as a sum, whichever is best by measure.
 
-Few literals: one clause for each two of them. Otherwise the sequential counter of C. Sinz, "Towards an Optimal CNF
-Encoding of Boolean Cardinality Constraints" (CP 2005): further variables s[i][j] say that at least j + 1 of the first
-i + 1 literals are true. It takes about 2 n k clauses and n k variables, and unit propagation finds each false literal.
+Pairs: one clause for each two literals, and no further variable. A totalizer (O. Bailleux, Y. Boufkhad, "Efficient CNF
+Encoding of Boolean Cardinality Constraints", CP 2003) is a tree, at each of whose nodes further variables say that at
+least 1, 2, .. of the literals below it are true; here no node counts beyond the bound, and the root has none. A sum is
+the length of a walk (`gulfezo.sums`), which takes one edge for each literal and one lemma where too many are true.
 """
 
 from __future__ import annotations
 
 import itertools
-from collections.abc import Callable, Iterator, Sequence
+from collections.abc import Sequence
+from typing import TYPE_CHECKING
 
 from .literals import Literal
 
-# Up to so many literals, at most one of them is told by pairs. They propagate in one step and need no further
-# variables, and take at most 28 clauses where the counter takes 20. On 24 boards of 16 by 16 to 30 by 30 cells that six
-# nets share, pairs found 14 answers within 20,000 learned clauses and 25 seconds, the counter 11; with eight nets on
-# 22 smaller boards both found all, pairs in 0.8 s and the counter in 1.4 s; from ten nets on neither was better
-# throughout.
+if TYPE_CHECKING:
+    from .problem import Problem
+
+# Up to so many literals, at most one of them is told by pairs. They propagate in one step and need no further variable.
+# On 24 boards that six nets share, pairs found 14 answers within 20,000 learned clauses and 25 seconds, a counter 11.
 PAIRWISE = 8
+# A totalizer of up to so many clauses is taken; beyond that a sum. Of 42 problems of 60 to 1,000 literals totalizers of
+# up to 170,000 clauses answered 30 within 12 seconds each, and sums 19, all of them among the 30 (docs/ENCODING.md).
+MOST_CLAUSES = 200_000
 
-Clause = tuple[Literal, ...]
 
-
-def at_most(bound: int, literals: Sequence[Literal], variable: Callable[[], Literal]) -> Iterator[Clause]:
-    """Clauses that are satisfiable, by the further variables, exactly where at most `bound` of the literals are true.
-
-    A literal that is listed twice counts twice. `variable` makes a further variable.
-    """
+def require_at_most(problem: Problem, bound: int, literals: Sequence[Literal]) -> None:
+    """At most `bound` of the literals are true; one that is listed twice counts twice."""
     if bound < 0:
-        yield ()
+        problem.add_clause()
     elif bound == 0:
-        yield from ((~x,) for x in literals)
+        problem.require(*(~x for x in literals))
+    elif bound >= len(literals):
+        return
     elif bound == 1 and len(literals) <= PAIRWISE:
-        yield from ((~x, ~y) for x, y in itertools.combinations(literals, 2))
-    elif bound < len(literals):
-        yield from counter(bound, literals, variable)
+        for x, y in itertools.combinations(literals, 2):
+            problem.add_clause(~x, ~y)
+    elif clauses_of_totalizer(bound, len(literals)) <= MOST_CLAUSES:
+        totalize(problem, bound, literals)
+    else:
+        problem.require(problem.add_sum([(x, 1) for x in literals]).at_most(bound))
 
 
-def counter(bound: int, literals: Sequence[Literal], variable: Callable[[], Literal]) -> Iterator[Clause]:
-    """The sequential counter, for a bound from 1 to one less than there are literals."""
-    first, *middle, last = literals
-    count = [variable() for _ in range(bound)]
-    yield (~first, count[0])
-    yield from ((~s,) for s in count[1:])
-    for x in middle:
-        before, count = count, [variable() for _ in range(bound)]
-        yield (~x, count[0])
-        yield from ((~old, new) for old, new in zip(before, count))
-        yield from ((~x, ~old, new) for old, new in zip(before, count[1:]))
-        yield (~x, ~before[-1])
-    yield (~last, ~count[-1])
+def clauses_of_totalizer(bound: int, count: int) -> int:
+    """How many clauses a totalizer has, or a number above each limit where there are many."""
+    if count <= 1:
+        return 0
+    low, high = count // 2, count - count // 2
+    own = (min(low, bound) + 1) * (min(high, bound) + 1)
+    return own + clauses_of_totalizer(bound, low) + clauses_of_totalizer(bound, high)
+
+
+def totalize(problem: Problem, bound: int, literals: Sequence[Literal]) -> None:
+    """The totalizer's clauses, for a bound from 1 to one less than there are literals."""
+    middle = len(literals) // 2
+    low, high = (counted(problem, bound, half) for half in (literals[:middle], literals[middle:]))
+    refuse_more(problem, bound, low, high)
+
+
+def counted(problem: Problem, bound: int, literals: Sequence[Literal]) -> list[Literal]:
+    """Literals that are true where at least 1, 2, .. of the given ones are, up to the bound."""
+    if len(literals) == 1:
+        return list(literals)
+    middle = len(literals) // 2
+    low, high = (counted(problem, bound, half) for half in (literals[:middle], literals[middle:]))
+    found = problem.add_variables(min(bound, len(literals)))
+    for i, j in itertools.product(range(len(low) + 1), range(len(high) + 1)):
+        if 0 < i + j <= bound:
+            given = [~x for x in (*low[i - 1 : i], *high[j - 1 : j])]
+            problem.add_clause(*given, found[i + j - 1])
+    refuse_more(problem, bound, low, high)
+    return found
+
+
+def refuse_more(problem: Problem, bound: int, low: list[Literal], high: list[Literal]) -> None:
+    """No more than the bound of what both count."""
+    for i, x in enumerate(low, 1):
+        j = bound + 1 - i
+        if 0 < j <= len(high):
+            problem.add_clause(~x, ~high[j - 1])

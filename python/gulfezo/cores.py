@@ -6,7 +6,7 @@ import os
 from collections.abc import Iterable, Iterator
 from dataclasses import dataclass
 from pathlib import Path
-from typing import TYPE_CHECKING, Literal as Constant
+from typing import TYPE_CHECKING, Literal as Constant, NoReturn
 
 from . import program as programs
 from .answer import accepted
@@ -14,7 +14,7 @@ from .errors import BudgetSpent, RejectedAnswer, UnexpectedStatus
 from .literals import Literal
 from .model import Model
 from .reasons import explained
-from .solving import Run, assumed, checked, in_folder, run_of
+from .solving import Run, assumed, checked, in_folder, is_progress, run_of, write
 from .steps import Refutation
 
 if TYPE_CHECKING:
@@ -61,9 +61,26 @@ class Core:
     def __iter__(self) -> Iterator[Literal]:
         return iter(self.literals)
 
+    def __contains__(self, literal: object) -> bool:
+        """Whether it has the literal, by whichever edge or name it is called."""
+        numbers = {need.literal.number for need in self.needs}
+        return isinstance(literal, Literal) and literal.owner is self.problem and literal.number in numbers
+
+    def __repr__(self) -> str:
+        return f"<core of {len(self)}: {', '.join(self.names)}>"
+
+    def _repr_svg_(self) -> str | None:
+        """The first lemma of its refutation as a picture, which Jupyter shows."""
+        return self.refutation._repr_svg_()
+
+    if not TYPE_CHECKING:  # of a type checker these names stay unknown
+
+        def __getattr__(self, name: str) -> NoReturn:
+            raise AttributeError(f"a core has no {name!r}: its literals can't hold together, so there is no model")
+
     @property
     def literals(self) -> list[Literal]:
-        """The assumptions of the core, in the order in which they were given."""
+        """The assumptions of the core, as they were given and in that order."""
         return [need.literal for need in self.needs]
 
     @property
@@ -86,22 +103,22 @@ def core(
     seconds: float | None,
 ) -> Model | Core:
     """See `Problem.core`."""
-    literals = assumed(problem, assumptions)
-    if not literals:
+    chosen = assumed(problem, assumptions)
+    if not chosen:
         raise ValueError("core wants at least one assumption; solve says whether there is a model without any")
     run = run_of(program, None, seconds, progress)
     run.form = "core"
-    return in_folder(folder, lambda place, keeps: core_in(place, problem, run, keeps, literals))
+    return in_folder(folder, lambda place, keeps: core_in(place, problem, run, keeps, chosen))
 
 
-def core_in(place: Path, problem: Problem, run: Run, keeps: bool, literals: list[int]) -> Model | Core:
+def core_in(place: Path, problem: Problem, run: Run, keeps: bool, chosen: dict[int, Literal]) -> Model | Core:
     """Asks for a core with the files `problem.gnf` and `answer` in that folder."""
-    file, printed = place / "problem.gnf", place / "answer"
-    problem.write(file)
+    file, printed, literals = place / "problem.gnf", place / "answer", list(chosen)
+    write(problem, file, run)
     with open(printed, "wb") as out:
-        with run.phase(f"looking for a core (assumptions: {len(literals)})"):
+        with run.phase("solving", f"looking for a core (assumptions: {len(literals)})"):
             status = programs.run([run.program, run.form, str(file), *map(str, literals)], out, run.deadline)
-    if status == SPENT:
+    if status == SPENT and is_progress(printed):
         spent = "100,000 learned clauses don't tell whether the assumptions hold together; assume less"
         raise BudgetSpent(spent, *((file, printed) if keeps else ()))
     kept = literals
@@ -114,7 +131,7 @@ def core_in(place: Path, problem: Problem, run: Run, keeps: bool, literals: list
     answer = checked(problem, status, run, file, printed, kept)
     if isinstance(answer, Model):
         return answer
-    needs = [need_of(problem, run, place, kept, head) for head in heads]
+    needs = [need_of(problem, run, place, kept, head, chosen) for head in heads]
     return Core(problem, needs, answer)
 
 
@@ -147,12 +164,14 @@ def rows_of(printed: Path) -> Iterator[tuple[str, list[int]]]:
                 yield tokens[1].decode(), numbers
 
 
-def need_of(problem: Problem, run: Run, place: Path, kept: list[int], head: Head) -> Need:
+def need_of(
+    problem: Problem, run: Run, place: Path, kept: list[int], head: Head, chosen: dict[int, Literal]
+) -> Need:
     """The need of a literal by its line. `RejectedAnswer`: what stands there as a model of the others isn't one."""
     word, literal, listed = head
-    own = problem.literal(literal)
+    own = chosen[literal]
     if word == "open":
-        return Need(own, None, tuple(map(problem.literal, listed)))
+        return Need(own, None, tuple(chosen[number] for number in listed))
     file, path = place / "problem.gnf", place / f"needed-{literal}"
     path.write_text(f"s SATISFIABLE\nv {' '.join(map(str, listed))} 0\n")
     others = [number for number in kept if number != literal]

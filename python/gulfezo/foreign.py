@@ -9,9 +9,11 @@ import os
 from typing import Any
 
 from .errors import FormatError
-from .literals import WORDS, one_line, whole
-from .problem import MOST_VARIABLES, Problem
-from .reading import BLANKS, Reader, natural, text_of_file
+from .graph import Graph
+from .limits import MOST_VARIABLES, one_line, printable, whole
+from .literals import WORDS, literal_of
+from .problem import Problem
+from .reading import BLANKS, Reader, literal, natural, text_of_file
 
 # Words of MonoSAT's that mean the same as here.
 SHARED = {"p", "edge", *WORDS}
@@ -46,10 +48,11 @@ def read_monosat(path: str | os.PathLike[str]) -> Problem:
     """The problem of a file of MonoSAT's, where each of its lines means something here.
 
     Read are clauses, `digraph` with whole weights and perhaps a name, `node G N [NAME]`, which adds a node or names
-    one, `edge`, `symbol X NAME`, and the predicates that this program has. `FormatError`: any other line, such as one
-    on bit-vectors or geometry.
+    one, `edge`, `symbol X NAME`, `amo LIT.. 0` (at most one), and the predicates that this program has. `FormatError`:
+    any other line, such as one on bit-vectors or geometry.
     """
     reader = Reader()
+    most_one: list[list[int]] = []
     for number, tokens, line in lines_of(path):
         word = tokens[0]
         if word == "digraph":
@@ -58,11 +61,16 @@ def read_monosat(path: str | os.PathLike[str]) -> Problem:
             taken(reader, number, tokens, line, lambda: node(reader, tokens))
         elif word == "symbol":
             taken(reader, number, tokens, line, lambda: symbol(reader, tokens))
+        elif word == "amo":
+            most_one.append(taken(reader, number, tokens, line, lambda: amo(reader, tokens)))
         elif word in SHARED or word == "c" or word.lstrip("-").isdigit():
             taken(reader, number, tokens, line)
         else:
             raise FormatError(number, f"`{word}` has no counterpart in this program's format")
-    return reader.finished()
+    problem = reader.finished()
+    for numbers in most_one:  # at the end, since they may take further variables
+        problem.at_most_one([literal_of(number, problem) for number in numbers])
+    return problem
 
 
 def lines_of(path: str | os.PathLike[str]) -> list[tuple[int, list[str], str]]:
@@ -87,7 +95,7 @@ def graph(reader: Reader, tokens: list[str]) -> None:
     if len(fields) not in (3, 4) or not fields[0].isdigit():
         raise ValueError("only graphs with weights `int` are read: `digraph int N M G` and perhaps a name")
     nodes, _, identity = map(natural, fields[:3])
-    reader.problem.declare_graph(identity, " ".join(fields[3:])).add_nodes(nodes)
+    reader.problem.declare_graph(identity, " ".join(fields[3:])).grow(nodes)
 
 
 def node(reader: Reader, tokens: list[str]) -> None:
@@ -112,3 +120,45 @@ def symbol(reader: Reader, tokens: list[str]) -> None:
     number = whole(natural(tokens[1]), "a variable", MOST_VARIABLES, 1)
     reader.use_variables(number)
     reader.problem.names[number] = one_line(tokens[2])
+
+
+def amo(reader: Reader, tokens: list[str]) -> list[int]:
+    """Reads `amo LIT.. [0]`: the numbers of literals of which at most one is true."""
+    reader.require_closed()
+    numbers = list(map(literal, tokens[1:]))
+    if numbers[-1:] == [0]:
+        numbers.pop()
+    if not numbers or 0 in numbers:
+        raise ValueError("at most one of which literals?")
+    for number in numbers:
+        reader.use_variables(abs(number))
+    return numbers
+
+
+def networkx_graph(problem: Problem, graph: Any, weight: str, default: int | None) -> Graph:
+    """See `Problem.add_networkx`."""
+    made = problem.add_graph(printable(str(getattr(graph, "name", "") or "")))
+    data_of = dict(graph.nodes(data=True)) if callable(graph.nodes) else {}
+    for key in graph.nodes:
+        made.add_node(node_name(key, data_of.get(key, {})), key=key)
+    edges = list(graph.edges(data=True))
+    missing = [(start, end) for start, end, data in edges if weight not in data]
+    if default is None and missing and len(missing) < len(edges):
+        start, end = missing[0]
+        said = f"the edge from {start!r} to {end!r} has no {weight!r}, and others have"
+        raise ValueError(f"{said}: give `default`, which it then weighs")
+    add = made.add_edge if graph.is_directed() else made.add_link
+    for start, end, data in edges:
+        add(made.node(start), made.node(end), data.get(weight, 1 if default is None else default))
+    return made
+
+
+def node_name(key: Any, data: dict[str, Any]) -> Any:
+    """A node's name: its key where that is a text or coordinates, and behind it the place where it has one."""
+    name = printable(key if isinstance(key, (str, tuple)) and key != "" else str(key))
+    try:
+        x, y = map(float, data["pos"])
+    except (KeyError, TypeError, ValueError):
+        return name
+    label = ",".join(name) if isinstance(name, tuple) else name
+    return f"{label}@{x:.6g},{-y:.6g}"  # networkx draws y upwards

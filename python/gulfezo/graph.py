@@ -2,20 +2,17 @@
 
 from __future__ import annotations
 
-import copy
+from bisect import bisect_left
 from collections import defaultdict
 from collections.abc import Hashable, Iterable
 from typing import TYPE_CHECKING, Any
 
-from .literals import Edge, Kind, Literal, Predicate, WITHOUT_BOUND, WITHOUT_ENDS, WORDS, one_line, whole
+from .edges import ALONE, BACK, THERE, GraphEdges
+from .limits import MOST_BOUND, MOST_EDGES, MOST_NODES, MOST_PREDICATES, MOST_WEIGHT, one_line, whole
+from .literals import Edge, Kind, Link, Literal, Predicate, WITHOUT_BOUND, WITHOUT_ENDS, WORDS
 
 if TYPE_CHECKING:
     from .problem import Problem
-
-MOST_WEIGHT = 2**64 - 1
-MOST_BOUND = 2**53
-MOST_NODES = MOST_EDGES = 1_000_000
-MOST_PREDICATES = 100_000
 
 # A node's name: a text, or coordinates.
 Name = str | tuple[Any, ...]
@@ -46,10 +43,11 @@ class Node(int):
 class Graph:
     """A directed graph whose edges are there or not, as their variables say. `Problem.add_graph` makes one.
 
-    `edges` lists them all, present or not, in the order in which they were added; `names` has a node's name or "".
-    Nodes count from 0. A node may have a name, which pictures show: any text without line breaks, or coordinates. A
-    pair (x, y) says where the node lies (x to the right, y down); `"hub@3,1"` is the name hub at (3, 1). It may have a
-    key of the user's own too, by which `node` finds it.
+    `edges` lists all its directed edges, present or not, in the order in which they were added, and `links` those that
+    are undirected, of which each is two edges. `names` has a node's name or "". Nodes count from 0. A node may have a
+    name, which pictures show: any text without line breaks, or coordinates. A pair (x, y) says where the node lies (x
+    to the right, y down); `"hub@3,1"` is the name hub at (3, 1). It may have a key of the user's own too, by which
+    `node` finds it. `hidden` graphs, and the nodes of `hidden_nodes`, aren't drawn unless they are asked for.
     """
 
     def __init__(self, problem: Problem, identity: int, name: str = "") -> None:
@@ -57,7 +55,9 @@ class Graph:
         self.identity = identity
         self.name = one_line(name)
         self.names: list[str] = []
-        self.edges: list[Edge] = []
+        self.edges: GraphEdges = GraphEdges(problem.edges)
+        self.hidden = False
+        self.hidden_nodes: set[int] = set()
         self._by_key: defaultdict[Hashable, list[Node]] = defaultdict(list)
 
     def __len__(self) -> int:
@@ -67,15 +67,35 @@ class Graph:
     def __bool__(self) -> bool:
         return True
 
-    def __deepcopy__(self, memo: dict[int, Any]) -> Graph:
-        """A copy that finds its nodes by the same keys, which are the user's own and may be such as can't be copied."""
-        made = memo[id(self)] = Graph.__new__(Graph)
-        for field, value in vars(self).items():
-            if field != "_by_key":
-                setattr(made, field, copy.deepcopy(value, memo))
-        nodes = {key: [Node(node, made) for node in found] for key, found in self._by_key.items()}
-        made._by_key = defaultdict(list, nodes)
+    def __repr__(self) -> str:
+        name = f" {self.name!r}" if self.name else ""
+        return f"<graph {self.identity}{name}: {len(self)} nodes, {len(self.edges)} edges>"
+
+    def _repr_svg_(self) -> str | None:
+        """The bare graph as a picture, which Jupyter shows."""
+        from .draw import shown_in_notebook
+
+        return shown_in_notebook(self.problem, None, self.identity)
+
+    def copy(self, problem: Problem) -> Graph:
+        """The same graph of another problem, with the same keys, which are the user's own."""
+        made = Graph(problem, self.identity, self.name)
+        made.names = list(self.names)
+        made.edges.numbers.extend(self.edges.numbers)
+        made.hidden, made.hidden_nodes = self.hidden, set(self.hidden_nodes)
+        for key, found in self._by_key.items():
+            made._by_key[key] = [Node(node, made) for node in found]
         return made
+
+    def cut(self, nodes: int, most_edge: int) -> None:
+        """Leaves its first nodes, so many, and the edges up to that number."""
+        self.edges.cut(most_edge)
+        if nodes == len(self.names):
+            return
+        del self.names[nodes:]
+        self.hidden_nodes = {node for node in self.hidden_nodes if node < nodes}
+        for key, found in list(self._by_key.items()):
+            self._by_key[key] = [node for node in found if node < nodes]
 
     def add_node(self, name: Name = "", key: Hashable = None) -> Node:
         """A further node: its number, from 0.
@@ -89,7 +109,7 @@ class Graph:
         if self.problem.nodes == MOST_NODES:
             raise ValueError(f"a problem has at most {MOST_NODES} nodes")
         self.names.append(text)
-        self.problem.nodes += 1
+        self.problem.node_graphs.append(self.identity)
         node = Node(len(self.names) - 1, self)
         if key is None and name != "":
             key = name
@@ -97,17 +117,24 @@ class Graph:
             self._by_key[key].append(node)
         return node
 
+    def grow(self, count: int) -> range:
+        """Further nodes without names, so many: their numbers."""
+        before = len(self.names)
+        count = whole(count, "a number of further nodes", MOST_NODES - self.problem.nodes)
+        self.names.extend([""] * count)
+        self.problem.node_graphs.extend([self.identity] * count)
+        return range(before, before + count)
+
     def add_nodes(self, names: int | Iterable[Name]) -> list[Node]:
         """Further nodes, so many or one for each name: their numbers."""
         if isinstance(names, str):
             raise ValueError(f"add_nodes takes a number or a list of names; add_node takes the one name {names!r}")
-        left, chosen = MOST_NODES - self.problem.nodes, list(names) if isinstance(names, Iterable) else None
-        count = whole(names if chosen is None else len(chosen), "a number of further nodes", left)
-        if chosen is None:
-            return [self.add_node() for _ in range(count)]
-        for name in chosen:
-            written(name)
-        return [self.add_node(name) for name in chosen]
+        if not isinstance(names, Iterable):
+            return [Node(number, self) for number in self.grow(names)]
+        chosen = list(names)
+        whole(len(chosen), "a number of further nodes", MOST_NODES - self.problem.nodes)
+        with self.problem.unchanged_on_error():
+            return [self.add_node(name) for name in chosen]
 
     def name_node(self, node: int, name: str) -> None:
         """Gives a node of a file the name that stands there, by which `node` finds it from then on."""
@@ -124,6 +151,12 @@ class Graph:
             raise ValueError(f"graph {self.identity} has {'several nodes' if found else 'no node'} {key!r}")
         return found[0]
 
+    def hide(self, *nodes: int) -> None:
+        """Leaves these nodes and their edges out of pictures, or, where none is named, the whole graph."""
+        own = [self._own(node) for node in nodes]
+        self.hidden_nodes.update(own)
+        self.hidden = self.hidden or not own
+
     def add_edge(self, start: int, end: int, weight: int = 1, variable: Literal | None = None) -> Edge:
         """A directed edge, present exactly where its variable is true.
 
@@ -131,25 +164,48 @@ class Graph:
         """
         start, end = self._own(start), self._own(end)
         weight = whole(weight, "an edge's weight", MOST_WEIGHT)
-        number = len(self.problem.edges) + 1
-        if number > MOST_EDGES:
-            raise ValueError(f"a problem has at most {MOST_EDGES} edges")
+        return self._append(start, end, weight, variable, ALONE)
+
+    def _append(self, start: int, end: int, weight: int, variable: Literal | None, side: int) -> Edge:
+        """A further edge between nodes that are the graph's own."""
         owner = self.problem
-        edge = Edge(owner.variable_of(variable), number, self.identity, start, end, weight, owner=owner)
-        self.problem.edges.append(edge)
-        self.edges.append(edge)
+        if len(owner.edges) == MOST_EDGES:
+            raise ValueError(f"a problem has at most {MOST_EDGES} edges")
+        edge = owner.edges.append(self.identity, start, end, owner.variable_of(variable), weight, side)
+        self.edges.numbers.append(edge.edge_number)
         return edge
 
-    def between(self, start: int, end: int) -> list[Edge]:
-        """The edges from a node to another, in the order in which they were added; each call looks at all edges."""
-        ends = self._own(start), self._own(end)
-        return [edge for edge in self.edges if (edge.start, edge.end) == ends]
+    def add_link(self, one: int, other: int, weight: int = 1, variable: Literal | None = None) -> Link:
+        """An undirected edge: two edges, there and back, of one variable."""
+        one, other = self._own(one), self._own(other)
+        weight = whole(weight, "a link's weight", MOST_WEIGHT)
+        with self.problem.unchanged_on_error():
+            there = self._append(one, other, weight, variable, THERE)
+            back = self._append(other, one, weight, self.problem.literal(there.number), BACK)
+        return Link(there, back)
 
-    def add_link(self, one: int, other: int, weight: int = 1, variable: Literal | None = None) -> Edge:
-        """Two edges, there and back, of one variable: an undirected edge. The one from `one` to `other` is given."""
-        there = self.add_edge(one, other, weight, variable)
-        self.add_edge(other, one, weight, there)
-        return there
+    @property
+    def links(self) -> list[Link]:
+        """Its undirected edges, in the order in which they were added."""
+        all_edges = self.problem.edges
+        numbers = (number for number in self.edges.numbers if all_edges.sides[number - 1] == THERE)
+        return [Link(all_edges.edge(number), all_edges.edge(number + 1)) for number in numbers]
+
+    def between(self, start: int, end: int) -> list[Edge | Link]:
+        """What leads from a node to another, edges and links, in the order in which they were added.
+
+        Each call looks at all edges of the graph.
+        """
+        start, end, all_edges = self._own(start), self._own(end), self.problem.edges
+        starts, ends, sides = all_edges.starts, all_edges.ends, all_edges.sides
+        numbers = [n for n in self.edges.numbers if starts[n - 1] == start and ends[n - 1] == end]
+        chosen = [n for n in numbers if start != end or sides[n - 1] != BACK]
+        return [all_edges.thing(number) for number in chosen]
+
+    def has_edge(self, number: int) -> bool:
+        """Whether the edge of that number is of this graph."""
+        place = bisect_left(self.edges.numbers, number)
+        return place < len(self.edges) and self.edges.numbers[place] == number
 
     def reach(self, start: int, end: int, variable: Literal | None = None) -> Predicate:
         """Whether a walk leads from start to end. From a node to itself one always does."""
@@ -199,6 +255,8 @@ class Graph:
         `ends` and `bound`, from 0 to 2^53, are None exactly where the word has none. `variable` is a new one where it
         is left out.
         """
+        if not len(self):
+            raise ValueError(f"graph {self.identity} has no nodes, and a predicate speaks of some: add_node makes one")
         kind = WORDS[word][0] if word in WORDS else None
         if kind is None or (ends is None) != (kind in WITHOUT_ENDS) or kind in WITHOUT_BOUND and bound is not None:
             raise ValueError(f"there is no predicate {word!r} with the ends {ends} and the bound {bound}")
@@ -218,9 +276,12 @@ class Graph:
 
     def _own(self, node: int) -> int:
         """The node's number. `ValueError`: it isn't of this graph."""
-        if isinstance(node, Node) and node.graph is not self:
-            raise ValueError(f"node {node} is of another graph, and not of graph {self.identity}")
-        number = whole(node, "a node's number")
+        if isinstance(node, Node):
+            if node.graph is not self:
+                raise ValueError(f"node {node} is of another graph, and not of graph {self.identity}")
+            number = int(node)
+        else:
+            number = whole(node, "a node's number")
         if number >= len(self):
             raise ValueError(
                 f"graph {self.identity} has no node {number}: it has {len(self)}, counted from 0; add_node makes more"

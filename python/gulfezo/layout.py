@@ -9,10 +9,12 @@ import math
 import re
 import shutil
 import subprocess
-from collections.abc import Iterable
+from collections import Counter
+from collections.abc import Iterable, Sequence
 
+from . import search
 from .graph import Graph
-from .literals import Edge
+from .literals import Edge, Kind
 
 Place = tuple[float, float]
 
@@ -34,13 +36,38 @@ def label(graph: Graph, node: int) -> str:
     return (named[0] if named else name) or str(node)
 
 
-def places(graph: Graph) -> list[Place]:
-    """The place of each node."""
+def places(graph: Graph, present: Sequence[Edge] = ()) -> list[Place]:
+    """The place of each node: as its name says; else in layers, where a predicate asks for an order of what is present.
+
+    Else as a tool lays the graph out, or in a ring.
+    """
     named = [named_place(name) for name in graph.names]
-    found = [given[1] for given in named if given]
-    if len(found) == len(graph):
-        return found
-    return by_graphviz(graph) or by_networkx(graph) or in_a_ring(len(graph))
+    if all(given is not None or node in graph.hidden_nodes for node, given in enumerate(named)):
+        return [(0.0, 0.0) if given is None else given[1] for given in named]
+    is_ordered = any(p.graph == graph.identity and p.kind is Kind.ACYCLIC for p in graph.problem.predicates)
+    found = in_layers(len(graph), present) if is_ordered else None
+    return found or by_graphviz(graph) or by_networkx(graph) or in_a_ring(len(graph))
+
+
+def in_layers(count: int, edges: Sequence[Edge]) -> list[Place] | None:
+    """From left to right, each node one step behind the last of those that lead to it; None where there is a cycle."""
+    order = search.topological_order(count, edges)
+    if order is None:
+        return None
+    layer = [0] * count
+    leaving: list[list[int]] = [[] for _ in range(count)]
+    for edge in edges:
+        leaving[edge.start].append(edge.end)
+    for node in order:
+        for end in leaving[node]:
+            layer[end] = max(layer[end], layer[node] + 1)
+    rows: Counter[int] = Counter()
+    found = []
+    for node in range(count):
+        # Every second layer lies half a step lower, so that lines over a layer don't run through its nodes.
+        found.append((1.4 * layer[node], rows[layer[node]] + 0.35 * (layer[node] % 2)))
+        rows[layer[node]] += 1
+    return found
 
 
 def one_a_pair(edges: Iterable[Edge]) -> set[tuple[int, int]]:

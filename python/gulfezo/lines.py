@@ -11,7 +11,7 @@ from .errors import FormatError
 BLANKS, NEWLINE = re.compile(rb"[ \t\r]+"), re.compile(rb"\n")
 CHAIN = re.compile(rb"[ \t\r]*chain(?=[ \t\r\n]|\Z)")
 SKIPPED = re.compile(rb"[ \t\r]*(?:\Z|\n|c(?:[ \t\r\n]|\Z))")  # how a blank line or a comment begins
-WORD = re.compile(rb"[ \t\r]*([^ \t\r]+)")
+WORD = re.compile(rb"[ \t\r]*([^ \t\r\n]+)")
 # A token that is no number, and zeros before one. One pattern for a whole line would take many times its bytes.
 NO_NUMBER = re.compile(rb"[ \t\r](?!-?[0-9]+(?:[ \t\r]|\Z))[^ \t\r]")
 ZEROS = re.compile(rb"(?<![0-9])0+(?=[0-9])")
@@ -56,6 +56,11 @@ class Lines:
     def is_chain(self, place: int) -> bool:
         """Whether the line's word is `chain`."""
         return CHAIN.match(self.data, self.starts[place]) is not None
+
+    def word(self, place: int) -> str:
+        """The line's first token."""
+        found = WORD.match(self.data, self.starts[place])
+        return found[1].decode("utf-8", "replace") if found else ""
 
     def numbers(self, place: int) -> tuple[str, list[int]]:
         """The line's word and the numbers behind it. `FormatError`: something else stands behind it."""

@@ -1,65 +1,83 @@
-"""Literals, and the two kinds of them that say something about a graph: edges and predicates."""
+"""Literals, and those of them that say something about a graph: edges, links and predicates.
+
+None of them can be changed, since what a problem's file says of them stands in the problem. Two are equal where they
+are the same thing of the same problem: literals by their numbers, edges and predicates by theirs.
+"""
 
 from __future__ import annotations
 
 import enum
-import operator
-import unicodedata
-from collections.abc import Iterable
-from dataclasses import dataclass, field
+from collections.abc import Callable, Iterable
 from typing import TYPE_CHECKING, Any, NoReturn
 
 if TYPE_CHECKING:
     from .problem import Problem
 
-# Control characters, line and paragraph separators, and halves of characters that no file can hold.
-UNPRINTABLE = ("Cc", "Zl", "Zp", "Cs")
+
+# What is said of names that other libraries have, or that would mean something else than it seems.
+LINK = "since walks follow it either way: `ends` has both of its nodes, and `model.nodes(predicate)` those of a walk"
+MISSING = {
+    "value": "a literal has no value of its own: `model[literal]` has the one that a model gives it",
+    "start": f"no start is known of this literal; a link has none, {LINK}",
+    "end": f"no end is known of this literal; a link has none, {LINK}",
+}
 
 
-def one_line(name: str) -> str:
-    """The name, which goes into a comment of the file. `ValueError`: it is no text, or has such a character."""
-    if not isinstance(name, str) or any(unicodedata.category(character) in UNPRINTABLE for character in name):
-        raise ValueError(f"a name is one line of text without control characters, which {name!r} isn't")
-    return name
-
-
-def printable(name: Any) -> Any:
-    """The name, or the parts of its coordinates, with a mark in place of each character that no name may have."""
-    if isinstance(name, tuple):
-        return tuple(printable(str(part)) for part in name)
-    return "".join("\ufffd" if unicodedata.category(letter) in UNPRINTABLE else letter for letter in name)
-
-
-def whole(value: Any, what: str, most: int | None = None, least: int | None = 0) -> int:
-    """A whole number within its limits. `ValueError`: it isn't one; neither `True` nor `3.0` is."""
-    try:
-        number = None if isinstance(value, bool) else operator.index(value)
-    except TypeError:
-        number = None
-    if number is None or least is not None and number < least or most is not None and number > most:
-        limits = ("" if least is None else f" from {least}") + ("" if most is None else f" to {most}")
-        raise ValueError(f"{what} is a whole number{limits}, which {value!r} isn't")
-    return number
-
-
-@dataclass(frozen=True)
 class Literal:
-    """A variable or its negation, by its number in the files: `~a` is the negation of `a`.
+    """A variable or its negation, by its number in the files: `~a` is the negation of `a`, and `~~a` is `a`.
 
     Variables count from 1. Literals come from a `Problem`, and belong to it alone: `owner` (None for one that is made
     from its number by hand, which any problem with that variable takes). A literal has no truth value of its own; a
-    model gives it one.
+    model gives it one. `a & b`, `a | b` and `a ^ b` are `And(a, b)`, `Or(a, b)` and `Xor(a, b)`.
     """
 
+    __slots__ = ("number", "owner")
     number: int
-    owner: Problem | None = field(default=None, compare=False, repr=False, kw_only=True)
+    owner: Problem | None
 
-    def __post_init__(self) -> None:
-        if isinstance(self.number, bool) or not isinstance(self.number, int) or self.number == 0:
-            raise ValueError(f"a literal is a whole number other than 0, which {self.number!r} isn't")
+    def __init__(self, number: int, *, owner: Problem | None = None) -> None:
+        if isinstance(number, bool) or not isinstance(number, int) or number == 0:
+            raise ValueError(f"a literal is a whole number other than 0, which {number!r} isn't")
+        set_number(self, number)
+        set_owner(self, owner)
+
+    @property
+    def variable(self) -> int:
+        """The number of its variable, from 1."""
+        return abs(self.number)
+
+    @property
+    def identity(self) -> int:
+        """What tells it apart from others of its class and problem."""
+        return self.number
+
+    def __eq__(self, other: object) -> bool:
+        if self is other:
+            return True
+        if not isinstance(other, Literal) or self.__class__ is not other.__class__:
+            return NotImplemented
+        return self.owner is other.owner and self.identity == other.identity
+
+    def __hash__(self) -> int:
+        return hash((id(self.owner), self.identity))
 
     def __invert__(self) -> Literal:
-        return Literal(-self.number, owner=self.owner)
+        return literal_of(-self.number, self.owner)
+
+    def __and__(self, other: Literal) -> Literal:
+        from .gates import And
+
+        return And(self, other)
+
+    def __or__(self, other: Literal) -> Literal:
+        from .gates import Or
+
+        return Or(self, other)
+
+    def __xor__(self, other: Literal) -> Literal:
+        from .gates import Xor
+
+        return Xor(self, other)
 
     def __bool__(self) -> NoReturn:
         raise TypeError(
@@ -67,25 +85,173 @@ class Literal:
             "Or(a, b) for `a or b`, ~a for `not a`, and model[a] for its value in a model"
         )
 
-    @property
-    def variable(self) -> int:
-        """The number of its variable, from 1."""
-        return abs(self.number)
+    if not TYPE_CHECKING:  # of a type checker these names stay unknown
+
+        def __getattr__(self, name: str) -> NoReturn:
+            raise AttributeError(MISSING.get(name, f"{self!r} has no {name!r}"))
+
+    def __setattr__(self, name: str, value: object) -> NoReturn:
+        raise AttributeError(f"{name!r} of {self!r} can't be changed: it stands in the problem as it was added")
+
+    def __delattr__(self, name: str) -> NoReturn:
+        raise AttributeError(f"{name!r} of {self!r} can't be taken away")
+
+    def __reduce__(self) -> tuple[Any, ...]:
+        slots = [slot for kind in type(self).__mro__ for slot in getattr(kind, "__slots__", ())]
+        return rebuilt, (type(self), {slot: getattr(self, slot) for slot in slots})
+
+    def __repr__(self) -> str:
+        name = self.owner.names.get(self.variable) if self.owner is not None else None
+        return f"<{'not ' * (self.number < 0)}{name or f'variable {self.variable}'}>"
 
 
-@dataclass(frozen=True)
-class Edge(Literal):
+def setter(kind: type, name: str) -> Callable[[Any, Any], None]:
+    """What sets a slot past `__setattr__`, for the one time that it is set; twice as fast as `object.__setattr__`."""
+    found: Callable[[Any, Any], None] = vars(kind)[name].__set__
+    return found
+
+
+set_number, set_owner = setter(Literal, "number"), setter(Literal, "owner")
+
+
+def literal_of(number: int, owner: Problem | None) -> Literal:
+    """A literal of which it is known that its number is one."""
+    made = Literal.__new__(Literal)
+    set_number(made, number)
+    set_owner(made, owner)
+    return made
+
+
+def rebuilt(kind: type[Literal], fields: dict[str, Any]) -> Literal:
+    """A literal of these fields, as `copy` and `pickle` make one."""
+    made = kind.__new__(kind)
+    for name, value in fields.items():
+        object.__setattr__(made, name, value)
+    return made
+
+
+class Thing(Literal):
+    """A literal that is more than its variable; its negation knows it."""
+
+    __slots__ = ()
+
+    def __invert__(self) -> Literal:
+        return Negation(self)
+
+
+class Negation(Literal):
+    """The negation of an edge, a link or a predicate, `negated`."""
+
+    __slots__ = ("negated",)
+    negated: Thing
+
+    def __init__(self, negated: Thing) -> None:
+        set_number(self, -negated.number)
+        set_owner(self, negated.owner)
+        object.__setattr__(self, "negated", negated)
+
+    def __eq__(self, other: object) -> bool:
+        return isinstance(other, Negation) and self.negated == other.negated
+
+    def __hash__(self) -> int:
+        return ~hash(self.negated)
+
+    def __invert__(self) -> Literal:
+        return self.negated
+
+    def __repr__(self) -> str:
+        return f"<not {repr(self.negated)[1:]}"
+
+
+class Edge(Thing):
     """A directed edge; as a literal it says that the edge is present.
 
     `edge_number` counts from 1 over all graphs of the problem, in the order in which edges are added. `graph` is the
-    identity of its graph, nodes count from 0, and `weight` is a whole number: its length, capacity or cost.
+    identity of its graph, nodes count from 0, and `weight` is a whole number: its length, capacity or cost. `link` is
+    the link of which it is one direction, or None.
     """
 
+    __slots__ = ("edge_number", "graph", "start", "end", "weight")
     edge_number: int
     graph: int
     start: int
     end: int
     weight: int
+
+    def __init__(
+        self, number: int, edge_number: int, graph: int, start: int, end: int, weight: int, *, owner: Problem
+    ) -> None:
+        set_number(self, number)
+        set_owner(self, owner)
+        set_edge_number(self, edge_number)
+        set_graph(self, graph)
+        set_start(self, start)
+        set_end(self, end)
+        set_weight(self, weight)
+
+    @property
+    def identity(self) -> int:
+        return self.edge_number
+
+    @property
+    def link(self) -> Link | None:
+        """The link of which it is one direction."""
+        assert self.owner is not None
+        return self.owner.edges.link(self.edge_number)
+
+    @property
+    def thing(self) -> Edge | Link:
+        """Its link, or itself where it has none."""
+        assert self.owner is not None
+        return self.owner.edges.thing(self.edge_number)
+
+    def __repr__(self) -> str:
+        assert self.owner is not None
+        return f"<edge {self.edge_number}: {self.owner.edge_name(self).removeprefix('edge ')}, weight {self.weight}>"
+
+
+set_edge_number, set_graph = setter(Edge, "edge_number"), setter(Edge, "graph")
+set_start, set_end, set_weight = setter(Edge, "start"), setter(Edge, "end"), setter(Edge, "weight")
+
+
+class Link(Thing):
+    """An undirected edge: as a literal it says that both of its directions, the edges `there` and `back`, are present.
+
+    `ends` are its nodes as they were given. It has no start and no end, since walks follow it either way.
+    """
+
+    __slots__ = ("there", "back")
+    there: Edge
+    back: Edge
+
+    def __init__(self, there: Edge, back: Edge) -> None:
+        set_number(self, there.number)
+        set_owner(self, there.owner)
+        object.__setattr__(self, "there", there)
+        object.__setattr__(self, "back", back)
+
+    @property
+    def identity(self) -> int:
+        return self.there.edge_number
+
+    @property
+    def graph(self) -> int:
+        """The number of its graph."""
+        return self.there.graph
+
+    @property
+    def ends(self) -> tuple[int, int]:
+        """Its two nodes."""
+        return self.there.start, self.there.end
+
+    @property
+    def weight(self) -> int:
+        """Its length, capacity (each way) or cost."""
+        return self.there.weight
+
+    def __repr__(self) -> str:
+        assert self.owner is not None
+        return f"<{self.owner.link_name(self)}, weight {self.weight}>"
 
 
 class Kind(enum.Enum):
@@ -116,19 +282,38 @@ WITHOUT_ENDS = (Kind.MST_WEIGHT, Kind.ACYCLIC)
 WITHOUT_BOUND = (Kind.REACH, Kind.ACYCLIC)
 
 
-@dataclass(frozen=True)
-class Predicate(Literal):
+class Predicate(Thing):
     """A predicate over a graph; as a literal it says that the predicate holds.
 
     `predicate_number` counts from 1 over the whole problem. `ends` are the nodes from and to which it speaks (none for
     spanning trees and cycles), and `bound` is the number in the file (none for `reach` and `acyclic`).
     """
 
+    __slots__ = ("predicate_number", "graph", "word", "ends", "bound")
     predicate_number: int
     graph: int
     word: str
     ends: tuple[int, int] | None
     bound: int | None
+
+    def __init__(
+        self,
+        number: int,
+        predicate_number: int,
+        graph: int,
+        word: str,
+        ends: tuple[int, int] | None,
+        bound: int | None,
+        *,
+        owner: Problem,
+    ) -> None:
+        fields = (("predicate_number", predicate_number), ("graph", graph), ("word", word), ("ends", ends))
+        for name, value in (("number", number), ("owner", owner), *fields, ("bound", bound)):
+            object.__setattr__(self, name, value)
+
+    @property
+    def identity(self) -> int:
+        return self.predicate_number
 
     @property
     def kind(self) -> Kind:
@@ -150,38 +335,26 @@ class Predicate(Literal):
         ends = "" if self.ends is None else f" from {self.ends[0]} to {self.ends[1]}"
         return f"{self.word}{ends}" + ("" if self.bound is None else f", {self.bound}")
 
+    def __repr__(self) -> str:
+        assert self.owner is not None
+        return f"<predicate {self.predicate_number}: {self.owner.predicate_name(self)}>"
+
+
+def required(literal: object) -> Literal:
+    """The literal. `TypeError`: it is none."""
+    if not isinstance(literal, Literal):
+        raise TypeError(f"{literal!r} is no literal: variables, edges and predicates are, and their negations by ~")
+    return literal
+
 
 def listed(given: tuple[Any, ...]) -> list[Literal]:
     """Literals that are given one by one or as one list. `TypeError`: something else is among them."""
     single = len(given) == 1 and not isinstance(given[0], Literal) and isinstance(given[0], Iterable)
-    found = list(given[0]) if single else list(given)
-    for literal in found:
-        if not isinstance(literal, Literal):
-            raise TypeError(f"{literal!r} is no literal: variables, edges and predicates are, and their negations by ~")
-    return found
+    return list(map(required, given[0] if single else given))
 
 
-def Or(*literals: Literal | Iterable[Literal]) -> Literal:
-    """A literal that is true exactly where one of the literals is, given one by one or as one list.
-
-    It is a further variable of their problem, which clauses tie to them. `ValueError`: there is none, or they are of
-    several problems.
-    """
-    found = listed(literals)
-    owner = next((literal.owner for literal in found if literal.owner is not None), None)
-    if owner is None:
-        raise ValueError("Or and And want at least one literal that a problem has made")
-    for literal in found:
-        owner.require_own(literal)
-    if len(found) == 1:
-        return found[0]
-    either = owner.add_variable()
-    owner.add_clause(~either, *found)
-    for literal in found:
-        owner.add_clause(either, ~literal)
-    return either
-
-
-def And(*literals: Literal | Iterable[Literal]) -> Literal:
-    """A literal that is true exactly where all of the literals are; see `Or`."""
-    return ~Or([~literal for literal in listed(literals)])
+def several(given: Any, what: str) -> list[Literal]:
+    """Literals that are given as one list. `TypeError`: something else is given, as one literal without a list."""
+    if isinstance(given, Literal) or not isinstance(given, Iterable):
+        raise TypeError(f"{what} takes a list of literals, as [a, b], and {given!r} is none")
+    return list(map(required, given))

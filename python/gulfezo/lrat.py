@@ -8,6 +8,8 @@ known to be true already when it comes is left out. DRAT (N. Wetzler, M. Heule, 
 A lemma about a graph has no counterpart there: clauses alone don't give it. With --cnf the lemmas' clauses are written
 as further clauses of that file, behind the problem's, and the proof is about them all: `gulfezo check` judges the
 lemmas, and the other checker the rest. Without it an answer that has a lemma is refused.
+
+What was assumed is one clause for each literal, behind the problem's: an answer of `core` says itself what that is.
 """
 
 from __future__ import annotations
@@ -15,13 +17,12 @@ from __future__ import annotations
 import argparse
 import os
 import sys
-from collections.abc import Iterable, Sequence
-from pathlib import Path
+from collections.abc import Iterable, Iterator, Sequence
 
-from .answer import read_answer
+from .asked import judged_answer
 from .errors import GulfezoError
+from .files import write_whole
 from .problem import Problem
-from .reading import read_problem
 from .steps import Refutation
 
 
@@ -52,7 +53,7 @@ def hints(clause: Sequence[int], chain: Iterable[tuple[int, frozenset[int]]]) ->
 
 def numbers_of(problem: Problem, answer: Refutation) -> list[int]:
     """The number of each clause in a proof, by the place of its step: the lemmas' come first, then those of chains."""
-    lemma = len(problem.clauses)
+    lemma = len(problem.clauses) + len(answer.assumptions)
     chain = lemma + len(answer.lemmas)
     numbers = []
     for place in answer.steps.places:
@@ -67,7 +68,7 @@ def numbers_of(problem: Problem, answer: Refutation) -> list[int]:
 
 def proof(problem: Problem, answer: Refutation, with_hints: bool = True) -> list[str]:
     """The lines of the LRAT proof, or of the DRAT proof where hints aren't wanted, over `clauses_of` both."""
-    clauses = [frozenset(clause) for clause in problem.clauses]
+    clauses = [frozenset(clause) for clause in given_clauses(problem, answer)]
     numbers = [*range(1, len(clauses) + 1), *numbers_of(problem, answer)]
     lines = []
     for step in answer.steps:
@@ -83,10 +84,17 @@ def proof(problem: Problem, answer: Refutation, with_hints: bool = True) -> list
     return lines
 
 
+def given_clauses(problem: Problem, answer: Refutation) -> Iterator[Sequence[int]]:
+    """The problem's clauses, and one for each literal that was assumed."""
+    yield from problem.clauses
+    yield from ((number,) for number in answer.assumptions)
+
+
 def clauses_of(problem: Problem, answer: Refutation) -> str:
-    """The problem's clauses and then those of the lemmas, as a DIMACS CNF file."""
-    rows = [f"p cnf {problem.variables} {len(problem.clauses) + len(answer.lemmas)}"]
-    rows += [dimacs(clause) for clause in problem.clauses]
+    """The problem's clauses, those of what was assumed, and then those of the lemmas, as a DIMACS CNF file."""
+    count = len(problem.clauses) + len(answer.assumptions) + len(answer.lemmas)
+    rows = [f"p cnf {problem.variables} {count}"]
+    rows += [dimacs(clause) for clause in given_clauses(problem, answer)]
     rows += [dimacs(step.clause) for step in answer.lemmas]
     return "\n".join(rows) + "\n"
 
@@ -106,10 +114,21 @@ def dimacs(clause: Iterable[int]) -> str:
     return " ".join(map(str, (*dict.fromkeys(clause), 0)))
 
 
-def convert(file: str, answer: str, with_hints: bool = True, with_lemmas: bool = False) -> tuple[str, str, int]:
-    """The proof, the clauses it is about, and how many of these are lemmas, of a problem's file and an answer's."""
-    problem = read_problem(file)
-    found = read_answer(problem, answer)
+def convert(
+    file: str,
+    answer: str,
+    with_hints: bool = True,
+    with_lemmas: bool = False,
+    assume: Sequence[int] = (),
+    atom: int | None = None,
+) -> tuple[str, str, int]:
+    """The proof, the clauses it is about, and how many of these are lemmas, of a problem's file and an answer's.
+
+    An answer of `core` is about its core too, one of another run about what is to be assumed with it, and one of `best
+    FILE ATOM` about what `ask` prints; see `asked.judged_answer`.
+    """
+    given = judged_answer(file, answer, assume, atom, unchecked=True)
+    problem, found = given.problem, given.answer
     if not isinstance(found, Refutation):
         raise NoCounterpart(f"{answer} is no refutation: only `s UNSATISFIABLE` has a proof")
     if not with_lemmas:
@@ -125,17 +144,20 @@ def main(words: Sequence[str] | None = None) -> int:
     parser.add_argument("answer", metavar="ANSWER", help="a refutation of it that `gulfezo check` accepts")
     parser.add_argument("-o", metavar="PROOF", dest="out", help="where to write the proof (standard output)")
     parser.add_argument("--cnf", metavar="FILE", help="where to write the clauses it is about, lemmas' last")
+    parser.add_argument("--assume", metavar="LIT", nargs="+", type=int, default=[], help="what the answer assumes")
+    parser.add_argument("--best", metavar="ATOM", type=int, help="ANSWER is what `best FILE ATOM` wrote")
     parser.add_argument("--drat", action="store_true", help="without hints, for checkers of DRAT")
     given = parser.parse_args(words)
     try:
-        text, clauses, lemmas = convert(given.file, given.answer, not given.drat, bool(given.cnf))
+        asked = given.assume, given.best
+        text, clauses, lemmas = convert(given.file, given.answer, not given.drat, bool(given.cnf), *asked)
         if given.cnf:
-            Path(given.cnf).write_text(clauses, encoding="utf-8")
+            write_whole(given.cnf, clauses.encode())
         if lemmas:
             told = f"the last {lemmas} clauses of {given.cnf} are lemmas about graphs, which clauses alone don't give"
             print(f"gulfezo-lrat: {told}; 'gulfezo check {given.file} {given.answer}' judges them", file=sys.stderr)
         if given.out:
-            Path(given.out).write_text(text, encoding="utf-8")
+            write_whole(given.out, text.encode())
         else:
             sys.stdout.write(text)
             sys.stdout.flush()
@@ -143,7 +165,7 @@ def main(words: Sequence[str] | None = None) -> int:
         # Whoever reads has enough. Python flushes once more at its end, which mustn't fail again.
         os.dup2(os.open(os.devnull, os.O_WRONLY), sys.stdout.fileno())
         return 1
-    except (GulfezoError, OSError) as fault:
+    except (GulfezoError, OSError, ValueError) as fault:
         print(f"gulfezo-lrat: {fault}", file=sys.stderr)
         return 1
     return 0

@@ -10,7 +10,6 @@ from typing import TYPE_CHECKING
 
 from . import program as programs
 from .errors import RejectedAnswer, UnexpectedStatus
-from .problem import assume
 from .reasons import explained
 
 if TYPE_CHECKING:
@@ -27,10 +26,12 @@ def migrated(
 
     Both are in a new folder of their own. Errors are those of `Model.migrate`; those that name files leave the folder.
     """
+    from .solving import assume
+
     if version not in VERSIONS or isinstance(version, bool):
         raise ValueError(f"answers have the versions 1 and 2, and not {version!r}")
     found = programs.find(program)
-    with programs.tidy_on_sigterm():
+    with programs.tidy_on_signals():
         place = Path(tempfile.mkdtemp(prefix="gulfezo-"))
         file, old, new = place / "problem.gnf", place / "answer", place / "migrated"
         try:

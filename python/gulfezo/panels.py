@@ -8,7 +8,7 @@ from dataclasses import dataclass
 from . import layout, svg
 from .graph import Graph
 from .literals import Edge
-from .marks import COLOURS, Marks
+from .marks import COLOURS, PLAIN, Marks
 
 View = tuple[Graph, Marks]
 
@@ -33,7 +33,7 @@ class Line:
     def draw(self, picture: svg.Picture, at: list[svg.Point]) -> svg.Point:
         """Draws it between its nodes; the point where its label belongs."""
         colour, width, dashes = STYLES[self.height]
-        colour = self.marks.strong.get(self.edge.edge_number, colour)
+        colour, dashes = self.marks.strong.get(self.edge.edge_number, (colour, dashes))
         start, end = at[self.edge.start], at[self.edge.end]
         if self.edge.start == self.edge.end:
             return picture.loop(start, colour, width, dashes)
@@ -53,10 +53,12 @@ def drawn(views: list[View], absent: bool = True) -> str:
         panels[tuple(graph.names) if all(graph.names) else graph.identity].append((graph, marks))
     picture, left, captions = svg.Picture(), 0.0, []
     for panel in panels.values():
-        places = layout.places(panel[0][0])
-        first = min(x for x, _ in places)
+        graph, marks = panel[0]
+        places = layout.places(graph, [edge for edge in graph.edges if edge.edge_number in marks.present])
+        seen = [x for node, (x, _) in enumerate(places) if node not in graph.hidden_nodes]
+        first = min(seen, default=0.0)
         at = [((x - first) * svg.STEP + left, y * svg.STEP) for x, y in places]
-        left = max(x for x, _ in at) + 2 * svg.STEP
+        left += (max(seen, default=0.0) - first + 2) * svg.STEP
         draw_edges(picture, panel, at, absent)
         draw_nodes(picture, panel, at)
         for _, marks in panel:
@@ -71,7 +73,7 @@ def draw_edges(picture: svg.Picture, panel: list[View], at: list[svg.Point], abs
     for line in sorted(lines, key=lambda line: line.height):
         place, number = line.draw(picture, at), line.edge.edge_number
         if number in line.marks.notes:
-            notes.append((place, line.marks.notes[number], line.marks.strong.get(number, svg.INK)))
+            notes.append((place, line.marks.notes[number], line.marks.strong.get(number, PLAIN).colour))
     for place, note, colour in notes:
         picture.text(place, note, colour, 11)
 
@@ -80,6 +82,8 @@ def draw_nodes(picture: svg.Picture, panel: list[View], at: list[svg.Point]) -> 
     """The nodes, each with the rim of a marked edge and its labels."""
     rims, names = rims_of(panel), panel[0][0]
     for node, place in enumerate(at):
+        if node in names.hidden_nodes:
+            continue
         fill = next((marks.filled[node] for _, marks in panel if node in marks.filled), "white")
         picture.node(place, layout.label(names, node), fill, rims.get(node, svg.INK))
         for _, marks in panel:
@@ -94,8 +98,8 @@ def rims_of(panel: list[View]) -> dict[int, str]:
     for graph, marks in panel:
         for edge in graph.edges:
             if edge.edge_number in marks.strong:
-                rims.setdefault(edge.start, marks.strong[edge.edge_number])
-                rims.setdefault(edge.end, marks.strong[edge.edge_number])
+                rims.setdefault(edge.start, marks.strong[edge.edge_number].colour)
+                rims.setdefault(edge.end, marks.strong[edge.edge_number].colour)
     return rims
 
 
@@ -107,6 +111,8 @@ def lines_of(graph: Graph, marks: Marks) -> list[Line]:
     bundles: defaultdict[tuple[int, int], list[tuple[Edge, bool]]] = defaultdict(list)
     waiting: dict[tuple[int, int, int, int], list[int]] = {}
     for edge in graph.edges:
+        if edge.start in graph.hidden_nodes or edge.end in graph.hidden_nodes:
+            continue
         pair = (min(edge.start, edge.end), max(edge.start, edge.end))
         back = waiting.get((edge.end, edge.start, edge.number, edge.weight))
         if back and edge.start != edge.end:

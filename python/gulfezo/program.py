@@ -4,6 +4,8 @@ from __future__ import annotations
 
 import contextlib
 import importlib.metadata
+import json
+import logging
 import os
 import shutil
 import signal
@@ -11,12 +13,15 @@ import subprocess
 import tempfile
 import threading
 import time
+import urllib.parse
 from collections.abc import Iterator, Sequence
 from pathlib import Path
 from types import FrameType
 from typing import IO
 
 from .errors import ProgramMissing, TimeSpent
+
+LOG = logging.getLogger("gulfezo")
 
 # What an exit code of `solve` means where it is no answer, and what to do about it.
 NO_ANSWER = {
@@ -42,8 +47,8 @@ def meaning(status: int) -> str:
 
 def find(program: str | None = None) -> str:
     """The program's path: the one that is given, that of the environment variable GULFEZO, the script `gulfezo` of the
-    checkout in which this package lies, the program that was installed with this package, or `gulfezo` on the PATH, in
-    this order.
+    checkout in which this package lies or from which it was installed, the program that was installed with this
+    package, or `gulfezo` on the PATH, in this order.
 
     `ProgramMissing`: there is none.
     """
@@ -53,10 +58,7 @@ def find(program: str | None = None) -> str:
         if found is None:
             raise ProgramMissing(f"{named} is no program that can be run; set GULFEZO to the program's path")
         return os.path.abspath(found)
-    beside = Path(__file__).resolve().parents[2] / "gulfezo"
-    if beside.is_file() and os.access(beside, os.X_OK):
-        return str(beside)
-    found = installed() or shutil.which("gulfezo")
+    found = of_checkout(Path(__file__).resolve().parents[1]) or installed() or shutil.which("gulfezo")
     if found is None:
         raise ProgramMissing(
             "the program gulfezo isn't there: set the environment variable GULFEZO to the script `gulfezo` of a "
@@ -66,45 +68,67 @@ def find(program: str | None = None) -> str:
     return found
 
 
+def of_checkout(python: Path) -> str | None:
+    """The script `gulfezo` beside a folder `python` that has this package's sources."""
+    script = python.parent / "gulfezo"
+    is_one = (python / "pyproject.toml").is_file() and script.is_file() and os.access(script, os.X_OK)
+    return str(script) if is_one else None
+
+
 def installed() -> str | None:
-    """The program that was installed with this package, where one was: pip has written down where it put it."""
+    """The program that was installed with this package, or that of the checkout from which it was installed.
+
+    pip has written down where it put things, and from which folder they came.
+    """
     try:
-        parts = importlib.metadata.distribution("gulfezo").files or []
+        package = importlib.metadata.distribution("gulfezo")
     except importlib.metadata.PackageNotFoundError:
         return None
-    for part in parts:
+    for part in package.files or []:
         if part.name == "gulfezo" and part.parent.name == "bin":
             return shutil.which(os.path.abspath(part.locate()))
-    return None
+    origin = json.loads(package.read_text("direct_url.json") or "{}").get("url", "")
+    if not origin.startswith("file://"):
+        return None
+    return of_checkout(Path(urllib.parse.unquote(origin.removeprefix("file://"))))
+
+
+# Signals that end a process, and that a terminal sends when it is closed.
+ENDING = (signal.SIGTERM, signal.SIGHUP)
 
 
 class Terminated(BaseException):
-    """SIGTERM came: raised where a run is waited for, so that all is put away before the process ends."""
+    """A signal came: raised where a run is waited for, so that all is put away before the process ends."""
+
+    def __init__(self, number: int) -> None:
+        super().__init__(number)
+        self.number = number
 
 
 @contextlib.contextmanager
-def tidy_on_sigterm() -> Iterator[None]:
-    """Within it, SIGTERM ends this process as always, but only after everything that unwinds has been put away.
+def tidy_on_signals() -> Iterator[None]:
+    """Within it, SIGTERM and SIGHUP end this process as always, but only after everything that unwinds was put away.
 
     Where the process has a handler of its own, or this isn't its main thread, nothing is changed.
     """
-    is_default = signal.getsignal(signal.SIGTERM) is signal.SIG_DFL
-    if not is_default or threading.current_thread() is not threading.main_thread():
-        yield
-        return
+    is_main = threading.current_thread() is threading.main_thread()
+    own = [number for number in ENDING if is_main and signal.getsignal(number) is signal.SIG_DFL]
 
     def unwind(number: int, frame: FrameType | None) -> None:
-        raise Terminated
+        raise Terminated(number)
 
-    signal.signal(signal.SIGTERM, unwind)
+    for number in own:
+        signal.signal(number, unwind)
     try:
         yield
-    except Terminated:
-        signal.signal(signal.SIGTERM, signal.SIG_DFL)
-        os.kill(os.getpid(), signal.SIGTERM)
+    except Terminated as ended:
+        if ended.number in own:
+            signal.signal(ended.number, signal.SIG_DFL)
+            os.kill(os.getpid(), ended.number)
         raise
     finally:
-        signal.signal(signal.SIGTERM, signal.SIG_DFL)
+        for number in own:
+            signal.signal(number, signal.SIG_DFL)
 
 
 def run(words: list[str], out: IO[bytes] | int, deadline: float | None = None) -> int:
@@ -112,6 +136,7 @@ def run(words: list[str], out: IO[bytes] | int, deadline: float | None = None) -
 
     `TimeSpent`: the deadline, a value of `time.monotonic`, came first. However this ends, the run has ended with it.
     """
+    LOG.debug("runs %s", " ".join(words))
     try:
         process = subprocess.Popen(words, stdin=subprocess.DEVNULL, stdout=out)
     except OSError as fault:

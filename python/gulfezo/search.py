@@ -47,61 +47,104 @@ def reached(edges: Iterable[Edge], start: int) -> set[int]:
 
 
 class Network:
-    """Edges, and how much each carries from a source to a sink."""
+    """Edges, and how much each carries from a source to a sink (E. A. Dinic, "Algorithm for solution of a problem of
+    maximum flow in networks with power estimation", 1970).
+
+    The place of an edge among `edges` is twice that of its way there, and once more that of its way back.
+    """
 
     def __init__(self, edges: Sequence[Edge], source: int, sink: int) -> None:
-        self.source, self.sink = source, sink
-        self.amount = {edge: 0 for edge in edges}
-        self.at: defaultdict[int, list[Edge]] = defaultdict(list)
+        self.source, self.sink, self.edges = source, sink, edges
+        self.room: list[int] = []  # how much more can go along each way
+        self.ends: list[int] = []
+        self.leaving: defaultdict[int, list[int]] = defaultdict(list)
         for edge in edges:
-            self.at[edge.start].append(edge)
-            self.at[edge.end].append(edge)
+            self.leaving[edge.start].append(len(self.room))
+            self.leaving[edge.end].append(len(self.room) + 1)
+            self.room += [edge.weight, 0]
+            self.ends += [edge.end, edge.start]
 
-    def room(self, edge: Edge, node: int) -> int:
-        """How much more can go along the edge away from the node, or less back to it."""
-        return edge.weight - self.amount[edge] if edge.start == node else self.amount[edge]
-
-    def ways(self) -> dict[int, Edge | None]:
-        """The nodes to which more can go from the source, each with the edge on the way there."""
-        came: dict[int, Edge | None] = {self.source: None}
-        waiting = deque([self.source])
+    def levels(self) -> dict[int, int]:
+        """The nodes to which more can go from the source, each with the number of edges on the way there."""
+        level, waiting = {self.source: 0}, deque([self.source])
         while waiting:
             node = waiting.popleft()
-            for edge in self.at[node]:
-                other = edge.end if edge.start == node else edge.start
-                if other not in came and self.room(edge, node) > 0:
-                    came[other] = edge
-                    waiting.append(other)
-        return came
+            for way in self.leaving[node]:
+                end = self.ends[way]
+                if self.room[way] and end not in level:
+                    level[end] = level[node] + 1
+                    waiting.append(end)
+        return level
 
-    def push(self, wanted: int) -> int:
-        """Sends up to so much along a way with the fewest edges; how much went."""
-        came, way, node = self.ways(), [], self.sink
-        if node not in came:
-            return 0
-        while (edge := came[node]) is not None:
-            node = edge.start if edge.end == node else edge.end
-            way.append((edge, node))
-        amount = min([wanted, *(self.room(edge, node) for edge, node in way)])
-        for edge, node in way:
-            self.amount[edge] += amount if edge.start == node else -amount
+    def push(self, level: dict[int, int], tried: defaultdict[int, int], wanted: int) -> int:
+        """Sends up to so much along one way with the fewest edges; how much went. `tried` counts ways gone in vain."""
+        way: list[int] = []
+        node = self.source
+        while node != self.sink:
+            onward = self.leaving[node]
+            while tried[node] < len(onward):
+                step = onward[tried[node]]
+                if self.room[step] and level.get(self.ends[step]) == level[node] + 1:
+                    break
+                tried[node] += 1
+            if tried[node] < len(onward):
+                way.append(step)
+                node = self.ends[step]
+            elif way:
+                node = self.ends[way.pop() ^ 1]
+                tried[node] += 1
+            else:
+                return 0
+        amount = min([wanted, *(self.room[step] for step in way)])
+        for step in way:
+            self.room[step] -= amount
+            self.room[step ^ 1] += amount
         return amount
+
+    def carry(self, wanted: int) -> int:
+        """Sends as much as can go, up to so much; how much went."""
+        left = wanted
+        while left and self.sink in (level := self.levels()):
+            tried: defaultdict[int, int] = defaultdict(int)
+            while left and (went := self.push(level, tried, left)):
+                left -= went
+        return wanted - left
+
+    def amounts(self) -> dict[Edge, int]:
+        """The amounts above 0."""
+        back = self.room[1::2]
+        return {edge: amount for edge, amount in zip(self.edges, back) if amount}
 
 
 def flow_of_at_least(edges: Sequence[Edge], source: int, sink: int, bound: int) -> dict[Edge, int]:
-    """The amounts above 0 of a flow of that value, or of the greatest one below it (Edmonds and Karp)."""
-    network, left = Network(edges, source, sink), bound
-    while left and (went := network.push(left)):
-        left -= went
-    return {edge: amount for edge, amount in network.amount.items() if amount}
+    """The amounts above 0 of a flow of that value, or of the greatest one below it."""
+    network = Network(edges, source, sink)
+    network.carry(bound)
+    return network.amounts()
+
+
+def greatest_flow(edges: Sequence[Edge], source: int, sink: int) -> int:
+    """The value of a greatest flow."""
+    return Network(edges, source, sink).carry(sum(edge.weight for edge in edges))
 
 
 def narrowest_cut(edges: Sequence[Edge], source: int, sink: int) -> set[int]:
     """The nodes on the source's side of a cut that is as narrow as the greatest flow is wide."""
     network = Network(edges, source, sink)
-    while network.push(sum(edge.weight for edge in edges)):
-        pass
-    return set(network.ways())
+    network.carry(sum(edge.weight for edge in edges))
+    return set(network.levels())
+
+
+def one_way(amounts: dict[Edge, int]) -> dict[Edge, int]:
+    """The same flow, but that a link doesn't carry something both ways."""
+    found = dict(amounts)
+    for edge in amounts:
+        link = edge.link
+        if link is not None and link.there in found and link.back in found:
+            less = min(found[link.there], found[link.back])
+            for direction in (link.there, link.back):
+                found[direction] -= less
+    return {edge: amount for edge, amount in found.items() if amount}
 
 
 def components(nodes: int, edges: Iterable[Edge]) -> list[int]:

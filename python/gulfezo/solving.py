@@ -2,11 +2,12 @@
 
 from __future__ import annotations
 
+import contextlib
 import os
 import shutil
 import tempfile
 import time
-from collections.abc import Callable, Iterable, Sequence
+from collections.abc import Callable, Iterable, Iterator, Sequence
 from dataclasses import dataclass, field
 from pathlib import Path
 from typing import TypeVar
@@ -14,10 +15,11 @@ from typing import TypeVar
 from . import program as programs
 from .answer import Answer, accepted
 from .errors import BudgetSpent, RejectedAnswer, RunError, UnexpectedStatus
-from .literals import Literal, whole
+from .limits import seconds_of, whole
+from .literals import Literal, several
 from .model import Model
 from .phases import Phase
-from .problem import Problem, assume
+from .problem import Problem
 from .reasons import explained
 from .steps import Refutation
 
@@ -27,16 +29,20 @@ EXPECTED: dict[int, tuple[str, type[Answer]]] = {
     20: ("accepted refutation", Refutation),
 }
 SPENT = 0  # the exit code where the budget is spent
+MOST_BUDGET = 2**64 - 1
 MOST_ASSUMPTIONS = 1_000
+ROUNDS = 10  # of workers, where nothing is said
 
 Result = TypeVar("Result")
+Folder = str | os.PathLike[str] | None
 
 
 @dataclass
 class Run:
     """How a problem is solved: the program, its budget, when its time is over, and whether lines tell of it.
 
-    `form` is the word that is run; `team` is empty, or has the number of workers and of rounds.
+    A budget of None is no limit. `form` is the word that is run; `team` is empty, or has the number of workers and of
+    rounds. `seconds` are those of each phase so far.
     """
 
     program: str
@@ -45,96 +51,115 @@ class Run:
     progress: bool
     form: str = "solve"
     team: list[int] = field(default_factory=list)
+    seconds: dict[str, float] = field(default_factory=dict)
 
-    def phase(self, note: str) -> Phase:
-        """What tells of a phase, where that is wanted."""
-        return Phase(note if self.progress else "")
+    @contextlib.contextmanager
+    def phase(self, word: str, note: str | Callable[[], str]) -> Iterator[None]:
+        """Times a phase, and tells of it where that is wanted."""
+        began = time.monotonic()
+        try:
+            with Phase(note if self.progress else ""):
+                yield
+        finally:
+            took = time.monotonic() - began
+            self.seconds[word] = self.seconds.get(word, 0.0) + took
+            programs.LOG.info("%s took %.3f s", note() if callable(note) else note, took)
+
+    def limit(self) -> list[str]:
+        """The words that bound a run of `solve`."""
+        return ["--conflicts", str(MOST_BUDGET if self.budget is None else self.budget)]
 
 
 def run_of(program: str | None, budget: int | None, seconds: float | None, progress: bool) -> Run:
     """How a problem is solved. `ValueError`: the budget or the seconds are no such number."""
     if budget is not None:
-        budget = whole(budget, "a budget of learned clauses", 2**64 - 1, 1)
-    if seconds is not None and not seconds > 0:
-        raise ValueError(f"seconds is a number above 0, which {seconds} isn't")
+        budget = whole(budget, "a budget of learned clauses", MOST_BUDGET, 1)
+    seconds = seconds_of(seconds)
     deadline = None if seconds is None else time.monotonic() + seconds
     return Run(programs.find(program), budget, deadline, progress)
 
 
-def assumed(problem: Problem, assumptions: Iterable[Literal]) -> list[int]:
-    """The numbers of the literals, each once. `ValueError`: one is of another problem, or there are more than 1,000."""
-    found = list(dict.fromkeys(problem.require_own(literal).number for literal in assumptions))
+def assumed(problem: Problem, assumptions: Iterable[Literal]) -> dict[int, Literal]:
+    """The literals by their numbers, each once. `ValueError`: one is of another problem, or there are above 1,000."""
+    found: dict[int, Literal] = {}
+    for literal in several(assumptions, "assumptions"):
+        found.setdefault(problem.require_own(literal).number, literal)
     if len(found) > MOST_ASSUMPTIONS:
         raise ValueError(f"{len(found)} assumptions are too many: {MOST_ASSUMPTIONS} are the most")
     return found
 
 
-def solve(
-    problem: Problem,
-    budget: int | None = None,
-    folder: str | os.PathLike[str] | None = None,
-    program: str | None = None,
-    progress: bool = True,
-    seconds: float | None = None,
-    assumptions: Iterable[Literal] = (),
-    workers: int | None = None,
-    rounds: int = 10,
-) -> Model | Refutation:
-    """See `Problem.solve`."""
-    literals = assumed(problem, assumptions)
-    team: list[int] = []
-    if workers is not None:
-        if budget is not None:
-            raise ValueError("the budget of workers is their rounds, each of 1,000 learned clauses")
-        team = [whole(workers, "a number of workers", 8, 1), whole(rounds, "a number of rounds", 100, 1)]
-    run = run_of(program, budget, seconds, progress)
-    if team:
-        run.form, run.team = "team", team
-    return in_folder(folder, lambda place, keeps: solve_in(place, problem, run, keeps, literals))
+def team_of(workers: int | None, rounds: int | None, budget: object) -> list[int]:
+    """The numbers of workers and rounds, or nothing. `ValueError`: what is given says something else than it seems."""
+    if workers is None:
+        if rounds is not None:
+            raise ValueError("`rounds` are those of workers: give `workers` too, or a `budget` instead")
+        return []
+    if budget is not None:
+        raise ValueError("the budget of workers is their rounds, each of 1,000 learned clauses")
+    rounds = ROUNDS if rounds is None else rounds
+    return [whole(workers, "a number of workers", 8, 1), whole(rounds, "a number of rounds", 100, 1)]
 
 
-def in_folder(folder: str | os.PathLike[str] | None, work: Callable[[Path, bool], Result]) -> Result:
-    """What is done in the user's folder, which stays, or in one of its own, which goes again unless an error names it.
-
-    The work is told the folder, and whether it stays.
-    """
-    with programs.tidy_on_sigterm():
-        if folder is not None:
-            place = Path(folder)
-            place.mkdir(parents=True, exist_ok=True)
-            return work(place, True)
-        place = Path(tempfile.mkdtemp(prefix="gulfezo-"))
-        try:
-            answer = work(place, False)
-        except RunError:
-            raise  # it names the files, so they stay
-        except BaseException:
-            shutil.rmtree(place)
-            raise
+@contextlib.contextmanager
+def folder_of(folder: Folder) -> Iterator[tuple[Path, bool]]:
+    """The user's folder, which stays, or one of its own, which goes again unless an error names it; and which it is."""
+    if folder is not None:
+        place = Path(folder)
+        place.mkdir(parents=True, exist_ok=True)
+        yield place, True
+        return
+    place = Path(tempfile.mkdtemp(prefix="gulfezo-"))
+    try:
+        yield place, False
+    except RunError:
+        raise  # it names the files, so they stay
+    except BaseException:
         shutil.rmtree(place)
-        return answer
+        raise
+    shutil.rmtree(place)
 
 
-def solve_in(place: Path, problem: Problem, run: Run, keeps: bool, literals: Sequence[int]) -> Model | Refutation:
+def in_folder(folder: Folder, work: Callable[[Path, bool], Result]) -> Result:
+    """What is done in the user's folder or in one of its own. The work is told the folder, and whether it stays."""
+    with programs.tidy_on_signals(), folder_of(folder) as (place, keeps):
+        return work(place, keeps)
+
+
+def assume(file: str | os.PathLike[str], literals: Iterable[int]) -> None:
+    """Writes a clause for each literal, by its number, behind those of a problem's file."""
+    with open(file, "a", encoding="utf-8") as out:
+        out.writelines(f"{literal} 0\n" for literal in literals)
+
+
+def write(problem: Problem, file: Path, run: Run) -> None:
+    """Writes the problem's file."""
+    with run.phase("writing", f"writing the problem (variables: {problem.variables}, clauses: {len(problem.clauses)})"):
+        problem.write(file)
+
+
+def solve_in(
+    place: Path, problem: Problem, run: Run, keeps: bool, literals: Sequence[int], writes: bool = True
+) -> Model | Refutation:
     """Solves with the files `problem.gnf` and `answer` in that folder, which the user `keeps` or which goes again.
 
-    With assumptions, what `solve` is given is `assumed.gnf`, which has them as clauses behind the problem's.
+    With assumptions, what `solve` is given is `assumed.gnf`, which has them as clauses behind the problem's. Unless
+    it `writes` it, the problem's file is there.
     """
     file, printed = place / "problem.gnf", place / "answer"
-    problem.write(file)
+    if writes:
+        write(problem, file, run)
     given = file
     if literals:
         given = place / "assumed.gnf"
         shutil.copy(file, given)
         assume(given, literals)
-    words = [run.program, run.form, str(given), *map(str, run.team)]
-    if run.budget is not None:
-        words += ["--conflicts", str(run.budget)]
+    words = [run.program, run.form, str(given), *map(str, run.team), *([] if run.team else run.limit())]
     with open(printed, "wb") as answer:
-        with run.phase(f"solving (variables: {problem.variables}, clauses: {len(problem.clauses)})"):
+        with run.phase("solving", f"solving (variables: {problem.variables}, clauses: {len(problem.clauses)})"):
             status = programs.run(words, answer, run.deadline)
-    if status == SPENT:
-        more = "more `rounds`" if run.team else "`budget` more (it is 100,000 where it is left out)"
+    if status == SPENT and is_progress(printed):
+        more = "more `rounds`" if run.team else "`budget` more, or None for no limit"
         spent = f"the budget of learned clauses is spent; give {more}"
         raise BudgetSpent(spent, *((file, printed) if keeps else ()))
     return checked(problem, status, run, file, printed, literals)
@@ -146,6 +171,20 @@ def said_in(printed: Path) -> str:
         return text.read(1000).decode("utf-8", "replace").strip()
 
 
+def is_progress(printed: Path) -> bool:
+    """Whether a run wrote what the program writes where its budget is spent."""
+    with open(printed, "rb") as text:
+        return text.readline(100).split() == [b"s", b"UNKNOWN"]
+
+
+def unexpected(status: int, run: Run, file: Path, printed: Path) -> UnexpectedStatus:
+    """The error about a run that ended with that status and is no answer."""
+    reason, said = programs.meaning(status), explained(said_in(printed), file)
+    if status == SPENT:
+        reason = f"no text of the program is there; is {run.program} the program `gulfezo`?"
+    return UnexpectedStatus(f"{run.form} ended with {status}: {reason}{said}", file, printed)
+
+
 def checked(
     problem: Problem, status: int, run: Run, file: Path, printed: Path, literals: Sequence[int] = ()
 ) -> Model | Refutation:
@@ -154,17 +193,17 @@ def checked(
     With assumptions it is `check-with`, which is given the problem's own file and the literals.
     """
     if status not in EXPECTED:
-        reason, said = programs.meaning(status), explained(said_in(printed), file)
-        raise UnexpectedStatus(f"{run.form} ended with {status}: {reason}{said}", file, printed)
+        raise unexpected(status, run, file, printed)
     wanted, kind = EXPECTED[status]
     size = f"{printed.stat().st_size / 1e6:.1f} MB"
-    with run.phase(f"checking the answer ({size})"):
+    with run.phase("checking", f"checking the answer ({size})"):
         found = programs.verdict(run.program, file, printed, run.deadline, literals)
     if " ".join(found.split()[:2]) != wanted:
         fault = f"{run.form} ended with {status}, but check says '{found}' and not '{wanted}'"
         raise RejectedAnswer(fault + explained(found, printed), file, printed)
-    with run.phase(f"reading the answer ({size})"):
+    with run.phase("reading", f"reading the answer ({size})"):
         answer = accepted(problem, file, printed, literals)
     if not isinstance(answer, (Model, Refutation)) or not isinstance(answer, kind):
         raise UnexpectedStatus(f"{run.form} ended with {status} and printed another answer", file, printed)
+    answer.seconds = run.seconds
     return answer

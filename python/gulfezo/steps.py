@@ -3,14 +3,16 @@
 from __future__ import annotations
 
 from array import array
+from collections import Counter
 from collections.abc import Sequence
 from dataclasses import dataclass
 from functools import cached_property
-from typing import Literal as Constant, Self, overload
+from typing import TYPE_CHECKING, Literal as Constant, NoReturn, Self, overload
 
 from .errors import FormatError
 from .lines import Lines
 from .problem import Problem
+from .statistics import Statistics
 
 
 @dataclass(frozen=True)
@@ -96,12 +98,23 @@ class Derivation:
     """Steps, each of which follows from the problem, what was assumed with it, and the steps before it.
 
     `assumptions` are the numbers of the literals that were assumed: each is a further clause behind the problem's.
+    `seconds` are those of each phase of the solve that found them, and empty where they were only read.
     """
 
     def __init__(self, problem: Problem, steps: Steps, assumptions: Sequence[int] = ()) -> None:
         self.problem = problem
         self.steps = steps
         self.assumptions = tuple(assumptions)
+        self.seconds: dict[str, float] = {}
+
+    def __repr__(self) -> str:
+        return f"<{type(self).__name__.lower()} of {len(self.steps)} steps, {len(self.lemmas)} of them lemmas>"
+
+    def _repr_svg_(self) -> str | None:
+        """The first lemma as a picture, which Jupyter shows."""
+        from .draw import shown_in_notebook
+
+        return shown_in_notebook(self.problem, self) if isinstance(self, (Refutation, Progress)) else None
 
     @property
     def text(self) -> str:
@@ -112,6 +125,13 @@ class Derivation:
     def lemmas(self) -> Steps:
         """The steps that speak of graphs; the others are resolution alone."""
         return self.steps.lemmas()
+
+    @property
+    def statistics(self) -> Statistics:
+        """What it took and what it has, read off it."""
+        lines = self.steps.lines
+        words = Counter(lines.word(place) for place in self.lemmas.places)
+        return Statistics(dict(self.seconds), len(self.steps) - len(self.lemmas), dict(words), len(lines.data))
 
     def step(self, number: int) -> Step:
         """The step whose clause has that number, as chains name it. `ValueError`: none has."""
@@ -143,6 +163,24 @@ class Refutation(Derivation):
 
     def __bool__(self) -> Constant[False]:
         return False
+
+    def lrat(self, with_hints: bool = True) -> tuple[str, str]:
+        """An LRAT proof, or without hints a DRAT proof, and the clauses that it is about, as a DIMACS CNF file.
+
+        These are the problem's, one for each assumption, and those of the lemmas, which `check` judges.
+        """
+        from .lrat import clauses_of, proof
+
+        lines = proof(self.problem, self, with_hints)
+        return "".join(f"{line}\n" for line in lines), clauses_of(self.problem, self)
+
+    if not TYPE_CHECKING:  # of a type checker these names stay unknown
+
+        def __getattr__(self, name: str) -> NoReturn:
+            raise AttributeError(
+                f"a refutation has no {name!r}: there is no model. Ask `if answer:` first; what was asked for is then "
+                "in a model, and a refutation has `steps`, `lemmas` and `text`"
+            )
 
 
 class Progress(Derivation):

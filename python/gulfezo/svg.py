@@ -3,11 +3,13 @@
 from __future__ import annotations
 
 import re
+from collections.abc import Sequence
 from html import escape
 
 STEP = 90.0  # the distance of neighbours on a grid, in pixels
 RADIUS = 20.0  # of a node
 MARGIN = 34.0
+SAMPLE = 44.0  # the length of a line beside its caption
 
 INK = "#222222"
 PALE = "#c4c4c4"
@@ -81,15 +83,24 @@ class Picture:
             f"stroke='white' stroke-width='3' paint-order='stroke' stroke-linejoin='round'>{written}</text>"
         )
 
-    def written(self, captions: list[tuple[str, str]]) -> str:
-        """The picture as a file, with captions below it: their colours and texts."""
+    def sample(self, at: Point, colour: str, dashes: str) -> None:
+        """A short line, which shows a kind of line beside its caption."""
+        x, y = at
+        style = f"stroke='{colour}' stroke-width='4.5' stroke-dasharray='{dashes}'"
+        self.shapes.append(f"<path d='M{x:.1f} {y:.1f} h{SAMPLE:g}' fill='none' {style}/>")
+
+    def written(self, captions: Sequence[tuple[str, tuple[str, str]]]) -> str:
+        """The picture as a file, with captions below it: their texts, and the colours and dashes of their lines."""
         left = min((x for x, _ in self.points), default=0.0) - MARGIN
         top = min((y for _, y in self.points), default=0.0) - MARGIN
         bottom = max((y for _, y in self.points), default=0.0) + MARGIN
-        for colour, text in captions:
-            self.text((left + MARGIN / 2, bottom), text, colour, 13, "start")
+        for text, (colour, dashes) in captions:
+            begin = left + MARGIN / 2
+            if dashes:
+                self.sample((begin, bottom), colour, dashes)
+            self.text((begin + (SAMPLE + 8 if dashes else 0), bottom), text, colour, 13, "start")
             bottom += 20
-        widest = max((len(text) for _, text in captions), default=0)
+        widest = max((len(text) + 8 * bool(pen[1]) for text, pen in captions), default=0)
         right = max(max((x for x, _ in self.points), default=0.0) + MARGIN, left + MARGIN + 6.9 * widest)
         bottom += 4 if captions else -MARGIN / 2
         box = f"{left:.0f} {top:.0f} {right - left:.0f} {bottom - top:.0f}"

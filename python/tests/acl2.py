@@ -13,9 +13,9 @@ import os
 import shutil
 import subprocess
 import tempfile
-import unittest
 from collections.abc import Iterable
 
+from helpers import missing
 from lrat_checker import read_cnf
 
 ACCEPTS = "refutation-p accepts proof"
@@ -34,7 +34,7 @@ def book() -> str:
     """The folder of the checker; the test is skipped where it isn't installed."""
     found = glob.glob("/usr/share/acl2-*/books/projects/sat/lrat/list-based/lrat-checker.lisp")
     if not found or shutil.which("acl2") is None:
-        raise unittest.SkipTest("the LRAT checker of ACL2 isn't installed (Debian: acl2, acl2-books-source)")
+        raise missing("the LRAT checker of ACL2 isn't installed (Debian: acl2, acl2-books-source)")
     return os.path.dirname(os.path.dirname(found[0]))
 
 

@@ -17,11 +17,16 @@ REPOSITORY = Path(__file__).resolve().parents[2]
 BUILT = REPOSITORY / "crates" / "mono_cmd" / "out" / "mono_cmd"
 
 
+def missing(what: str) -> Exception:
+    """What a test raises that can't run for want of something: it is skipped, or fails where CHECK_ALL is 1."""
+    return AssertionError(what) if os.environ.get("CHECK_ALL") == "1" else unittest.SkipTest(what)
+
+
 def program() -> str:
-    """The compiled program; a test that needs it is skipped where it isn't there."""
+    """The compiled program; a test that needs it can't run where it isn't there."""
     found = os.environ.get("GULFEZO") or str(BUILT)
     if not os.access(found, os.X_OK):
-        raise unittest.SkipTest("the program isn't built (rt run in crates/mono_cmd), and GULFEZO names none")
+        raise missing("the program isn't built (rt run in crates/mono_cmd), and GULFEZO names none")
     return found
 
 

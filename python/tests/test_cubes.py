@@ -27,7 +27,7 @@ from gulfezo.cubes.page import names_of, page
 from gulfezo.cubes.run import NotJudged, Plan, Run
 from gulfezo.cubes.splitting import Splitting
 from gulfezo.cubes.tree import Tree, cover, refutation_of_cover
-from helpers import REPOSITORY, assignments, program, satisfies
+from helpers import REPOSITORY, assignments, missing, program, satisfies
 
 CROSSED = REPOSITORY / "examples" / "routing" / "crossed.gnf"
 BOARD = REPOSITORY / "examples" / "routing" / "board.gnf"
@@ -352,7 +352,7 @@ def python_with_dask() -> str:
         code = "import sys, distributed; sys.exit(sys.version_info < (3, 11))"
         if os.access(path, os.X_OK) and not subprocess.run([path, "-c", code], capture_output=True).returncode:
             return path
-    raise unittest.SkipTest("Dask's package distributed isn't installed (Debian: python3-distributed)")
+    raise missing("Dask's package distributed isn't installed (Debian: python3-distributed)")
 
 
 class Workers(Case):

@@ -11,7 +11,7 @@ from helpers import REPOSITORY, program
 
 PRINTED = {
     "README.md": ["True"],
-    "python/README.md": ["True"],
+    "python/README.md": ["True", "18 True", "6 0"],
     "docs/TUTORIAL.md": [
         "True True [1, 2]",
         "4 cut ",

@@ -2,13 +2,19 @@
 
 import contextlib
 import io
+import itertools
+import os
+import shutil
+import subprocess
+import sys
 import tempfile
 import unittest
 import xml.dom.minidom
 from pathlib import Path
 from unittest import mock
 
-from gulfezo import Problem, draw, layout, parse_answer, parse_problem
+from gulfezo import Model, Problem, draw, layout, marks, parse_answer, parse_problem
+from helpers import missing
 
 GRAPH = """digraph int 3 3 0
 edge 0 0 1 1 5
@@ -101,6 +107,58 @@ class Drawings(unittest.TestCase):
         graph.add_edge(0, 0)
         self.assertIn("<&>", texts(draw.drawing(problem, None)))
 
+    def test_what_is_hidden_is_drawn_where_it_is_chosen(self):
+        problem = Problem()
+        graph = problem.add_graph("streets")
+        graph.add_nodes(["a@0,0", "b@1,0", "helper"])
+        edges = [graph.add_edge(0, 1), graph.add_edge(1, 2)]
+        costs = problem.add_sum([(edge, 5) for edge in edges], "costs")
+        costs.at_most(7)
+        graph.hide(2)
+        again = parse_problem(problem.text())
+        for found in (problem, again):
+            shown = texts(draw.drawing(found))
+            self.assertEqual(shown, ["a", "b"])
+            self.assertEqual(texts(draw.drawing(found, graph="sums")), ["costs"] * 3)
+            self.assertEqual(texts(draw.drawing(found, graph=0)), texts(draw.drawing(found, graph="streets")))
+        self.assertEqual((again.graphs[0].hidden_nodes, again.graphs[1].hidden), ({2}, True))
+        with self.assertRaisesRegex(ValueError, "there is no graph towns: the problem has 0 streets, 1 sums"):
+            draw.drawing(problem, graph="towns")
+        problem.add_graph("streets", nodes=1)
+        with self.assertRaisesRegex(ValueError, "choose one by its number"):
+            draw.drawing(problem, graph="streets")
+
+    def test_more_things_than_colours_are_told_apart_by_their_lines(self):
+        problem = Problem()
+        graph = problem.add_graph(nodes=10)
+        edges = [graph.add_edge(place, place + 1) for place in range(9)]
+        ways = [graph.reach(place, place + 1) for place in range(9)]
+        values = {thing.number: True for thing in (*edges, *ways)}
+        picture = draw.drawing(problem, Model(problem, values, ""))
+        self.assertEqual(picture.count("stroke-dasharray='14 5'"), 3 + 3)  # the edges, and beside their captions
+        self.assertEqual(len(set(itertools.islice(marks.pens(), 24))), 24)
+
+    def test_orders_lie_in_layers(self):
+        problem = parse_problem(ROUND)
+        edges = problem.graphs[0].edges
+        self.assertEqual(layout.places(problem.graphs[0], edges[:2]), [(0.0, 0.0), (1.4, 0.35), (2.8, 0.0)])
+        self.assertIsNone(layout.in_layers(3, edges))
+        self.assertEqual(len(layout.places(problem.graphs[0], edges)), 3)
+
+    def test_edges_of_a_cut_are_marked(self):
+        model = parse_answer(self.problem, "s SATISFIABLE\nv 1 -2 3 4 5 -6 -7 0\n")
+        picture = draw.drawing(self.problem, model, predicate=3)
+        self.assertIn("maximum_flow_geq 0 to 2 fails: what leaves the filled nodes can't carry 8", texts(picture))
+        self.assertEqual(picture.count("stroke-width='4.5'"), 1)
+        self.assertIn("3", texts(picture))
+
+    def test_notebooks(self):
+        model = parse_answer(self.problem, "s SATISFIABLE\nv 1 2 3 4 5 6 -7 0\n")
+        answer = parse_answer(self.problem, "s UNSATISFIABLE\n" + "\n".join(LEMMAS))
+        for thing in (model, answer, self.problem.graphs[0]):
+            texts(thing._repr_svg_())
+        self.assertIsNone(parse_answer(Problem(), "s SATISFIABLE\nv 0\n")._repr_svg_())
+
     def test_nothing_to_draw(self):
         answer = parse_answer(self.problem, "s UNSATISFIABLE\nchain 0 1\n")
         for wrong in [
@@ -112,7 +170,6 @@ class Drawings(unittest.TestCase):
         ]:
             with self.assertRaises(ValueError):
                 wrong()
-
 
     def test_the_first_lemma_of_a_graph(self):
         problem = parse_problem(GRAPH + "digraph 2 1 7\nedge 7 0 1 8\nreach 7 0 1 9\n")
@@ -137,8 +194,8 @@ class Layouts(unittest.TestCase):
         self.assertEqual(len(layout.places(graph)), 4)
         with mock.patch("shutil.which", lambda _: None):
             self.assertEqual(len(layout.places(graph)), 4)
-            for missing in ("networkx", "numpy", "scipy"):
-                with mock.patch.dict("sys.modules", {missing: None}):
+            for package in ("networkx", "numpy", "scipy"):
+                with mock.patch.dict("sys.modules", {package: None}):
                     self.assertEqual(len(layout.places(graph)), 4)
             with mock.patch.dict("sys.modules", {"networkx": None}):
                 self.assertEqual(layout.places(graph), layout.in_a_ring(4))
@@ -147,9 +204,9 @@ class Layouts(unittest.TestCase):
         graph = Problem().add_graph()
         graph.add_nodes(4)
         layouts = {"Graphviz": layout.by_graphviz, "networkx": layout.by_networkx}
-        missing = [name for name, by in layouts.items() if by(graph) is None]
-        if missing:
-            self.skipTest(f"layouts by {' and '.join(missing)}: not installed (networkx needs numpy too)")
+        absent = [name for name, by in layouts.items() if by(graph) is None]
+        if absent:
+            raise missing(f"layouts by {' and '.join(absent)}: not installed (networkx needs numpy too)")
 
 
 class Command(unittest.TestCase):
@@ -173,10 +230,55 @@ class Command(unittest.TestCase):
                 with self.subTest(text), contextlib.redirect_stderr(told):
                     self.assertEqual(draw.main([str(file), str(answer), "-o", str(out), "--unchecked"]), 1)
             self.assertIn("doesn't fit the problem", told.getvalue())
-            program = mock.Mock(find=lambda: "x", verdict=lambda *_: "rejected 1 NotAnswer")
-            with contextlib.redirect_stderr(told), mock.patch("gulfezo.draw.program", program):
+            program = mock.Mock(find=lambda: "x", verdict=lambda *_, **__: "rejected 1 NotAnswer")
+            with contextlib.redirect_stderr(told), mock.patch("gulfezo.asked.programs", program):
                 self.assertEqual(draw.main([str(file), str(answer), "-o", str(out)]), 1)
             self.assertIn("rejected 1 NotAnswer", told.getvalue())
+
+
+class Files(unittest.TestCase):
+    def setUp(self):
+        folder = tempfile.TemporaryDirectory()
+        self.addCleanup(folder.cleanup)
+        self.folder = Path(folder.name)
+        self.file = self.folder / "f"
+        self.file.write_text(GRAPH)
+
+    def draw(self, out: Path | str) -> tuple[int, str]:
+        told = io.StringIO()
+        with contextlib.redirect_stderr(told):
+            return draw.main([str(self.file), "-o", str(out)]), told.getvalue()
+
+    def test_the_ending_says_the_format(self):
+        for ending, begin in ((".png", b"\x89PNG"), (".pdf", b"%PDF")):
+            out = self.folder / f"out{ending}"
+            if shutil.which("rsvg-convert") is None:
+                raise missing("rsvg-convert isn't installed (Debian: librsvg2-bin)")
+            self.assertEqual(self.draw(out), (0, ""))
+            self.assertTrue(out.read_bytes().startswith(begin))
+        with mock.patch("shutil.which", lambda _: None):
+            status, told = self.draw(self.folder / "none.png")
+        self.assertEqual((status, (self.folder / "none.png").exists()), (1, False))
+        self.assertIn("librsvg2-bin", told)
+        status, told = self.draw(self.folder / "out.jpg")
+        self.assertEqual(status, 1)
+        self.assertIn(".svg, .png or .pdf", told)
+
+    def test_a_full_disk_leaves_nothing_and_an_older_file_stays(self):
+        code = (
+            "import resource, sys\nfrom gulfezo import draw\n"
+            "resource.setrlimit(resource.RLIMIT_FSIZE, (100, 100))\nsys.exit(draw.main(sys.argv[1:]))\n"
+        )
+        for name in ("new.svg", "old.svg"):
+            out = self.folder / name
+            if name == "old.svg":
+                out.write_text("old")
+            run = subprocess.run([sys.executable, "-c", code, str(self.file), "-o", str(out)], capture_output=True)
+            self.assertEqual(run.returncode, 1, run.stderr)
+            self.assertEqual(out.read_text() if out.exists() else None, "old" if name == "old.svg" else None)
+        self.assertEqual(sorted(os.listdir(self.folder)), ["f", "old.svg"])
+        self.assertEqual(self.draw("/dev/full")[0], 1)
+        self.assertEqual(self.draw("/dev/null")[0], 0)
 
 
 if __name__ == "__main__":

@@ -5,6 +5,7 @@ import unittest
 from pathlib import Path
 
 from gulfezo import FormatError, Problem, read_dimacs, read_monosat
+from helpers import missing
 
 
 class Files(unittest.TestCase):
@@ -93,7 +94,9 @@ class Graphs(unittest.TestCase):
         keys = ["hub", (1, 2), 7, frozenset({1}), "", "two\nlines", (1, "x\ty"), 1.5]
         edges = [(keys[k], keys[k + 1], {"weight": k, "cost": 9}) for k in range(len(keys) - 1)] + [(7, 7, {})]
         for directed in (True, False):
-            problem = Problem.from_networkx(Plain(keys, edges, directed))
+            with self.assertRaisesRegex(ValueError, "from 7 to 7 has no 'weight'"):
+                Problem.from_networkx(Plain(keys, edges, directed))
+            problem = Problem.from_networkx(Plain(keys, edges, directed), default=1)
             graph = problem.graphs[0]
             self.assertEqual([graph.node(key) for key in keys], list(range(len(keys))))
             weights = [edge.weight for edge in graph.between(graph.node("hub"), graph.node((1, 2)))]
@@ -109,11 +112,11 @@ class Graphs(unittest.TestCase):
         try:
             import networkx
         except ImportError:
-            self.skipTest("networkx isn't installed")
+            raise missing("networkx isn't installed (Debian: python3-networkx)") from None
         given = networkx.MultiDiGraph()
         given.add_edge("a", ("b", 1), weight=4)
         given.add_edge("a", ("b", 1))
-        graph = Problem.from_networkx(given).graphs[0]
+        graph = Problem.from_networkx(given, default=1).graphs[0]
         self.assertEqual([e.weight for e in graph.between(graph.node("a"), graph.node(("b", 1)))], [4, 1])
 
 

@@ -14,7 +14,7 @@ import unittest
 import zipfile
 from pathlib import Path
 
-from helpers import REPOSITORY, program
+from helpers import REPOSITORY, missing, program
 
 PYTHON = Path(__file__).resolve().parents[1]
 # A stand-in for the toolchain's command: it says which it is, and builds a program that says what it was asked.
@@ -43,7 +43,7 @@ def pip(*words: str) -> None:
     """Runs pip without a network; the test is skipped where it isn't there, or is too old for the option --python."""
     run = subprocess.run([sys.executable, "-m", "pip", *words], capture_output=True, text=True, env=alone())
     if "No module named pip" in run.stderr or "no such option" in run.stderr:
-        raise unittest.SkipTest("pip isn't installed, or older than 22.3")
+        raise missing("pip isn't installed, or older than 22.3")
     if run.returncode:
         raise AssertionError(run.stderr)
 
@@ -138,7 +138,7 @@ class Install(unittest.TestCase):
         root = Path(self.folder, "checkout")
         skipped = shutil.ignore_patterns("__pycache__", "build", "dist", "*.egg-info")
         shutil.copytree(PYTHON, root / "python", ignore=skipped)
-        for name in ("gulfezo", "tools/wheel", ".gitignore"):
+        for name in ("gulfezo", "tools/build.py", "tools/stamp", "tools/wheel", ".gitignore"):
             (root / name).parent.mkdir(exist_ok=True)
             shutil.copy(REPOSITORY / name, root / name)
         (root / "crates" / "mono_cmd").mkdir(parents=True)
@@ -162,10 +162,28 @@ class Install(unittest.TestCase):
             text = archive.read(f"{self.backend.stem()}.dist-info/program.json")
             self.assertEqual(json.loads(text)["commit"], commit.stdout.strip())
             self.assertEqual(json.loads(text)["toolchain"], "a toolchain 1")
+        self.assertIn("proved and built in a folder of its own", made.stderr)
+        self.require_stamp(root, words, here)
         (root / "python" / "pyproject.toml").write_text("changed")
         refused = subprocess.run(words, capture_output=True, text=True, env=here)
         self.assertEqual(refused.returncode, 1)
         self.assertIn("aren't committed", refused.stderr)
+
+    def require_stamp(self, root: Path, words: list[str], here: dict[str, str]) -> None:
+        """A program is taken as it is where the stamp of its build says that it is of these sources, and else not."""
+        stamp, built = str(root / "tools" / "stamp"), root / "crates" / "mono_cmd" / "out" / "mono_cmd"
+        subprocess.run([str(root / "gulfezo"), "build"], check=True, capture_output=True, env=here)
+        subprocess.run([stamp, "write"], check=True, env=here)
+        again = subprocess.run(words, capture_output=True, text=True, env=here)
+        self.assertEqual((again.returncode, again.stderr.count("folder of its own")), (0, 0), again.stderr)
+        built.write_bytes(Path("/bin/true").read_bytes())
+        told = subprocess.run([stamp, "check"], capture_output=True, text=True, env=here)
+        self.assertEqual(told.returncode, 1)
+        self.assertIn("isn't the one that was built", told.stderr)
+        wheel = Path(subprocess.run(words, capture_output=True, text=True, env=here).stdout.strip())
+        with zipfile.ZipFile(wheel) as archive:
+            script = next(name for name in archive.namelist() if name.endswith(".data/scripts/gulfezo"))
+            self.assertNotEqual(archive.read(script), Path("/bin/true").read_bytes())
 
     def test_commands_are_there(self):
         scripts = tomllib.loads((PYTHON / "pyproject.toml").read_text())["project"]["scripts"]
@@ -176,6 +194,13 @@ class Install(unittest.TestCase):
     def test_pip_installs_without_a_network(self):
         pip("install", "--no-index", "--target", self.folder, str(PYTHON))
         self.assertTrue(Path(self.folder, "gulfezo", "draw.py").is_file())
+        for part in ("page.js", "page.css"):
+            self.assertTrue(Path(self.folder, "gulfezo", "report", part).is_file())
+        words = [sys.executable, "-c", "from gulfezo import program; print(program.find(), program.__file__)"]
+        here = alone(PYTHONPATH=self.folder)
+        told = subprocess.run(words, capture_output=True, text=True, check=True, env=here, cwd=self.folder).stdout
+        # It is that of the checkout from which it was installed, and the module is the one that was installed.
+        self.assertEqual(told.split(), [str(REPOSITORY / "gulfezo"), str(Path(self.folder, "gulfezo", "program.py"))])
 
 
 if __name__ == "__main__":

@@ -163,6 +163,39 @@ class Solved(unittest.TestCase):
                 if name != "network/cheaper":  # its steps are many for the slow checker
                     self.assertTrue(accepts_drat(cnf.read_text(), proof.read_text()))
 
+    def test_assumptions_are_clauses(self):
+        problem = Problem()
+        graph = problem.add_graph(nodes=4)
+        edges = [graph.add_edge(a, b) for a, b in ((0, 1), (1, 3), (0, 2), (2, 3))]
+        problem.require(graph.reach(0, 3))
+        core = problem.core([~edge for edge in edges], self.folder, self.program)
+        proof, cnf = core.refutation.lrat()
+        self.assertTrue(accepts_lrat(cnf, proof))
+        self.assertEqual(cnf.splitlines()[2:4], [f"{literal.number} 0" for literal in core])
+        words = ["-o", str(self.folder / "proof"), "--cnf", str(self.folder / "cnf")]
+        with contextlib.redirect_stderr(io.StringIO()):
+            files = [str(self.folder / "problem.gnf"), str(self.folder / "answer")]
+            self.assertEqual(lrat.main([*files, *words]), 0)
+        self.assertEqual([(self.folder / name).read_text() for name in ("proof", "cnf")], [proof, cnf])
+
+    def test_the_best_value(self):
+        file, answer = REPOSITORY / "examples" / "first" / "bridges.gnf", self.folder / "answer"
+        with open(answer, "wb") as out:
+            subprocess.run([self.program, "best", str(file), "1"], stdout=out, check=False)
+        words = ["-o", str(self.folder / "proof"), "--cnf", str(self.folder / "cnf"), "--best", "1"]
+        with contextlib.redirect_stderr(io.StringIO()):
+            self.assertEqual(lrat.main([str(file), str(answer), *words]), 0)
+        cnf, proof = (self.folder / name for name in ("cnf", "proof"))
+        self.assertTrue(accepts_lrat(cnf.read_text(), proof.read_text()))
+        problem = Problem()
+        x, y = problem.add_variables(2)
+        problem.add_clause(x, y)
+        best = problem.minimise(problem.add_sum([(x, 2), (y, 3)]), program=self.program)
+        proof, cnf = best.refutation.lrat()
+        self.assertTrue(accepts_lrat(cnf, proof))
+        proof, cnf = best.refutation.lrat(with_hints=False)
+        self.assertTrue(accepts_drat(cnf, proof))
+
     def test_the_checker_that_is_proved_in_acl2(self):
         acl2.book()
         pairs = []
@@ -178,9 +211,8 @@ class Solved(unittest.TestCase):
         self.assertEqual(acl2.accepted(wrong), [False] * len(wrong))
 
     def test_checkers_of_drat_trim(self):
+        """Where they are on the PATH; Debian has neither, and the checkers of this test judge the same proofs."""
         checkers = [name for name in ("lrat-check", "drat-trim") if shutil.which(name)]
-        if not checkers:
-            self.skipTest("neither lrat-check nor drat-trim is on the PATH; the checker of this test judged the proofs")
         for checker, (name, problem) in itertools.product(checkers, PROBLEMS.items()):
             with self.subTest(checker + ", " + name):
                 words = ["--drat"] if checker == "drat-trim" else []

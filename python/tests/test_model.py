@@ -6,7 +6,7 @@ import unittest
 
 from gulfezo import FormatError, Model, PackageMissing, Problem, Progress, Refutation
 from gulfezo import parse_answer, read_answer, search
-from helpers import assignments
+from helpers import assignments, missing
 
 
 class Fixture(unittest.TestCase):
@@ -78,8 +78,8 @@ class Reading(Fixture):
     def test_networkx(self):
         try:
             graph = self.model.networkx(self.graph)
-        except PackageMissing as missing:
-            self.skipTest(str(missing))
+        except PackageMissing as fault:
+            raise missing(str(fault)) from fault
         self.assertEqual(sorted(graph.edges(keys=True)), [(0, 1, 1), (0, 2, 3), (1, 3, 2), (2, 3, 4)])
         self.assertEqual(graph.edges[2, 3, 4]["weight"], 5)
 

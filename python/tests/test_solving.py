@@ -143,7 +143,7 @@ class StandIns(unittest.TestCase):
                 one_variable().solve(seconds=wrong)
 
     def test_signals_end_the_program_and_leave_nothing(self):
-        for number in (signal.SIGTERM, signal.SIGINT):
+        for number in (signal.SIGTERM, signal.SIGINT, signal.SIGHUP):
             with self.subTest(number), tempfile.TemporaryDirectory() as folder:
                 path = stand_in(folder, 10, "", seconds=30)
                 code = f"from gulfezo import Problem\nproblem = Problem()\nproblem.solve(program={path!r})\n"
@@ -204,6 +204,41 @@ class StandIns(unittest.TestCase):
             one_variable().solve(program=path, progress=False)
         self.assertEqual(told.getvalue(), "")
 
+    def test_what_is_not_the_program_is_told(self):
+        for path in ("/bin/true", "/bin/echo"):
+            with self.subTest(path), self.assertRaisesRegex(UnexpectedStatus, f"is {path} the program `gulfezo`"):
+                one_variable().solve(folder=self.folder, program=path, progress=False)
+        with self.assertRaisesRegex(UnexpectedStatus, "is /bin/true the program"):
+            problem = one_variable()
+            problem.core([problem.literal(1)], folder=self.folder, program="/bin/true", progress=False)
+
+    def test_words_that_say_two_things_are_refused(self):
+        problem = one_variable()
+        for named, said in [
+            ({"rounds": 5}, "give `workers`"),
+            ({"budget": 5, "conflicts": 6}, "another name"),
+            ({"seconds": "5"}, "a number above 0, which '5'"),
+            ({"seconds": True}, "above 0"),
+        ]:
+            with self.subTest(named), self.assertRaisesRegex(ValueError, said):
+                problem.solve(**named)
+        with self.assertRaisesRegex(TypeError, "a list of literals"):
+            problem.solve(assumptions=problem.literal(1))
+
+    def test_a_budget_of_none_is_no_limit(self):
+        script = Path(stand_in(self.folder, 10, "s SATISFIABLE\nv 1 0\n", "accepted model"))
+        text = script.read_text()
+        for budget, said in ((None, str(2**64 - 1)), (7, "7")):
+            script.write_text(text.replace("else:", f"else:\n    assert sys.argv[-2:] == ['--conflicts', {said!r}]"))
+            one_variable().solve(budget, program=str(script), progress=False)
+
+    def test_phases_are_logged(self):
+        with self.assertLogs("gulfezo", "DEBUG") as logged:
+            model = self.solve(10, "s SATISFIABLE\nv 1 0\n", "accepted model")
+        self.assertTrue(any("DEBUG:gulfezo:runs" in line for line in logged.output))
+        self.assertTrue(any("solving (variables: 1, clauses: 1) took" in line for line in logged.output))
+        self.assertEqual(set(model.statistics.seconds), {"writing", "solving", "checking", "reading"})
+
     def test_a_missing_program(self):
         with self.assertRaisesRegex(ProgramMissing, "GULFEZO"):
             one_variable().solve(program=os.path.join(self.folder, "none"))
@@ -247,7 +282,7 @@ class Solving(unittest.TestCase):
             problem.write(Path(folder, "f"))
             run = subprocess.run([self.program, "print", f"{folder}/f"], capture_output=True, text=True, check=True)
         found = parse_problem(run.stdout)
-        self.assertEqual((found.variables, found.edges), (problem.variables, problem.edges))
+        self.assertEqual((found.variables, [*found.edges.rows()]), (problem.variables, [*problem.edges.rows()]))
         self.assertEqual(found.clauses, problem.clauses)
 
         def meaning(predicate: Predicate) -> tuple[object, ...]:

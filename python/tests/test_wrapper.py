@@ -12,10 +12,16 @@ from pathlib import Path
 from helpers import REPOSITORY
 
 RT = """#!/usr/bin/env bash
-echo $$ >../../rt.pid
+echo $$ >"$(dirname "$0")/../rt.pid"
 sleep ${RT_SLEEP:-0.1}
-mkdir -p ../mono_base/out/rlib && touch ../mono_base/out/rlib/stamp
-sleep 1.2
+mkdir -p out
+if [ "$1" = lib ]; then
+    [ "${RT_FAIL-}" != lib ] || exit 1
+    [ -e out/rlib/stamp ] || echo "$(basename "$PWD")" >>"$(dirname "$0")/../proved"
+    mkdir -p out/rlib && touch out/rlib/stamp
+    exit
+fi
+[ -e ../mono_base/out/rlib/stamp ] || exit 1
 [ -z "${RT_FAIL-}" ] || exit 1
 printf '#!/bin/sh\\necho ran "$@"\\n' >out/mono_cmd
 chmod +x out/mono_cmd
@@ -33,6 +39,9 @@ class Wrapper(unittest.TestCase):
         self.source.write_text("")
         (self.root / "crates.txt").write_text("mono_base:\nmono_cmd: mono_base\n")
         shutil.copy(REPOSITORY / "gulfezo", self.root / "gulfezo")
+        for name in ("tools/build.py", "docs/FORMATS.md"):
+            (self.root / name).parent.mkdir()
+            shutil.copy(REPOSITORY / name, self.root / name)
         (self.root / "bin").mkdir()
         rt = self.root / "bin" / "rt"
         rt.write_text(RT)
@@ -64,7 +73,7 @@ class Wrapper(unittest.TestCase):
             told.append(said)
         self.assertEqual("".join(told).count("this can take many minutes"), 1)
         self.assertEqual("".join(told).count("another run is building the program"), 1)
-        self.assertRegex("".join(told), r"mono_base is proved and built \(1 of at most 2 crates, \d+ s\)")
+        self.assertRegex("".join(told), r"mono_base is proved and built in \d+ s \(1 of 2 crates, 0.\d min; about \d+ min are left\)")
         self.assertEqual(self.run_it("check", "c"), (0, "ran check c\n", ""))
 
     def test_newer_sources_are_said_and_built_when_asked(self):
@@ -83,7 +92,7 @@ class Wrapper(unittest.TestCase):
 
     def test_without_the_toolchain(self):
         (self.root / "bin" / "rt").unlink()
-        alone = self.root / "tools"
+        alone = self.root / "alone"
         alone.mkdir()
         for name in ("bash", "dirname", "readlink", "find", "sed", "grep", "mkdir", "sh"):
             os.symlink(shutil.which(name), alone / name)
@@ -114,11 +123,36 @@ class Wrapper(unittest.TestCase):
             time.sleep(0.05)
         self.assertIn(state.stdout.strip()[:1], ("", "Z"))
 
+    def test_a_build_goes_on_where_an_earlier_one_ended(self):
+        code, _, told = self.run_it("build", RT_FAIL="run")
+        self.assertEqual(code, 126)
+        self.assertIn("mono_base is proved and built", told)
+        self.assertEqual(self.run_it("build")[0], 0)
+        self.assertEqual((self.root / "proved").read_text(), "mono_base\n")
+        self.assertFalse((self.root / "out" / "gulfezo-build").exists())
+
+    def test_a_library_that_fails_is_named(self):
+        code, _, told = self.run_it("check", "a", RT_FAIL="lib")
+        self.assertEqual(code, 126)
+        self.assertIn("mono_base was not proved", told)
+        self.assertIn("the build failed; see crates/mono_cmd/out/build.log", told)
+
+    def test_other_words_build_nothing(self):
+        for words in ((), ("",), ("slove", "f"), ("build", "now"), ("FILE", "f")):
+            code, out, told = self.run_it(*words)
+            self.assertEqual((code, told), (2, ""))
+            self.assertRegex(out, r"\Ausage: solve FILE .*\n\Z")
+        for word in ("help", "-h", "--help"):
+            code, out, told = self.run_it(word)
+            self.assertEqual((code, told), (0, ""))
+            self.assertRegex(out, r"(?s)gulfezo build +proves and builds .*\nusage: solve FILE .*\n\Z")
+        self.assertFalse((self.root / "proved").exists())
+
     def test_a_link_to_it(self):
         self.run_it("build")
         os.symlink(self.root / "gulfezo", self.root / "bin" / "gulfezo")
-        run = subprocess.run([str(self.root / "bin" / "gulfezo"), "x"], capture_output=True, text=True)
-        self.assertEqual(run.stdout, "ran x\n")
+        run = subprocess.run([str(self.root / "bin" / "gulfezo"), "check", "x"], capture_output=True, text=True)
+        self.assertEqual(run.stdout, "ran check x\n")
 
 
 if __name__ == "__main__":

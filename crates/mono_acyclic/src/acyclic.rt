@@ -143,7 +143,7 @@ impl Kind for Acyclic {
 
     ghost IS_THOROUGH = { false };
 
-    const FOLLOWS_WITNESS: bool = false;
+    const MOST_FOLLOWED: u32 = 0;
 
     fn with_nodes(alloc: Global, count: u32) -> Result<Self, AllocError> {
         let finder = CycleFinder::new(alloc, count)?;

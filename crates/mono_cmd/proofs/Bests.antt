@@ -2,7 +2,7 @@
 use Rattle.std.proofs.Common.{◌≡◌, ◌<◌, ◌^◌, ◌+◌, ℕ, ℤ, pos, Bool, true, List, [], ◌∷◌, Option, Some, ◌++◌, length, refl, sym, subst, inl, inr}
 use Rattle.std.specs.Prelude.{codes}
 use Rattle.std.specs.Fmt.{signed_decimal}
-use Rattle.std.specs.Io.KnownBytes.{append_known}
+use Rattle.std.specs.Io.KnownBytes.{Appends}
 use Rattle.std.proofs.lemmas.Bool.{and_parts}
 use Rattle.mono_base.specs.declared.limits.TheConstants.{MAX_BOUND}
 use Rattle.mono_problem.specs.Instance.{Instance}
@@ -235,6 +235,6 @@ asked found old new s before now runs p n b asks is there written held wrote =
         let over : ComesTo (Some (command.Ask asks.file n b)) old new e = subst (λ (c : Option Command). ComesTo c old new e) asks.is comes in
         asked_as p n b e (end_behind asks.file asks.text old new e p (λ q. IsAsked q n b e) asks.told asks.stands reply over) reply
 
-    stands : (text : List ℕ) → IsPrintedAsk p n b text → now ≡ append_known before text → Stands written (asking p n b)
+    stands : (text : List ℕ) → IsPrintedAsk p n b text → Appends before now text → Stands written (asking p n b)
     stands text h w =
         subst (λ (t : List ℕ). Stands t (asking p n b)) (appended before now there written text held wrote w) (printed_asks p n b text (stands_well_formed asks.text p asks.stands) h)

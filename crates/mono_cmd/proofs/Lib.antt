@@ -3,7 +3,10 @@ mod Causes
 mod NoteLines
 mod CoreLines
 mod Cores
+mod ExitNumbers
+mod Exited
 mod Format
+mod Judgments
 mod Literals
 mod Migrations
 mod Narrows
@@ -13,6 +16,8 @@ mod OneEnding
 mod OutOfMemory
 mod PlaceByEnding
 mod Prints
+mod Promised
+mod Refused
 mod Replies
 mod Solutions
 mod Solves
@@ -23,3 +28,4 @@ mod Summaries
 mod TeamSolutions
 mod TeamRuns
 mod UnknownWord
+mod Writings

@@ -1,6 +1,6 @@
 -- What a run of `migrate` shows of what it printed.
 use Rattle.std.proofs.Common.{◌≡◌, ◌≤◌, true, ℕ, List, ◌++◌, Option, Some, length, refl, subst, arith}
-use Rattle.std.specs.Io.KnownBytes.{append_known}
+use Rattle.std.specs.Io.KnownBytes.{Appends}
 use Rattle.mono_problem.specs.Instance.{Instance}
 use Rattle.mono_problem.specs.WellFormed.{IsInstance}
 use Rattle.mono_gnf.proofs.WellFormedReading.{stands_well_formed}
@@ -48,5 +48,5 @@ migrated found old new s before now runs p answer v migrates is there written he
         let over : ComesTo (Some (command.Migrate migrates.file migrates.answer v)) old new e = subst (λ (c : Option Command). ComesTo c old new e) migrates.is comes in
         (e, refl, end_behind_both migrates.file migrates.text migrates.answer answer MAX_MIGRATED_BYTES old new e p (λ q t. IsMigration q t v e) migrates.told migrates.stands migrates.answered reply over)
 
-    shows : (e : Ending) → IsMigration p answer v e × (length answer ≤ MAX_MIGRATED_BYTES) → now ≡ append_known before (text_of e) → Shows p answer v written (status_of e)
+    shows : (e : Ending) → IsMigration p answer v e × (length answer ≤ MAX_MIGRATED_BYTES) → Appends before now (text_of e) → Shows p answer v written (status_of e)
     shows e h w = migration_shows p answer written v e (stands_well_formed migrates.text p migrates.stands) h.1 h.0 (appended before now there written (text_of e) held wrote w)

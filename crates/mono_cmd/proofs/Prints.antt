@@ -1,6 +1,6 @@
 -- What a run of `print` shows of what it printed.
 use Rattle.std.proofs.Common.{◌≡◌, ◌∙◌, true, ℕ, List, ◌++◌, Option, Some, refl, sym, subst}
-use Rattle.std.specs.Io.KnownBytes.{append_known}
+use Rattle.std.specs.Io.KnownBytes.{Appends}
 use Rattle.mono_problem.specs.Instance.{Instance}
 use Rattle.mono_gnf.specs.Printed.{printed as printed_form}
 use Rattle.mono_gnf.specs.Stands.{Stands}
@@ -27,6 +27,6 @@ printed found old new s before now runs p prints is there written held wrote =
         let over : ComesTo (Some (command.Print prints.file)) old new e = subst (λ (c : Option Command). ComesTo c old new e) prints.is comes in
         (printed_form p, end_behind prints.file prints.text old new e p (λ q. e ≡ ending.Printed (printed_form q)) prints.told prints.stands reply over, refl)
 
-    stands : (text : List ℕ) → text ≡ printed_form p → now ≡ append_known before text → Stands written p
+    stands : (text : List ℕ) → text ≡ printed_form p → Appends before now text → Stands written p
     stands text same w =
         subst (λ (t : List ℕ). Stands t p) (sym same ∙ appended before now there written text held wrote w) (printed_stands p (stands_well_formed prints.text p prints.stands))

@@ -1,7 +1,7 @@
 -- What a run shows that ends with a reply: an ending of its command's own, behind what it reads.
 use Rattle.std.proofs.Common.{◌≡◌, ◌≤◌, Bool, true, false, ℕ, List, ◌++◌, length, Option, Some, None, IfSome, refl, sym, ap, subst, ◌∙◌, inl, inr}
 use Rattle.std.proofs.lemmas.List.{append_cancel_left}
-use Rattle.std.specs.Io.KnownBytes.{append_known}
+use Rattle.std.specs.Io.KnownBytes.{Appends}
 use Rattle.mono_problem.specs.Instance.{Instance}
 use Rattle.mono_gnf.specs.Stands.{Stands}
 use Rattle.mono_answer.specs.declared.answer.Answer.{Answer}
@@ -97,7 +97,7 @@ pub ending_by : (s : Status) (e : Ending) → s ≡ status_of e → IsItsEnding 
 ending_by s e is = subst (λ (t : Status). IsItsEnding t e) (sym is) (own_ending e)
 
 -- with such a status the text was written whole
-pub writes_reply : (e : Ending) (t : Status) (before now : Option (List ℕ)) → is_reply t ≡ true → Writes e t before now → (t ≡ status_of e) × (now ≡ append_known before (text_of e))
+pub writes_reply : (e : Ending) (t : Status) (before now : Option (List ℕ)) → is_reply t ≡ true → Writes e t before now → (t ≡ status_of e) × Appends before now (text_of e)
 writes_reply e status.WriteFault before now reply w = absurd (not_both status.WriteFault status.WriteFault refl reply refl)
 writes_reply e status.Memory before now reply w = absurd (not_both status.Memory status.Memory refl reply refl)
 writes_reply e t before now reply w = w
@@ -129,7 +129,7 @@ replied found old new e (behind_answer p read text behind own given) reply = own
 -- ---- the problem that FILE stands for
 
 -- the text that was read is the one that the shelf tells
-same_text : (texts : Option Texts) (file text read : List ℕ) → told_text texts file ≡ Some text → IfSome texts (λ held. text_named file held ≡ Some read) → read ≡ text
+pub same_text : (texts : Option Texts) (file text read : List ℕ) → told_text texts file ≡ Some text → IfSome texts (λ held. text_named file held ≡ Some read) → read ≡ text
 same_text None file text read told is = absurd cc
 same_text (Some held) file text read told is = cc
 
@@ -164,9 +164,11 @@ end_behind_both file text name given limit old new e p End told stands answered 
 -- ---- what was written
 
 -- what was written behind a text is the text that was appended
-pub appended : (before now : Option (List ℕ)) (there written t : List ℕ) → before ≡ Some there → now ≡ Some (there ++ written) → now ≡ append_known before t → t ≡ written
+pub appended : (before now : Option (List ℕ)) (there written t : List ℕ) → before ≡ Some there → now ≡ Some (there ++ written) → Appends before now t → t ≡ written
 appended before now there written t held wrote is =
-    append_cancel_left there t written (let same : Some (there ++ t) ≡ Some (there ++ written) = sym (is ∙ ap (λ (o : Option (List ℕ)). append_known o t) held) ∙ wrote in cc)
+    let here : Appends (Some there) now t = subst (λ (o : Option (List ℕ)). Appends o now t) held is in
+    let longer : Appends (Some there) (Some (there ++ written)) t = subst (λ (o : Option (List ℕ)). Appends (Some there) o t) wrote here in
+    append_cancel_left there t written (sym longer)
 
 pub runs_by : (found : Option Command) (old new : ShelfView) (e : Ending) (s : Status) (before now : Option (List ℕ)) → Ends found old new e → Writes e s before now → Runs found old new s before now
 runs_by found old new e s before now ends writes = record { ending = e; ends = ends; writes = writes }
@@ -175,13 +177,13 @@ runs_by found old new e s before now ends writes = record { ending = e; ends = e
 pub shown : (found : Option Command) (old new : ShelfView) (s : Status) (before now : Option (List ℕ)) → Runs found old new s before now
     → (Outcome : Type 0) (made : Outcome → Ending) (Right : Outcome → Type 0)
     → ((e : Ending) → ComesTo found old new e → is_reply (status_of e) ≡ true → (o : Outcome) × (e ≡ made o) × Right o)
-    → (Shows : Status → Type 0) → ((o : Outcome) → Right o → now ≡ append_known before (text_of (made o)) → Shows (status_of (made o)))
+    → (Shows : Status → Type 0) → ((o : Outcome) → Right o → Appends before now (text_of (made o)) → Shows (status_of (made o)))
     → (t : Status) → is_reply t ≡ true → s ≡ t → Shows t
 shown found old new s before now runs Outcome made Right came Shows shows t reply is =
     let w = writes_reply runs.ending t before now reply (subst (λ (u : Status). Writes runs.ending u before now) is runs.writes) in
     let comes = ends_else found old new runs.ending (λ memory. not_both t status.Memory (w.0 ∙ ap status_of memory) reply refl) runs.ends in
     let end = came runs.ending comes (ap is_reply (sym w.0) ∙ reply) in
-    subst Shows (sym (w.0 ∙ ap status_of end.1)) (shows end.0 end.2 (w.1 ∙ ap (λ (d : Ending). append_known before (text_of d)) end.1))
+    subst Shows (sym (w.0 ∙ ap status_of end.1)) (shows end.0 end.2 (subst (λ (d : Ending). Appends before now (text_of d)) end.1 w.1))
 
 -- What is said of each outcome's text by its status, and of replies alone, holds of what a run wrote by the run's status.
 pub said : (found : Option Command) (old new : ShelfView) (s : Status) (before now : Option (List ℕ)) → Runs found old new s before now

@@ -4,8 +4,9 @@ use Rattle.std.specs.Prelude.{slice_index}
 use Rattle.std.proofs.Math.Dec.{eqb}
 use Rattle.std.proofs.Math.Seq.{take-length}
 use Rattle.std.proofs.lemmas.Bool.{eqb-false}
-use Rattle.std.proofs.lemmas.List.{append-nil, get_or-take, length-take}
-use Rattle.std.specs.Io.KnownBytes.{append_known}
+use Rattle.std.proofs.lemmas.List.{get_or-take, length-take}
+use Rattle.std.specs.Io.KnownBytes.{Appends}
+use Rattle.std.proofs.KnownBytes.{Appends-nil}
 use Rattle.mono_problem.specs.Instance.{Instance}
 use Rattle.mono_problem.specs.Holds.{HasNoModel, Satisfies}
 use Rattle.mono_gnf.proofs.WellFormedReading.{stands_well_formed}
@@ -47,12 +48,12 @@ pub front_written : (e : Ending) (s : Status) (before now : Option (List ℕ)) (
     → before ≡ Some there → now ≡ Some (there ++ written) → (count : ℕ) × (take count (text_of e) ≡ written)
 front_written e s before now there written some writes held wrote = by_status s writes
   where
-    whole : now ≡ append_known before (text_of e) → (count : ℕ) × (take count (text_of e) ≡ written)
+    whole : Appends before now (text_of e) → (count : ℕ) × (take count (text_of e) ≡ written)
     whole is = (length (text_of e), take-length (text_of e) ∙ appended before now there written (text_of e) held wrote is)
 
     nothing : now ≡ before → (count : ℕ) × (take count (text_of e) ≡ written)
     nothing is =
-        let none : [] ≡ written = appended before now there written [] held wrote (is ∙ held ∙ ap (λ (l : List ℕ). Some l) (sym (append-nil there)) ∙ sym (ap (λ (o : Option (List ℕ)). append_known o []) held)) in
+        let none : [] ≡ written = appended before now there written [] held wrote (subst (λ (o : Option (List ℕ)). Appends before o []) (sym is) (Appends-nil before)) in
         absurd (omega (arith, ap (λ (l : List ℕ). length l) none))
 
     by_status : (t : Status) → Writes e t before now → (count : ℕ) × (take count (text_of e) ≡ written)

@@ -7,4 +7,7 @@ pub mod Told
 pub mod Teams
 pub mod Endings
 pub mod Runs
+pub mod Refusals
+pub mod Promises
+pub mod Machines
 pub mod Worked

@@ -1,6 +1,6 @@
 -- What a run comes to, by its command and by what contracts see of the shelf as it begins (`old`) and as it ends (`new`).
 use Rattle.std.specs.Prelude.{◌≡◌, ℕ, ◌+◌, ℤ, pos, ◌≤◌, ◌⊎◌, Bool, true, false, List, [], ◌∷◌, ◌++◌, length, codes, Option, Some, None, IsSome, IsSomeAnd, All}
-use Rattle.std.specs.Io.KnownBytes.{append_known}
+use Rattle.std.specs.Io.KnownBytes.{Appends}
 use Rattle.mono_base.specs.declared.limits.TheConstants.{MAX_INPUT_BYTES, MAX_ANSWER_BYTES, MAX_VARS}
 use Rattle.mono_base.specs.Literal.{IsLitWithin}
 use Rattle.mono_io.specs.Faults.{counted}
@@ -18,6 +18,7 @@ use Rattle.mono_answer.specs.Printed.{answer_text}
 use Rattle.mono_gnf.specs.declared.fault.GnfFault.{GnfFault}
 use Rattle.mono_answer.specs.declared.answer.Answer.{Answer}
 use Rattle.mono_answer.specs.declared.answer.Answer.TheVariants as answer
+use Rattle.mono_check.specs.declared.verdict.Verdict.{Verdict}
 use Rattle.mono_check.specs.declared.verdict.Verdict.TheVariants as verdict
 use Rattle.mono_check.specs.Verdicts.{IsVerdict}
 use Rattle.mono_check.specs.Migrations.{MigratesTo}
@@ -29,10 +30,8 @@ use Rattle.mono_cmd.specs.declared.status.Status.TheVariants as status
 use Rattle.mono_cmd.specs.declared.summary.Summary.{Summary}
 use Rattle.mono_cmd.specs.declared.ending.Ending.{Ending}
 use Rattle.mono_cmd.specs.declared.ending.Ending.TheVariants as ending
-use Rattle.mono_cmd.specs.Commands.{command_of}
-use Rattle.mono_cmd.specs.Statuses.{code_of}
 use Rattle.mono_cmd.specs.declared.command.TheConstants.{DEFAULT_BUDGET, MAX_MIGRATED_BYTES}
-use Rattle.mono_cmd.specs.Endings.{status_of, text_of, TakesMemory, summary_lines, verdict_text}
+use Rattle.mono_cmd.specs.Endings.{status_of, text_of, TakesMemory, summary_lines, verdict_status, verdict_text}
 use Rattle.mono_steps.specs.New.{IsProgress}
 use Rattle.mono_problem.specs.Assuming.{assuming, HasRoom}
 use Rattle.mono_gnf.specs.declared.fault.GnfFault.TheVariants as fault
@@ -53,7 +52,7 @@ use Rattle.mono_cmd.specs.BestTexts.{best_text}
 use Rattle.mono_cmd.specs.CoreTexts.{outcome_text}
 use Rattle.mono_cmd.specs.Solved.{IsSolution, IsSummary, IsNarrowing, IsBounding}
 use Rattle.mono_cmd.specs.Teams.{IsTeamed}
-use Rattle.mono_cmd.specs.Told.{RunsOver, WroteOver}
+use Rattle.mono_cmd.specs.Told.{JudgesOver, RunsOver, WroteOver}
 
 -- ---- a file on the way
 
@@ -220,34 +219,18 @@ Ends found old new e = ComesTo found old new e
 
 -- ---- what is written
 
--- What a run that comes to this ending writes, by its status: the text whole; a prefix of it where a write failed; nothing
--- where memory was wanting, and not in place of a text that takes none.
+-- What a run that comes to this ending writes, by its status: the text whole; a prefix of it, and not all of it, where a write
+-- failed; nothing where memory was wanting, and not in place of a text that takes none.
 abbrev pub Writes : Ending → Status → Option (List ℕ) → Option (List ℕ) → Type 0
 Writes e status.WriteFault before now = AppendsPrefix before now (text_of e)
 Writes e status.Memory before now = (now ≡ before) × TakesMemory e
-Writes e s before now = (s ≡ status_of e) × (now ≡ append_known before (text_of e))
+Writes e s before now = (s ≡ status_of e) × Appends before now (text_of e)
 
 -- the run comes to an ending, and writes its text
 pub record Runs (found : Option Command) (old new : ShelfView) (s : Status) (before now : Option (List ℕ)) : Type 0 where
   pub ending : Ending
   pub ends : Ends found old new ending
   pub writes : Writes ending s before now
-
--- the run comes to an ending, writes its text by a status, and the process ends with the number of that
-pub record Exits (found : Option Command) (old new : ShelfView) (code : ℕ) (before now : Option (List ℕ)) : Type 0 where
-  pub status : Status
-  pub runs : Runs found old new status before now
-  pub number : code ≡ code_of status
-
--- real files before the first call: they tell nothing
-abbrev pub untold_shelf : ShelfView
-untold_shelf = record { texts = None; chosen = []; place = None; begun = 0; faults = 0; steady = false }
-
--- The process ends with the number of the status of a run over real files and the standard output, which tell nothing; or
--- no memory was found for its words.
-abbrev pub ExitsOverFiles : ℕ → Type 0
-ExitsOverFiles code =
-    (code ≡ code_of status.Memory) ⊎ ((words : List (List ℕ)) × (new : ShelfView) × Exits (command_of words) untold_shelf new code None None)
 
 -- `solve` runs with this budget, and FILE is told and stands for the problem
 abbrev pub Solves : Option Command → Option Texts → Instance → ℕ → Type 0
@@ -346,6 +329,27 @@ CheckWrote found texts before now p written = WroteOver found (λ file answer. c
 abbrev pub CheckWithWrote : Option Command → Option Texts → Option (List ℕ) → Option (List ℕ) → Instance → List ℤ → List ℕ → Type 0
 CheckWithWrote found texts before now p lits written =
     WroteOver found (λ file answer. command.CheckWith file answer lits) texts before now p written
+
+-- `check` runs, FILE is told and stands for the problem, and this is the text that is told of ANSWER
+abbrev pub Judges : Option Command → Option Texts → Instance → List ℕ → Type 0
+Judges found texts p given = JudgesOver found (λ file answer. command.Check file answer) texts p given
+
+-- `check-with` runs with these assumptions, FILE is told and stands for the problem, and this is the text that is told of ANSWER
+abbrev pub JudgesWith : Option Command → Option Texts → Instance → List ℤ → List ℕ → Type 0
+JudgesWith found texts p lits given = JudgesOver found (λ file answer. command.CheckWith file answer lits) texts p given
+
+-- the verdict on ANSWER for a problem, its status and its text
+pub record IsJudgment (p : Instance) (given : List ℕ) (s : Status) (text : List ℕ) : Type 0 where
+  pub judged : Verdict
+  pub right : IsVerdict p given judged
+  pub with_status : s ≡ verdict_status judged
+  pub is : text ≡ verdict_text judged
+
+-- what `check` and `check-with` write with this status: the text of the verdict on ANSWER, whether it is accepted or rejected
+abbrev pub IsJudgmentBy : Status → Instance → List ℕ → List ℕ → Type 0
+IsJudgmentBy status.Accepted p given text = IsJudgment p given status.Accepted text
+IsJudgmentBy status.Rejected p given text = IsJudgment p given status.Rejected text
+IsJudgmentBy s p given text = Unit {0}
 
 -- ---- what a command needs
 

@@ -2,7 +2,7 @@
 //!
 //! It is also the error of each step that may end a run, so that `?` ends it there.
 
-ghost use Rattle.std.specs.Prelude.{◌≡◌, ◌∷◌, [], IfOk, OnErr, codes, decimal};
+ghost use Rattle.std.specs.Prelude.{◌≡◌, ◌≢◌, ◌∷◌, [], IfOk, OnErr, OnOk, codes, decimal};
 ghost use Rattle.std.specs.Cow.{cow_slice_items};
 ghost use Rattle.mono_text.specs.Text.{spaced};
 ghost use Rattle.mono_check.specs.Names.{reason_name};
@@ -121,15 +121,17 @@ impl Ending {
         }
     }
 
-    /// The text that is due. One of constants takes no memory, so that none is said to be wanting in its place.
+    /// The text that is due, unless no memory was found: then none is. One of constants takes no memory, so that none is said to be
+    /// wanting in its place.
     pub fn into_text(self, alloc: Global) -> Result<CowSlice<'static, u8>, AllocError>
         ensures ok { IfOk result (λ text. cow_slice_items text ≡ text_of self) }
         ensures err { OnErr result (TakesMemory self) }
+        ensures found { OnOk result (self ≢ Ending.Memory) }
     {
         let text = match self {
             Ending::Words => return Ok(fixed(USAGE)),
             Ending::ReadFault => return Ok(fixed(b"read fault\n")),
-            Ending::Memory => return Ok(fixed(b"")),
+            Ending::Memory => return Err(AllocError),
             Ending::TooLong => return Ok(fixed(b"too long\n")),
             Ending::Refused { line, fault } => refused_text(alloc, line, fault)?,
             Ending::Solved(answer) => print_answer(alloc, &answer)?,

@@ -1,34 +1,25 @@
 //! The whole program: words, a shelf of files and a sink in, a status out.
 //!
-//! The order is: the words; FILE is read, then its form; it is solved, or ANSWER is read to its end and judged; the text is
-//! written.
+//! The order is: the words; FILE is read, then its form; what the command asks of it is done, or ANSWER is read to its end and
+//! judged; the text is written.
 //! The first refusal in this order decides. All text is made before the first write, so with want of memory nothing was written.
 //!
 //! Each step answers what the next one needs, or the ending of the run: `?` ends it there. So a form is a few lines.
 
-ghost use Rattle.std.specs.Prelude.{◌≡◌, ◌≢◌, ◌≤◌, ◌+◌, ◌++◌, ◌^◌, ◌<◌, ◌⊎◌, ℕ, ℤ, Bool, List, Option, Some, None, All, IsTrue, IsSomeAnd, MatchResult, codes, map, string_bytes};
+ghost use Rattle.std.specs.Prelude.{◌≡◌, ◌≢◌, ◌≤◌, ◌<◌, ◌⊎◌, List, ℕ, Some, All, MatchResult, map, string_bytes};
 ghost use Rattle.mono_base.specs.declared.limits.TheConstants.{MAX_VARS};
 ghost use Rattle.mono_base.specs.Literal.{IsLitWithin};
 ghost use Rattle.mono_io.specs.Faults.{counted};
 ghost use Rattle.mono_io.specs.Shelf.{ShelfView};
-ghost use Rattle.mono_best.specs.Asking.{asking};
-ghost use Rattle.mono_best.specs.Optimum.{IsNeverMet};
-ghost use Rattle.mono_problem.specs.Assuming.{assuming};
 ghost use Rattle.mono_problem.specs.Instance.{Instance};
-ghost use Rattle.mono_portfolio.specs.Outcomes.{IsBoardOfRounds};
-ghost use Rattle.mono_steps.specs.declared.step.Step.{Step};
-ghost use Rattle.mono_problem.specs.Holds.{HasNoModel, Satisfies};
 ghost use Rattle.mono_gnf.specs.Faults.{first_fault};
 ghost use Rattle.mono_gnf.specs.Stands.{Stands};
-ghost use Rattle.mono_answer.specs.declared.version.Version.{Version as VersionOf};
-ghost use Rattle.mono_check.specs.Migrations.{MigratesTo};
-ghost use Rattle.mono_check.specs.Verdicts.{IsVerdict};
-ghost use Rattle.mono_cmd.specs.declared.command.TheConstants.{DEFAULT_BUDGET, MAX_MIGRATED_BYTES, MAX_ROUNDS, MAX_WORKERS};
+ghost use Rattle.mono_cmd.specs.declared.command.TheConstants.{DEFAULT_BUDGET, MAX_ROUNDS, MAX_WORKERS};
 ghost use Rattle.mono_cmd.specs.declared.summary.Summary.{Summary as SummaryOf};
 ghost use Rattle.mono_cmd.specs.Solved.{IsSummary};
-ghost use Rattle.mono_cmd.specs.Commands.{command_of, files_of};
-ghost use Rattle.mono_cmd.specs.Runs.{Ends, IsOutOfMemory, EndsAtFile, IsGenerated, SolvesGenerated, IsSummaryBy, HasProblem, IsBestBy, Bounds, Asks, IsCoreBy, Migrates, Narrows, Prints, Runs, Writes, Solves, IsVerdictBy, CheckWrote, CheckWithWrote, IsCarriedOut, EachReached, IsHeld, IsHeldWithin, begun_for};
-ghost use Rattle.mono_cmd.specs.Teams.{PlaysTeam, IsTeamTextBy};
+ghost use Rattle.mono_cmd.specs.Commands.{command_of};
+ghost use Rattle.mono_cmd.specs.Promises.{RunView, IsRun};
+ghost use Rattle.mono_cmd.specs.Runs.{Ends, EndsAtFile, HasProblem, IsGenerated, Writes};
 
 use crate::asking::{ask_ending, best_ending};
 use crate::command::{Command, MAX_MIGRATED_BYTES};
@@ -69,125 +60,26 @@ use std::alloc::{AllocError, Global};
 /// - `Accepted` and `Rejected` come by the verdict on ANSWER for the problem that FILE stands for, with `check-with` for
 ///   that problem under the assumptions. `Printed` comes with the problem's printed form, with that of the one that asks for a
 ///   bound, with an accepted ANSWER's text in a version, or with the generated input of a kind, a size and a seed.
-/// - `ReadFault` comes only where exactly one call of the shelf failed, at FILE, or at ANSWER where FILE has no fault. Over a
-///   steady shelf it comes only for a file that the shelf lacks.
+/// - `ReadFault` comes only where the shelf's count of failed calls rose by one, at FILE, or at ANSWER where FILE has no fault.
+///   Over a steady shelf it comes only for a file that the shelf lacks.
 /// - `TooLong` comes only for a file with more bytes than its limit: the shelf's place is limit + 1 then.
-/// - `WriteFault` comes only where exactly one write failed; a prefix of the text that was due was written.
+/// - `WriteFault` comes only where the sink's count of failed calls rose by one; a prefix of the text that was due was written,
+///   and not all of it.
 /// - With `Memory` nothing was written, no call of the shelf or the sink had failed, and of the file that was begun last no
-///   byte beyond its limit was read. It never comes in place of `Words`. Once the run has come to `ReadFault`, `TooLong`, a
-///   text that is printed, an accepted model or refutation, or a bound that is refused, it doesn't come any more: their texts
-///   take no memory.
+///   byte beyond its limit was read. So it never comes in place of `Words`, `ReadFault` or `TooLong`. What a run comes to otherwise
+///   takes memory on the way.
 pub fn run<S: Shelf, K: Sink>(alloc: Global, words: &[String], shelf: &mut S, out: &mut K) -> Status
-    // The run comes to an ending in the order above, and writes its text.
-    ensures runs { Runs (command_of (map string_bytes words.now)) (S.seen shelf.old) (S.seen shelf.new) result (K.written out.old) (K.written out.new) }
-
-    ensures read_fault { result ≡ Status.ReadFault → (S.seen shelf.new).faults ≡ counted (S.seen shelf.old).faults }
-    ensures no_read_fault { result ≢ Status.ReadFault → result ≢ Status.WriteFault → (S.seen shelf.new).faults ≡ (S.seen shelf.old).faults }
+    // The run comes to an ending in the order above, and writes its text; what that shows, `IsRun` says family by family.
+    ensures promises { let run : RunView = record {
+      command = command_of (map string_bytes words.now);
+      old = S.seen shelf.old;
+      new = S.seen shelf.new;
+      status = result;
+      before = K.written out.old;
+      now = K.written out.new;
+    } in IsRun run }
     ensures write_fault { result ≡ Status.WriteFault → K.faults out.new ≡ counted (K.faults out.old) }
     ensures no_write_fault { result ≢ Status.WriteFault → K.faults out.new ≡ K.faults out.old }
-    ensures memory { result ≡ Status.Memory → K.written out.new ≡ K.written out.old }
-    ensures given_up { result ≡ Status.Memory → IsOutOfMemory (command_of (map string_bytes words.now)) (S.seen shelf.old) (S.seen shelf.new) }
-
-    // No file is begun twice for one word.
-    ensures begun { (S.seen shelf.new).begun ≤ begun_for (files_of (command_of (map string_bytes words.now))) (S.seen shelf.old).begun }
-    ensures too_long { result ≡ Status.TooLong
-        → ((S.seen shelf.new).place ≡ Some (MAX_INPUT_BYTES + 1)) ⊎ ((S.seen shelf.new).place ≡ Some (MAX_ANSWER_BYTES + 1))
-        ⊎ ((S.seen shelf.new).place ≡ Some (MAX_MIGRATED_BYTES + 1)) }
-
-    // Over a steady shelf that holds the files that the command comes to, no read fault is answered. Where they are within
-    // their limits too, no write failed and memory was found, the command is carried out.
-    ensures steady { IsTrue (S.seen shelf.old).steady
-        → IsSomeAnd (command_of (map string_bytes words.now)) (EachReached (IsHeld (S.seen shelf.old).texts) (S.seen shelf.old).texts)
-        → result ≢ Status.ReadFault }
-    ensures complete { IsTrue (S.seen shelf.old).steady
-        → IsSomeAnd (command_of (map string_bytes words.now)) (EachReached (IsHeldWithin (S.seen shelf.old).texts) (S.seen shelf.old).texts)
-        → result ≢ Status.WriteFault → result ≢ Status.Memory → IsSomeAnd (command_of (map string_bytes words.now)) (λ c. IsCarriedOut c result) }
-
-    // `solve`: an assignment satisfies the problem that FILE stands for; none does; the budget is below 3^V. What was
-    // written, and the verdict that `check` gives it.
-    ensures satisfiable { (p : Instance) (budget : ℕ) → Solves (command_of (map string_bytes words.now)) (S.seen shelf.old).texts p budget
-        → result ≡ Status.Satisfiable → (a : ℕ → Bool) × Satisfies p a }
-    ensures unsatisfiable { (p : Instance) (budget : ℕ) → Solves (command_of (map string_bytes words.now)) (S.seen shelf.old).texts p budget
-        → result ≡ Status.Unsatisfiable → HasNoModel p }
-    ensures unknown { (p : Instance) (budget : ℕ) → Solves (command_of (map string_bytes words.now)) (S.seen shelf.old).texts p budget
-        → result ≡ Status.Unknown → budget < 3 ^ p.vars }
-    ensures verdict { (p : Instance) (budget : ℕ) (there written : List ℕ)
-        → Solves (command_of (map string_bytes words.now)) (S.seen shelf.old).texts p budget → K.written out.old ≡ Some there
-        → K.written out.new ≡ Some (there ++ written) → IsVerdictBy result p budget written }
-
-    // `gen` with `--solve`: the same of the problem that the generated input stands for, and what is written.
-    ensures gen_satisfiable { (p : Instance) → SolvesGenerated (command_of (map string_bytes words.now)) p → result ≡ Status.Satisfiable
-        → (a : ℕ → Bool) × Satisfies p a }
-    ensures gen_unsatisfiable { (p : Instance) → SolvesGenerated (command_of (map string_bytes words.now)) p → result ≡ Status.Unsatisfiable → HasNoModel p }
-    ensures gen_unknown { (p : Instance) → SolvesGenerated (command_of (map string_bytes words.now)) p → result ≡ Status.Unknown → DEFAULT_BUDGET < 3 ^ p.vars }
-    ensures summary { (p : Instance) (there written : List ℕ) → SolvesGenerated (command_of (map string_bytes words.now)) p
-        → K.written out.old ≡ Some there → K.written out.new ≡ Some (there ++ written) → IsSummaryBy result p written }
-
-    // `core`: an assignment satisfies the problem under all assumptions; none does; the budget is below 3 to the number of that
-    // problem's variables. What was written, and the verdict that `check-with` gives it.
-    ensures core_satisfiable { (p : Instance) (lits : List ℤ) → Narrows (command_of (map string_bytes words.now)) (S.seen shelf.old).texts p lits
-        → result ≡ Status.Satisfiable → (a : ℕ → Bool) × Satisfies (assuming p lits) a }
-    ensures core_unsatisfiable { (p : Instance) (lits : List ℤ) → Narrows (command_of (map string_bytes words.now)) (S.seen shelf.old).texts p lits
-        → result ≡ Status.Unsatisfiable → HasNoModel (assuming p lits) }
-    ensures core_unknown { (p : Instance) (lits : List ℤ) → Narrows (command_of (map string_bytes words.now)) (S.seen shelf.old).texts p lits
-        → result ≡ Status.Unknown → DEFAULT_BUDGET < 3 ^ (assuming p lits).vars }
-    ensures core { (p : Instance) (lits : List ℤ) (there written : List ℕ)
-        → Narrows (command_of (map string_bytes words.now)) (S.seen shelf.old).texts p lits → K.written out.old ≡ Some there
-        → K.written out.new ≡ Some (there ++ written) → IsCoreBy result p lits written }
-
-    // `best`: what was written, and the verdict that `check` gives it of the problem that asks for the next bound; no satisfying
-    // assignment meets any bound; the budget is below 3 to the number of variables of a problem that asks.
-    ensures best_bound { (p : Instance) (n : ℕ) (there written : List ℕ)
-        → Bounds (command_of (map string_bytes words.now)) (S.seen shelf.old).texts p n → K.written out.old ≡ Some there
-        → K.written out.new ≡ Some (there ++ written) → IsBestBy result p n written }
-    ensures best_is_never_met { (p : Instance) (n : ℕ) → Bounds (command_of (map string_bytes words.now)) (S.seen shelf.old).texts p n
-        → result ≡ Status.Unsatisfiable → IsNeverMet p n }
-    ensures best_unknown { (p : Instance) (n : ℕ) → Bounds (command_of (map string_bytes words.now)) (S.seen shelf.old).texts p n
-        → result ≡ Status.Unknown → DEFAULT_BUDGET < 3 ^ (p.vars + 1) }
-
-    // `print`: what was written stands for the problem that FILE stands for.
-    ensures printed { (p : Instance) (there written : List ℕ) → Prints (command_of (map string_bytes words.now)) (S.seen shelf.old).texts p
-        → result ≡ Status.Printed → K.written out.old ≡ Some there → K.written out.new ≡ Some (there ++ written) → Stands written p }
-
-    // `migrate`: what was written is what ANSWER is migrated to, and `check` gives it the verdict that accepts ANSWER.
-    ensures migrated { (p : Instance) (answer there written : List ℕ) (v : VersionOf)
-        → Migrates (command_of (map string_bytes words.now)) (S.seen shelf.old).texts p answer v → result ≡ Status.Printed
-        → K.written out.old ≡ Some there → K.written out.new ≡ Some (there ++ written)
-        → (m : MigratesTo p answer v written) × IsVerdict p written m.verdict }
-
-    // `ask`: what was written stands for the problem that asks for the bound.
-    ensures asked { (p : Instance) (n : ℕ) (b : ℤ) (there written : List ℕ)
-        → Asks (command_of (map string_bytes words.now)) (S.seen shelf.old).texts p n b → result ≡ Status.Printed → K.written out.old ≡ Some there
-        → K.written out.new ≡ Some (there ++ written) → Stands written (asking p n b) }
-
-    // `team`: an assignment satisfies the problem that FILE stands for; none does; all rounds were played. What was written, and
-    // the verdict that `check` gives it.
-    ensures team_satisfiable { (p : Instance) (workers rounds : ℕ)
-        → PlaysTeam (command_of (map string_bytes words.now)) (S.seen shelf.old).texts p workers rounds → result ≡ Status.Satisfiable
-        → (a : ℕ → Bool) × Satisfies p a }
-    ensures team_unsatisfiable { (p : Instance) (workers rounds : ℕ)
-        → PlaysTeam (command_of (map string_bytes words.now)) (S.seen shelf.old).texts p workers rounds → result ≡ Status.Unsatisfiable
-        → HasNoModel p }
-    ensures team_unknown { (p : Instance) (workers rounds : ℕ)
-        → PlaysTeam (command_of (map string_bytes words.now)) (S.seen shelf.old).texts p workers rounds → result ≡ Status.Unknown
-        → (board : List Step) × IsBoardOfRounds p workers rounds board }
-    ensures team { (p : Instance) (workers rounds : ℕ) (there written : List ℕ)
-        → PlaysTeam (command_of (map string_bytes words.now)) (S.seen shelf.old).texts p workers rounds → K.written out.old ≡ Some there
-        → K.written out.new ≡ Some (there ++ written) → IsTeamTextBy result p workers rounds written }
-
-    // With this text written, no assignment satisfies the problem that FILE stands for; with the other one, some does.
-    ensures refutes { (p : Instance) → CheckWrote (command_of (map string_bytes words.now)) (S.seen shelf.old).texts (K.written out.old)
-        (K.written out.new) p (codes "accepted refutation\n") → HasNoModel p }
-    ensures models { (p : Instance) → CheckWrote (command_of (map string_bytes words.now)) (S.seen shelf.old).texts (K.written out.old)
-        (K.written out.new) p (codes "accepted model\n") → (a : ℕ → Bool) × Satisfies p a }
-
-    // What these texts say by `check-with`, of the problem under its assumptions.
-    ensures refutes_with { (p : Instance) (lits : List ℤ)
-        → CheckWithWrote (command_of (map string_bytes words.now)) (S.seen shelf.old).texts (K.written out.old) (K.written out.new) p lits
-        (codes "accepted refutation\n") → HasNoModel (assuming p lits) }
-    ensures models_with { (p : Instance) (lits : List ℤ)
-        → CheckWithWrote (command_of (map string_bytes words.now)) (S.seen shelf.old).texts (K.written out.old) (K.written out.new) p lits
-        (codes "accepted model\n") → (a : ℕ → Bool) × Satisfies (assuming p lits) a }
 {
     let ending = ending_of(alloc, words, shelf);
     write_ending(alloc, ending, out)

@@ -3,6 +3,7 @@
 ghost use Rattle.std.specs.Prelude.{◌≡◌, ℕ, true, false, List, [], ◌∷◌, pos};
 ghost use Rattle.mono_steps.specs.declared.step.Step.{Step};
 ghost use Rattle.mono_steps.specs.WorkedLemmas.{minus, chain};
+ghost use Rattle.mono_search.specs.Worked.{both_signs};
 ghost use Rattle.mono_core.specs.Cores.{AreNeeds, IsCore, IsNeed, IsOutcome, IsTried, others_of};
 ghost use Rattle.mono_core.specs.Dropped.{is_over};
 ghost use Rattle.mono_core.specs.Minimal.{IsMinimal, IsModelNeed};
@@ -62,6 +63,7 @@ pub fn tried_assumptions()
     ensures need_unspent { IsNeed one_clause 1 (minus 1 ∷ []) (true ∷ []) 0 (need.Tried [] []) → ⊥ }
     ensures model_that_breaks_another { IsNeed one_clause 1 (pos 2 ∷ minus 1 ∷ []) (true ∷ true ∷ []) 0 (need.Model (true ∷ [])) → ⊥ }
     ensures other_left_out { IsTried one_clause 0 (minus 1 ∷ pos 1 ∷ []) (true ∷ true ∷ []) 0 [] [] → ⊥ }
+    ensures earlier_left_out { IsTried one_clause 0 (minus 1 ∷ pos 1 ∷ []) (true ∷ true ∷ []) 1 [] [] → ⊥ }
     ensures not_assumed { IsTried one_clause 0 (minus 1 ∷ []) (true ∷ []) 0 (pos 2 ∷ []) [] → ⊥ }
     ensures more_flags { IsTried one_clause 0 [] (true ∷ true ∷ []) 0 [] [] → ⊥ }
 {}
@@ -85,5 +87,8 @@ pub fn outcomes()
 /// Each member of a minimal set is needed, and the whole set has no model.
 pub fn minimal_sets()
     ensures has_a_model { IsMinimal one_clause [] → ⊥ }
+    ensures minimal { IsMinimal one_clause (minus 1 ∷ []) }
     ensures needless { IsMinimal one_clause (pos 2 ∷ minus 1 ∷ []) → ⊥ }
+    ensures needless_last { IsMinimal one_clause (minus 1 ∷ pos 2 ∷ []) → ⊥ }
+    ensures needless_alone { IsMinimal both_signs (pos 1 ∷ []) → ⊥ }
 {}

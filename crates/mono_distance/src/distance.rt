@@ -4,7 +4,7 @@
 //! its edges. Labels rest on the absent edges along which they rise by more than the edge costs. Of two labellings, the
 //! one counted from the first node and the one counted from the last, it is the one that rests on fewer.
 
-ghost use Rattle.std.specs.Prelude.{◌≡◌, ◌<◌, ◌≤◌, All, IfOk, IsTrue};
+ghost use Rattle.std.specs.Prelude.{◌≡◌, ◌<◌, ◌≤◌, All, IfOk, IfSome, IsTrue, length};
 ghost use Rattle.mono_graph.specs.Digraph.{IsPartOf};
 ghost use Rattle.mono_graph.specs.Walks.{is_labelling};
 ghost use Rattle.mono_paths.specs.Found.{HasBound};
@@ -17,10 +17,11 @@ use crate::nearest::widened_for;
 use mono_base::Row;
 use mono_base::limits::MAX_WITNESS_VALUE;
 use mono_graph::{Graph, Label, Limit, Part};
+use mono_mend::WalkMender;
 use mono_paths::{PathOrLabels, WalkFinder};
 use mono_problem::Predicate;
 use mono_steps::Witness;
-use mono_theory::walks::walk_evidence;
+use mono_theory::walks::{kept_walk, walk_evidence};
 use mono_theory::{Asked, AsksWalk, EitherSide, Evidence, GraphTheory, Kind, PossibleRows};
 use std::alloc::{AllocError, Global};
 use std::marker::Model;
@@ -29,6 +30,7 @@ use std::marker::Model;
 #[derive(Drop)]
 pub struct Distance {
     finder: WalkFinder,
+    mender: WalkMender,
     table: LabelTable,
 }
 
@@ -39,7 +41,7 @@ impl Model for Distance {
 
     ghost view = { λ d. d.finder };
 
-    ghost invariant = { λ d. d.table ≡ d.finder };
+    ghost invariant = { λ d. (d.mender ≡ d.finder) × (d.table ≡ d.finder) };
 }
 
 /// What the predicate asks for.
@@ -126,6 +128,30 @@ fn least_labels(
     }
 }
 
+/// The evidence that a walk near to these edges is, where one is found there.
+fn walk_near(
+    alloc: Global,
+    mender: &mut WalkMender,
+    graph: &Graph,
+    part: &Part,
+    asked: Asked,
+    edges: &[u32],
+) -> Result<Option<Evidence>, AllocError>
+    requires mender { mender.old ≡ graph.now.nodes }
+    requires part { IsPartOf part.now graph.now }
+    requires from { asked.from < graph.now.nodes }
+    requires to { asked.to < graph.now.nodes }
+    requires edges { All (λ k. k < length graph.now.edges) edges.now }
+    ensures mender { mender.new ≡ mender.old }
+    ensures evidence { IfOk result (λ found. IfSome found (IsEvidence graph.now part.now (predicate_of asked.from asked.to asked.limit))) }
+{
+    let _ = graph.nodes();
+    match mender.mend(alloc, graph, part, asked.from, asked.to, asked.limit, edges)? {
+        Some(places) => Ok(Some(walk_evidence(alloc, graph, places)?)),
+        None => Ok(None),
+    }
+}
+
 impl Kind for Distance {
     ghost use Rattle.std.specs.Prelude.{true};
     ghost use Rattle.mono_distance.specs.Distances.{is_distance};
@@ -138,12 +164,17 @@ impl Kind for Distance {
 
     ghost IS_THOROUGH = { true };
 
-    const FOLLOWS_WITNESS: bool = false;
+    const MOST_FOLLOWED: u32 = 100;
 
     fn with_nodes(alloc: Global, count: u32) -> Result<Self, AllocError> {
         let finder = WalkFinder::new(alloc, count)?;
+        let mender = WalkMender::new(alloc, count)?;
         let table = LabelTable::new(alloc, count)?;
-        Ok(Distance { finder, table })
+        Ok(Distance {
+            finder,
+            mender,
+            table,
+        })
     }
 
     fn evidence(
@@ -169,6 +200,22 @@ impl Kind for Distance {
                 asked,
                 labels,
             ),
+        }
+    }
+
+    fn mend(
+        &mut self,
+        alloc: Global,
+        graph: &Graph,
+        part: &Part,
+        predicate: Predicate,
+        kept: Option<&Evidence>,
+    ) -> Result<Option<Evidence>, AllocError> {
+        let _ = graph.nodes();
+        let asked = what_is_asked(predicate);
+        match kept_walk(kept) {
+            Some(edges) => walk_near(alloc, &mut self.mender, graph, part, asked, edges),
+            None => Ok(None),
         }
     }
 }

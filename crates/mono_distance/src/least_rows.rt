@@ -28,7 +28,7 @@ use std::marker::Model;
 ///
 /// A row takes 16 bytes for each node of the graph, and 48 each time that a label falls, until the literals that came with it
 /// go.
-pub const MAX_LABELS: usize = 4_000_000;
+pub const MAX_LABELS: usize = 8_000_000;
 
 /// The rows of labels from the atoms' first nodes.
 #[derive(Drop)]

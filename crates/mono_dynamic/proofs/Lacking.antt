@@ -18,7 +18,7 @@ use Rattle.mono_dynamic.specs.Reached.{Reached}
 use Rattle.mono_dynamic.specs.Rows.{alone}
 use Rattle.mono_dynamic.specs.SearchTrees.{RestsOn}
 use Rattle.mono_dynamic.specs.Targets.{Targets, no_targets, targets_at, unsearched, is_lacking, is_settled, step_within, IsBefore, AreTold, OnlyShrink, IsShrunk}
-use Rattle.mono_dynamic.specs.Ways.{Ways, no_target, has_target, IsTarget, IsTargetOf, IsSameSource, AreWaysTo}
+use Rattle.mono_dynamic.specs.Ways.{Ways, no_target, has_target, IsTarget, IsTargetOf, IsSameSource, AreReachedWays}
 use Rattle.mono_dynamic.proofs.Lightest.{has_leads}
 use Rattle.mono_dynamic.proofs.Rows.{tree_alone}
 use Rattle.mono_dynamic.proofs.SearchTrees.{tree_stays}
@@ -127,7 +127,7 @@ told_undone g parts n kept r le t = record {
 
 -- ---- a search
 
-pub told_searched : (g : Digraph) (parts : ℕ → List Bool) (number : ℕ) (whole : Bool) (w : Ways) (targets : List WalkTarget) → AreWaysTo g (parts number) targets w → OnlyShrink parts number
+pub told_searched : (g : Digraph) (parts : ℕ → List Bool) (number : ℕ) (whole : Bool) (w : Ways) (targets : List WalkTarget) → AreReachedWays g (parts number) targets w → OnlyShrink parts number
     → (IsTrue whole → All (λ t. IsTrue (has_target w t)) targets) → AreTold g parts number (record { ways = w; targets = targets; since = Some (cond whole 0 number); lost = None })
 told_searched g parts number true w targets s shrink all = record {
   tree = λ m le before. tree_larger g (parts number) (parts m) w.tree (shrink.each m number le (omega arith)) s.tree;

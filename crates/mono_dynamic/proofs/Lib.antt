@@ -14,6 +14,7 @@ pub mod RowLists
 pub mod RowsUndone
 pub mod CostsRestored
 pub mod SearchTrees
+pub mod ComingBack
 pub mod Lightest
 pub mod RowTables
 pub mod Lacking

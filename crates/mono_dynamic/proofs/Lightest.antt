@@ -21,7 +21,8 @@ use Rattle.mono_dynamic.specs.LeastRows.{costs_from, measure_of}
 use Rattle.mono_dynamic.specs.Reached.{Reached}
 use Rattle.mono_dynamic.specs.Rows.{alone}
 use Rattle.mono_dynamic.specs.SearchTrees.{RestsOn, IsSearchTree}
-use Rattle.mono_dynamic.specs.Ways.{Ways, first_ways, no_target, ways_of, limit_in, labels_in, cap_in, has_target, gives_label, is_lightest, AreCostsFrom, IsTargetOf, IsPriced, AreWaysTo, AreLightest, IsLight, AreAsked}
+use Rattle.mono_dynamic.specs.Mending.{IsMendedTree}
+use Rattle.mono_dynamic.specs.Ways.{Ways, first_ways, no_target, ways_of, limit_in, labels_in, cap_in, has_target, gives_label, is_lightest, AreCostsFrom, IsTargetOf, IsPriced, AreReachedWays, AreWaysTo, AreLightest, IsLight, AreAsked}
 use Rattle.mono_graph.proofs.Limits.{light_of, low_enough, of_light, under_cap}
 use Rattle.mono_graph.proofs.GrownWalks.{walks, is_walk_of, walk_front, walk_none}
 use Rattle.mono_dynamic.proofs.Listed.{reached_index, reached_here}
@@ -184,21 +185,15 @@ targets_stay kept old new targets limit cap fit = λ i d lt.
       below = subst (λ (n : ℕ). int_lt (bound_of (get_or targets i d).limit) (pos n) ≡ true) (sym cap) t.below;
     }
 
-pub ways_found : (g : Digraph) (P T : List Bool) (targets : List WalkTarget) (nodes : List ℕ) (kept new : Reached) (costs : Option Costs) → IsLight g P T kept.source costs → AreAsked (labels_in costs) targets nodes
-    → All (IsTargetOf (ways_of kept costs)) targets → kept.nodes ≡ g.nodes → new.source ≡ kept.source → IsSearchTree g T kept.source nodes new.arrivals → AreWaysTo g P targets (ways_of new costs)
-ways_found g P T targets nodes kept new costs light asked fit size source s = record {
+pub ways_reached : (g : Digraph) (P T : List Bool) (targets : List WalkTarget) (nodes : List ℕ) (kept new : Reached) (costs : Option Costs) → IsLight g P T kept.source costs → AreAsked (labels_in costs) targets nodes
+    → All (IsTargetOf (ways_of kept costs)) targets → kept.nodes ≡ g.nodes → new.source ≡ kept.source → IsMendedTree g T kept.source nodes new.arrivals → AreReachedWays g P targets (ways_of new costs)
+ways_reached g P T targets nodes kept new costs light asked fit size source s = record {
   tree = subst (λ (u : ℕ). IsTree g P u new.arrivals) (sym source) tree;
   priced = priced;
   exact = λ i d lt. (
     λ h. has_leads g P (get_or targets i d) (ways_of new costs) (subst (λ (u : ℕ). IsTree g P u new.arrivals) (sym source) tree) priced (fit i d lt).alike h,
     λ path. exact i d lt (path.0, subst (λ (u : ℕ). IsTrue (is_path g P u (get_or targets i d).node (get_or targets i d).limit path.0)) source path.1),
   );
-  needed = λ i some lt. elim (s.needed.each i some lt) [
-    | inl there ↦
-        let o = asked.only (arrival_at new.arrivals i).node there in
-        inl (o.0, o.1, and_from (is_reached new.arrivals o.0.node) (admits o.0.limit (label_of (labels_in costs) o.0.node)) (subst (λ (v : ℕ). IsTrue (is_reached new.arrivals v)) (sym o.3) (reached_here new.arrivals i lt)) o.2, o.3)
-    | inr leads ↦ inr leads
-  ];
 }
   where
     gives : (k : ℕ) → RestsOn new.arrivals k → IsTrue (present P k) × IsTrue (gives_label (limit_in costs) (labels_in costs) (edge_at g k))
@@ -231,6 +226,25 @@ ways_found g P T targets nodes kept new costs light asked fit size source s = re
         let inside : t.node < g.nodes = (let known = fits.known in omega (arith, known, size)) in
         let way = light.lead t.node path.0 inside a.0 below in
         and_from (is_reached new.arrivals t.node) (admits t.limit (label_of (labels_in costs) t.node)) ((s.exact t.node (asked.each i d lt within)).1 way) within
+
+pub ways_found : (g : Digraph) (P T : List Bool) (targets : List WalkTarget) (nodes : List ℕ) (kept new : Reached) (costs : Option Costs) → IsLight g P T kept.source costs → AreAsked (labels_in costs) targets nodes
+    → All (IsTargetOf (ways_of kept costs)) targets → kept.nodes ≡ g.nodes → new.source ≡ kept.source → IsSearchTree g T kept.source nodes new.arrivals → AreWaysTo g P targets (ways_of new costs)
+ways_found g P T targets nodes kept new costs light asked fit size source s =
+    let w = ways_reached g P T targets nodes kept new costs light asked fit size source (record { tree = s.tree; exact = s.exact }) in
+    record {
+      tree = w.tree;
+      priced = w.priced;
+      exact = w.exact;
+      needed = λ i some lt. elim (s.needed.each i some lt) [
+        | inl there ↦
+            let o = asked.only (arrival_at new.arrivals i).node there in
+            inl (o.0, o.1, and_from (is_reached new.arrivals o.0.node) (admits o.0.limit (label_of (labels_in costs) o.0.node)) (subst (λ (v : ℕ). IsTrue (is_reached new.arrivals v)) (sym o.3) (reached_here new.arrivals i lt)) o.2, o.3)
+        | inr leads ↦ inr leads
+      ];
+    }
+
+pub reached_of_ways : (g : Digraph) (P : List Bool) (targets : List WalkTarget) (w : Ways) → AreWaysTo g P targets w → AreReachedWays g P targets w
+reached_of_ways g P targets w s = record { tree = s.tree; priced = s.priced; exact = s.exact }
 
 -- ---- while edges go and come
 

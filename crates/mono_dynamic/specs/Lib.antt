@@ -6,6 +6,7 @@ pub mod BySource
 pub mod Rows
 pub mod LeastRows
 pub mod SearchTrees
+pub mod Mending
 pub mod Ways
 pub mod Sources
 pub mod Targets

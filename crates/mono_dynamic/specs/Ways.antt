@@ -45,6 +45,12 @@ pub record IsTargetOf (w : Ways) (t : WalkTarget) : Type 0 where
 pub record IsPriced (g : Digraph) (w : Ways) : Type 0 where
   pub each : (k : ℕ) → RestsOn w.tree.arrivals k → label_of w.labels (edge_at g k).from + cost_of w.limit (edge_at g k) ≤ label_of w.labels (edge_at g k).to
 
+-- The tree is one in the part. Of these targets it has exactly those to which a walk in the part leads within the bound.
+pub record AreReachedWays (g : Digraph) (P : List Bool) (targets : List WalkTarget) (w : Ways) : Type 0 where
+  pub tree : IsTree g P w.tree.source w.tree.arrivals
+  pub priced : IsPriced g w
+  pub exact : All (λ t. IsTrue (has_target w t) ↔ ((ks : List ℕ) × IsTrue (is_path g P w.tree.source t.node t.limit ks))) targets
+
 -- The tree is one in the part. Of these targets it has exactly those to which a walk in the part leads within the bound, and
 -- it has nothing that isn't on the way to one of them.
 pub record AreWaysTo (g : Digraph) (P : List Bool) (targets : List WalkTarget) (w : Ways) : Type 0 where

@@ -18,6 +18,8 @@ mod cost_table;
 pub mod laws;
 /// What walks from one source cost at least.
 mod least_costs;
+/// Trees of walks that are mended.
+mod mending;
 /// Parts of a graph after a step.
 mod part_after;
 /// Nodes that are reached from one source.

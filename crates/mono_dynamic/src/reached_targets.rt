@@ -147,6 +147,14 @@ impl ReachedTargets {
         }
     }
 
+    /// Whether the tree rests on one of the edges at these places. Where an edge of it went, it isn't asked: the answer is free.
+    pub fn rests_on_any(&self, graph: &Graph, places: &[u32]) -> bool
+        requires size { self.now.ways.tree.nodes ≡ graph.now.nodes }
+        requires places { All (λ k. k < length graph.now.edges) places.now }
+    {
+        self.is_settled() && rests_on_any(&self.tree, graph, places)
+    }
+
     /// The edges of the steps after the first `kept` come back. It takes no memory, and tells of no more targets that they are
     /// out of reach.
     pub fn undo_to(&mut self, kept: u32)
@@ -162,7 +170,7 @@ impl ReachedTargets {
     /// Searches the part, which is that after so many steps. Whether all targets are reached. Where memory is missing, nothing
     /// is known of them.
     ///
-    /// What it costs, [`SearchTree::search`] says.
+    /// What it costs, [`SearchTree::renew`] says.
     pub fn search(
         &mut self,
         alloc: Global,
@@ -184,7 +192,7 @@ impl ReachedTargets {
         self.since = None;
         self.lost = None;
         let targets = self.targets.as_slice();
-        self.tree.search(alloc, room, graph, part, targets)?;
+        self.tree.renew(alloc, room, graph, part, targets)?;
         let whole = has_all(&self.tree, self.targets.as_slice());
         self.since = Some(known_since(whole, number));
         Ok(whole)

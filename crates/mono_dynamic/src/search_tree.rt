@@ -16,7 +16,7 @@ ghost use Rattle.mono_dynamic.specs.Costs.{label_of};
 ghost use Rattle.mono_dynamic.specs.LeastRows.{IsCostSource};
 ghost use Rattle.mono_dynamic.specs.Rows.{alone};
 ghost use Rattle.mono_dynamic.specs.SearchTrees.{RestsOn};
-ghost use Rattle.mono_dynamic.specs.Ways.{cap_in, first_costs, first_ways, has_target, labels_in, limit_in, searched_part, ways_of, AreAsked, AreFrom, AreWaysTo, IsLight, IsSameSource, IsTargetOf};
+ghost use Rattle.mono_dynamic.specs.Ways.{cap_in, first_costs, first_ways, has_target, labels_in, limit_in, searched_part, ways_of, AreAsked, AreFrom, AreReachedWays, AreWaysTo, IsLight, IsSameSource, IsTargetOf};
 
 use crate::cost_source::{CostSource, measure_of};
 use crate::least_costs::LeastCosts;
@@ -166,6 +166,48 @@ fn search_ways(
     Ok(())
 }
 
+/// Whether walks cost nothing, and the tree has more than its source.
+fn can_be_mended(kept: &ReachedNodes, costs: &Option<LeastCosts>) -> bool
+    ensures { IsTrue result → costs.now ≡ None }
+{
+    match costs {
+        None => kept.count() > 1,
+        Some(_) => false,
+    }
+}
+
+/// Mends a tree of walks that cost nothing. Where memory is missing, it is the source alone.
+fn mend_ways(
+    alloc: Global,
+    kept: &mut ReachedNodes,
+    room: &mut TreeSearch,
+    graph: &Graph,
+    part: &Part,
+    targets: &[WalkTarget],
+) -> Result<(), AllocError>
+    requires size { kept.old.nodes ≡ graph.now.nodes }
+    requires room { room.old ≡ graph.now.nodes }
+    requires part { IsPartOf part.now graph.now }
+    requires targets { All (IsTargetOf (ways_of kept.old None)) targets.now }
+    ensures room { room.new ≡ room.old }
+    ensures nodes { kept.new.nodes ≡ kept.old.nodes }
+    ensures source { kept.new.source ≡ kept.old.source }
+    ensures ways { OnOk result (AreReachedWays graph.now part.now targets.now (ways_of kept.new None)) }
+    ensures alone { OnErr result (kept.new ≡ alone kept.old.nodes kept.old.source) }
+{
+    match asked_nodes(alloc, &None, targets) {
+        Ok(nodes) => {
+            room.mend(kept, graph, part, nodes.as_slice());
+            Ok(())
+        }
+        Err(error) => {
+            let source = kept.source();
+            kept.restart(source);
+            Err(error)
+        }
+    }
+}
+
 impl SearchTree {
     /// The source alone. The graph has this many nodes, at most [`MAX_NODES`].
     pub fn new(alloc: Global, nodes: u32, source: CostSource) -> Result<Self, AllocError>
@@ -204,6 +246,35 @@ impl SearchTree {
         self.kept.restart(source);
         let costs = &mut self.costs;
         search_ways(alloc, &mut self.kept, costs, room, graph, part, targets)?;
+        Ok(())
+    }
+
+    /// As [`SearchTree::search`], but where walks cost nothing a tree that has more than its source is mended: it keeps what its
+    /// edges that are present still lead to, and what isn't on the way to a target too.
+    ///
+    /// A mend costs a look at the tree, at the targets, and at what lies about those that were cut off.
+    pub(crate) fn renew(
+        &mut self,
+        alloc: Global,
+        room: &mut TreeSearch,
+        graph: &Graph,
+        part: &Part,
+        targets: &[WalkTarget],
+    ) -> Result<(), AllocError>
+        requires size { self.old.tree.nodes ≡ graph.now.nodes }
+        requires room { room.old ≡ graph.now.nodes }
+        requires part { IsPartOf part.now graph.now }
+        requires targets { All (IsTargetOf self.old) targets.now }
+        ensures from { IsSameSource self.old self.new }
+        ensures ways { OnOk result (AreReachedWays graph.now part.now targets.now self.new) }
+        ensures alone { OnErr result (self.new.tree ≡ alone self.old.tree.nodes self.old.tree.source) }
+        ensures room { room.new ≡ room.old }
+    {
+        if can_be_mended(&self.kept, &self.costs) {
+            mend_ways(alloc, &mut self.kept, room, graph, part, targets)?;
+            return Ok(());
+        }
+        self.search(alloc, room, graph, part, targets)?;
         Ok(())
     }
 

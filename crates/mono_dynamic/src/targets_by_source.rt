@@ -185,6 +185,19 @@ impl TargetsBySource {
         shrink_each(&mut self.rows, graph, places, number);
     }
 
+    /// Whether the tree of a row rests on one of the edges at these places. It costs the places for each row. The answer is free.
+    pub fn rest_on_any(&self, graph: &Graph, places: &[u32]) -> bool
+        requires nodes { self.now.nodes ≡ graph.now.nodes }
+        requires places { All (λ k. k < length graph.now.edges) places.now }
+    {
+        for row in self.rows.iter() {
+            if row.rests_on_any(graph, places) {
+                return true;
+            }
+        }
+        false
+    }
+
     /// The edges of the steps after the first `kept` come back. It costs a look at each row.
     pub fn undo_to(&mut self, kept: u32)
         ensures nodes { self.new.nodes ≡ self.old.nodes }

@@ -7,10 +7,12 @@
 ghost use Rattle.std.specs.Prelude.{◌≡◌, ◌-◌, ◌<◌, ◌≤◌, ◌∷◌, ◌⊎◌, [], ℕ, List, false, All, IfOk, IsTrue, length, slice_index_or, vec_capacity};
 ghost use Rattle.mono_graph.specs.Digraph.{IsPartOf};
 ghost use Rattle.mono_dynamic.specs.Arrivals.{arrival_at, is_reached};
+ghost use Rattle.mono_dynamic.specs.Mending.{IsMendedTree};
 ghost use Rattle.mono_dynamic.specs.Rows.{alone};
 ghost use Rattle.mono_dynamic.specs.SearchTrees.{IsSearching, IsSearchTree, IsWay, IsJoined, IsAttached, HasWay};
 
 use crate::arrival::Arrival;
+use crate::mending::mend;
 use crate::reached_nodes::ReachedNodes;
 use mono_base::limits::MAX_NODES;
 use mono_graph::{Graph, Part};
@@ -203,5 +205,26 @@ impl TreeSearch {
         ensures tree { IsSearchTree graph.now part.now tree.old.source targets.now tree.new.arrivals }
     {
         search_all(&mut self.found, &mut self.way, tree, graph, part, targets);
+    }
+
+    /// Mends a tree: of these nodes it then has those to which walks lead. It costs a look at what is left of the tree, and at
+    /// what lies about the nodes that were cut off.
+    pub(crate) fn mend(
+        &mut self,
+        tree: &mut ReachedNodes,
+        graph: &Graph,
+        part: &Part,
+        targets: &[u32],
+    )
+        requires room { self.old ≡ graph.now.nodes }
+        requires part { IsPartOf part.now graph.now }
+        requires targets { All (λ v. v < graph.now.nodes) targets.now }
+        requires size { tree.old.nodes ≡ graph.now.nodes }
+        ensures room { self.new ≡ self.old }
+        ensures size { tree.new.nodes ≡ graph.now.nodes }
+        ensures source { tree.new.source ≡ tree.old.source }
+        ensures tree { IsMendedTree graph.now part.now tree.old.source targets.now tree.new.arrivals }
+    {
+        mend(&mut self.found, &mut self.way, tree, graph, part, targets);
     }
 }

@@ -7,3 +7,4 @@ pub mod KeptFlowsAreFlows
 pub mod KeptFlowsDecide
 pub mod KeptFlowsStay
 pub mod WorkedRows
+pub mod FlowsRead

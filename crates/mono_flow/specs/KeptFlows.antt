@@ -66,10 +66,14 @@ pub record AreBothDecided (s : GraphTheoryView SideView SideView) : Type 0 where
   pub surely : NoneWaits s.surely.stages
   pub possibly : NoneWaits s.possibly.stages
 
--- the flow along the possibly present edges gives something to an edge that the literal takes away
-pub record LosesFlow (g : Digraph) (l : ℤ) (s : SideView) (a : ℕ) : Type 0 where
+-- a flow gives something to an edge that the literal takes away
+pub record GivesToLost (g : Digraph) (l : ℤ) (flow : ℕ → ℕ) : Type 0 where
   pub edge : ℕ
   pub held : edge < length g.edges
   pub var : (edge_at g edge).var ≡ var_of l
   pub absent : int_lt (pos 0) l ≡ false
-  pub carried : 0 < carried_at g (over_flow s a) edge
+  pub carried : 0 < flow edge
+
+-- the flow along the possibly present edges does
+abbrev pub LosesFlow : Digraph → ℤ → SideView → ℕ → Type 0
+LosesFlow g l s a = GivesToLost g l (carried_at g (over_flow s a))

@@ -159,11 +159,12 @@ impl Flow {
         ensures distinct { IfOk result (λ found. IsDistinct found.answer) }
         ensures value { IfOk result (λ found. HasValue graph.now part.now source found.value found.answer) }
     {
-        let mut flow = self.kept.take(alloc, graph, part, source, sink);
+        let mut flow = self.kept.choose(alloc, graph, part, source, sink)?;
         let found = self
             .finder
             .find_flow_from(alloc, graph, part, source, sink, least, &mut flow)?;
-        self.kept.put(source, sink, flow)?;
+        let is_whole = matches!(&found.answer, FlowOrCut::Flow(_));
+        self.kept.put(alloc, source, sink, flow, is_whole)?;
         Ok(found)
     }
 
@@ -208,7 +209,7 @@ impl Kind for Flow {
 
     ghost IS_THOROUGH = { true };
 
-    const FOLLOWS_WITNESS: bool = true;
+    const MOST_FOLLOWED: u32 = u32::MAX;
 
     fn with_nodes(alloc: Global, count: u32) -> Result<Self, AllocError> {
         let finder = FlowFinder::new(alloc, count)?;

@@ -1,23 +1,25 @@
 //! Flows that earlier searches came to, with which later ones begin.
 //!
-//! Nothing is claimed of them: a search tests what it begins with. Of a source and a sink one flow is kept, the one to
-//! which the last search between them came, whether it carries as much as was asked for or not. The surely present
-//! edges mostly carry less and the possibly present ones more; but a flow kept apart for either would be older, and to
-//! mend it costs more than to begin with the last.
+//! Nothing is claimed of them: a search tests what it begins with. Of a source and a sink two flows are kept: the last that
+//! carried as much as was asked for, and the last that carried less. The possibly present edges mostly carry enough, and
+//! lose an edge here and there: then the former is nearly whole, and is mended near the gap. The surely present edges
+//! mostly carry less, and most edges of the former are none of theirs.
 
-ghost use Rattle.std.specs.Prelude.{◌<◌, All, IfSome, IsTrue, length};
+ghost use Rattle.std.specs.Prelude.{◌<◌, ◌≤◌, All, IfOk, IfSome, IsTrue, length};
 ghost use Rattle.mono_graph.specs.Digraph.{IsPartOf};
 
 use mono_graph::{Amount, Graph, Part};
 use std::alloc::{AllocError, Global};
-use std::mem;
 
-/// A flow from one node to another.
+/// Flows from one node to another.
 #[derive(Drop)]
 struct KeptFlow {
     source: u32,
     sink: u32,
-    amounts: Vec<Amount>,
+    /// The last that carried as much as was asked for.
+    whole: Vec<Amount>,
+    /// The last that carried less.
+    less: Vec<Amount>,
 }
 
 /// The flows that are kept.
@@ -26,16 +28,18 @@ pub(crate) struct KeptFlows {
     flows: Vec<KeptFlow>,
 }
 
-/// Whether one of the edges is present.
-fn is_any_present(graph: &Graph, part: &Part, amounts: &[Amount]) -> bool
-    requires { IsPartOf part.now graph.now }
+/// How many of the edges are present.
+fn present_count(part: &Part, amounts: &[Amount]) -> usize
+    requires { All (λ a. a.edge < length part.now) amounts.now }
+    ensures { result ≤ length amounts.now }
 {
+    let mut count = 0;
     for amount in amounts {
-        if amount.edge < graph.edge_count() && part.has(amount.edge) {
-            return true;
+        if part.has(amount.edge) {
+            count += 1;
         }
     }
-    false
+    count
 }
 
 /// Whether all edges are of the graph.
@@ -48,6 +52,18 @@ fn are_known(graph: &Graph, amounts: &[Amount]) -> bool
         }
     }
     true
+}
+
+/// Whether all edges are of the graph, and at least three quarters of them present.
+fn is_nearly_whole(graph: &Graph, part: &Part, amounts: &[Amount]) -> bool
+    requires { IsPartOf part.now graph.now }
+    ensures { IsTrue result → All (λ a. a.edge < length graph.now.edges) amounts.now }
+{
+    if amounts.is_empty() || !are_known(graph, amounts) {
+        return false;
+    }
+    let present = present_count(part, amounts);
+    amounts.len() - present <= amounts.len() / 4
 }
 
 impl KeptFlows {
@@ -71,45 +87,63 @@ impl KeptFlows {
         None
     }
 
-    /// Takes the flow between the nodes; nothing where none of its edges is present.
-    pub(crate) fn take(
-        &mut self,
+    /// The place of the flows between the nodes, which is made where there is none.
+    fn place_for(&mut self, alloc: Global, source: u32, sink: u32) -> Result<usize, AllocError>
+        ensures { IfOk result (λ place. place < length self.new.flows.items) }
+    {
+        if let Some(place) = self.place_of(source, sink) {
+            return Ok(place);
+        }
+        let place = self.flows.len();
+        self.flows.push(KeptFlow {
+            source,
+            sink,
+            whole: Vec::new(alloc),
+            less: Vec::new(alloc),
+        })?;
+        Ok(place)
+    }
+
+    /// A flow between the nodes with which a search of the part may well begin, if one is kept.
+    pub(crate) fn choose(
+        &self,
         alloc: Global,
         graph: &Graph,
         part: &Part,
         source: u32,
         sink: u32,
-    ) -> Vec<Amount>
+    ) -> Result<Vec<Amount>, AllocError>
         requires { IsPartOf part.now graph.now }
-        ensures { All (λ a. a.edge < length graph.now.edges) result.items }
+        ensures { IfOk result (λ flow. All (λ a. a.edge < length graph.now.edges) flow.items) }
     {
         let Some(place) = self.place_of(source, sink) else {
-            return Vec::new(alloc);
+            return Ok(Vec::new(alloc));
         };
-        let amounts = mem::replace(&mut self.flows[place].amounts, Vec::new(alloc));
-        let listed = amounts.as_slice();
-        if are_known(graph, listed) && is_any_present(graph, part, listed) {
-            return amounts;
+        let flow = &self.flows[place];
+        if is_nearly_whole(graph, part, flow.whole.as_slice()) {
+            return Vec::from_slice(alloc, flow.whole.as_slice());
         }
-        Vec::new(alloc)
+        if are_known(graph, flow.less.as_slice()) && present_count(part, flow.less.as_slice()) > 0 {
+            return Vec::from_slice(alloc, flow.less.as_slice());
+        }
+        Ok(Vec::new(alloc))
     }
 
-    /// Keeps the flow in place of the last between these nodes.
+    /// Keeps a flow in place of the last of its sort between these nodes.
     pub(crate) fn put(
         &mut self,
+        alloc: Global,
         source: u32,
         sink: u32,
         amounts: Vec<Amount>,
+        is_whole: bool,
     ) -> Result<(), AllocError> {
-        if let Some(place) = self.place_of(source, sink) {
-            self.flows[place].amounts = amounts;
-            return Ok(());
+        let place = self.place_for(alloc, source, sink)?;
+        if is_whole {
+            self.flows[place].whole = amounts;
+        } else {
+            self.flows[place].less = amounts;
         }
-        self.flows.push(KeptFlow {
-            source,
-            sink,
-            amounts,
-        })?;
         Ok(())
     }
 }

@@ -1,10 +1,11 @@
 -- Amounts change along an augmenting path, from its end to its beginning.
-use Rattle.std.proofs.Common.{◌≡◌, ◌≢◌, ℕ, ◌+◌, ◌-◌, ◌<◌, ◌≤◌, Bool, true, false, ◌==◌, List, length, set, refl, sym, ap, subst, ◌∙◌, inl, inr, arith}
-use Rattle.std.specs.Prelude.{if◌then◌else◌}
+use Rattle.std.proofs.Common.{◌≡◌, ◌≢◌, ℕ, ◌+◌, ◌-◌, ◌<◌, ◌≤◌, Bool, true, false, ◌==◌, List, [], ◌∷◌, ◌++◌, length, set, refl, sym, ap, subst, ◌∙◌, inl, inr, arith}
+use Rattle.std.specs.Prelude.{IsTrue, if◌then◌else◌}
 use Rattle.std.proofs.lemmas.Bool.{cases_eq, eq-eqb, ne_eqb}
 use Rattle.std.proofs.lemmas.List.{get_or-set_same, get_or-set_other}
-use Rattle.mono_graph.specs.Digraph.{Digraph, edge_at}
+use Rattle.mono_graph.specs.Digraph.{Digraph, edge_at, has}
 use Rattle.mono_graph.specs.Flows.{inflow, outflow}
+use Rattle.mono_graph.proofs.Prefixes.{has_new, has_old}
 use Rattle.mono_flows.proofs.OneEdge.{moved_outflow, moved_inflow}
 use Rattle.mono_flows.specs.declared.visit.Visit.{Visit}
 use Rattle.mono_flows.specs.Flowing.{IsFlowing}
@@ -76,6 +77,16 @@ set_other fs k x j ne = get_or-set_other fs k j x 0 ne
 plus_flag : (b : Bool) (x e : ℕ) → (if b then (x + e) else 0) ≡ (if b then x else 0) + (if b then e else 0)
 plus_flag true x e = refl
 plus_flag false x e = refl
+
+-- the edges that carry something are touched
+abbrev pub AreTouched : List ℕ → List ℕ → Type 0
+AreTouched fs ks = (k : ℕ) → 0 < amount_of fs k → IsTrue (has ks k)
+
+pub touched_more : (fs ks : List ℕ) (x v : ℕ) → AreTouched fs ks → AreTouched (set fs x v) (ks ++ x ∷ [])
+touched_more fs ks x v h = λ k some. elim (cases_eq x k) [
+  | inl e ↦ subst (λ (j : ℕ). IsTrue (has (ks ++ x ∷ []) j)) e (has_new ks x)
+  | inr ne ↦ has_old ks x k (h k (subst (λ (n : ℕ). 0 < n) (set_other fs x v k (λ e. ne (sym e))) some))
+]
 
 -- the amount at the edge of a visit changes, and no other
 stepped : (g : Digraph) (P : List Bool) (s t most extra : ℕ) (vs : List Visit) (f0 f f' : ℕ → ℕ) (at : ℕ) → IsAugmentingPath g P f0 s t most vs → 0 < at → Moving g P t extra vs f0 f at

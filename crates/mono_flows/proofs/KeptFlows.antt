@@ -44,11 +44,11 @@ tested_flow g P s t xs out into value known distinct carried tallied balanced su
 
 -- ---- the amounts by place
 
-push_other : (xs : List Amount) (a : Amount) (k : ℕ) → (a.edge ≢ k) → amount_at (xs ++ a ∷ []) k ≡ amount_at xs k
+pub push_other : (xs : List Amount) (a : Amount) (k : ℕ) → (a.edge ≢ k) → amount_at (xs ++ a ∷ []) k ≡ amount_at xs k
 push_other [] a k ne = ap (λ (b : Bool). if b then a.amount else 0) (ne_eqb a.edge k ne)
 push_other (x ∷ xs) a k ne = ap (λ (n : ℕ). if x.edge == k then x.amount else n) (push_other xs a k ne)
 
-push_new : (xs : List Amount) (a : Amount) → has (edges_of xs) a.edge ≡ false → amount_at (xs ++ a ∷ []) a.edge ≡ a.amount
+pub push_new : (xs : List Amount) (a : Amount) → has (edges_of xs) a.edge ≡ false → amount_at (xs ++ a ∷ []) a.edge ≡ a.amount
 push_new [] a h = ap (λ (b : Bool). if b then a.amount else 0) (eq-eqb a.edge a.edge refl)
 push_new (x ∷ xs) a h = one (x.edge == a.edge) h (push_new xs a)
   where
@@ -84,3 +84,12 @@ carried_all {xs = xs} {i = i} le h k = h.each k ∙ ap (λ (ys : List Amount). a
 -- the same amounts are the same flow
 pub same_flowing : {g : Digraph} {P : List Bool} {s t : ℕ} {f : ℕ → ℕ} {value : ℕ} (h : ℕ → ℕ) → ((k : ℕ) → h k ≡ f k) → IsFlowing g P s t f value → IsFlowing g P s t h value
 same_flowing {g = g} {P = P} {s = s} {t = t} {f = f} {value = value} h same flow = subst (λ (e : ℕ → ℕ). IsFlowing g P s t e value) (sym (fun_ext same)) flow
+
+-- what carries something is listed
+pub carrying_listed : (xs : List Amount) (k : ℕ) → 0 < amount_at xs k → IsTrue (has (edges_of xs) k)
+carrying_listed [] k h = absurd (omega arith)
+carrying_listed (a ∷ xs) k h = one (a.edge == k) h (carrying_listed xs k)
+  where
+    one : (b : Bool) → 0 < (if b then a.amount else amount_at xs k) → (0 < amount_at xs k → IsTrue (has (edges_of xs) k)) → IsTrue (b || has (edges_of xs) k)
+    one true here later = refl
+    one false here later = later here

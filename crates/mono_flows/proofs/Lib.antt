@@ -9,3 +9,4 @@ pub mod LevelPaths
 pub mod Balances
 pub mod Decides
 pub mod KeptFlows
+pub mod Draining

@@ -1,42 +1,34 @@
 -- A flow of the value that is sought passes, and so does the set of marked nodes where no more can be carried.
-use Rattle.std.proofs.Common.{◌≡◌, ◌≢◌, ℕ, zero, suc, ◌+◌, ◌<◌, ◌≤◌, Bool, true, false, not, ◌&&◌, ◌||◌, ◌==◌, cond, List, [], ◌∷◌, length, map, filter, replicate, refl, sym, ap, subst, ◌∙◌, inl, inr, arith, ℤ, pos, ◌-ℤ◌, int_lt, int_le}
-use Rattle.std.specs.Prelude.{IsTrue, All, nat_lt, nat_le, if◌then◌else◌}
+use Rattle.std.proofs.Common.{◌≡◌, ◌≢◌, ℕ, zero, suc, ◌+◌, ◌<◌, ◌≤◌, Bool, true, false, not, ◌&&◌, ◌||◌, ◌==◌, cond, List, ◌∷◌, length, filter, refl, sym, ap, ◌∙◌, inl, inr, arith, ℤ, pos, ◌-ℤ◌, int_lt, int_le}
+use Rattle.std.specs.Prelude.{IsTrue, All, nat_le, if◌then◌else◌}
 use Rattle.std.specs.List.{range_with_len}
-use Rattle.std.proofs.lemmas.Bool.{and_from, and_parts, or_left, or_right, cases_eq, cases_lt, lt-ltb, le-leb, eq-eqb, ne_eqb, not-true, not_from_false, false_from_ne_true, both_ways}
-use Rattle.std.proofs.lemmas.List.{get_or-replicate, length-replicate, get_or_past}
-use Rattle.std.proofs.lemmas.List.Elements.{All-nil, All-cons, All-weaker, All-map, All-filter}
+use Rattle.std.proofs.lemmas.Bool.{and_from, and_parts, or_left, or_right, cases_eq, cases_lt, le-leb, eq-eqb, not-true, not_from_false, false_from_ne_true, both_ways}
+use Rattle.std.proofs.lemmas.List.Elements.{All-nil, All-cons, All-weaker, All-filter}
 use Rattle.std.proofs.lemmas.Int.{ints}
-use Rattle.mono_base.specs.declared.limits.TheConstants.{MAX_WITNESS_VALUE}
 use Rattle.mono_graph.specs.Digraph.{Digraph, present, present_by, places, edge_at, has, leads_out, is_distinct, weight_of, HasEnds}
 use Rattle.mono_graph.specs.Flows.{is_flow, is_within, is_conserved, inflow, outflow, value_of, is_flow_of, is_flow_cut, amount_at}
 use Rattle.mono_graph.proofs.Places.{all_of}
 use Rattle.mono_graph.proofs.Membership.{has_filter, filter_has, has_range, range_has}
 use Rattle.mono_graph.proofs.CutsBoundFlows.{total_is, flow_value_bounded}
-use Rattle.mono_flows.proofs.OneEdge.{none, same_inflow, same_outflow, flow_value_reached}
+use Rattle.mono_flows.proofs.OneEdge.{none, flow_value_reached}
 use Rattle.mono_graph.specs.declared.amount.Amount.{Amount}
 use Rattle.mono_flows.specs.Answers.{IsFlowOfValue}
 use Rattle.mono_flows.specs.Flowing.{IsFlowing}
-use Rattle.mono_flows.specs.Residual.{capacity, amount_of}
+use Rattle.mono_flows.specs.Listed.{edges_of}
+use Rattle.mono_flows.specs.Residual.{capacity}
 use Rattle.mono_flows.specs.Visits.{is_marked, IsBlocked}
 
 -- ---- the flow that carries nothing
 
-pub zero_at : (n k : ℕ) → amount_of (replicate n 0) k ≡ 0
-zero_at n k = elim (cases_lt k n) [
-  | inl lt ↦ get_or-replicate n k 0 0 lt
-  | inr past ↦ get_or_past (replicate n 0) k 0 (let long : length (replicate {A = ℕ} n 0) ≡ n = length-replicate n 0 in omega (arith, long))
-]
-
-pub nothing : (g : Digraph) (P : List Bool) (s t n : ℕ) → IsFlowing g P s t (amount_of (replicate n 0)) 0
-nothing g P s t n =
-    let f : ℕ → ℕ = amount_of (replicate n 0) in
-    let out : (u : ℕ) → outflow g f u ≡ 0 = λ u. total_is f (λ k. (edge_at g k).from == u) (places g) ∙ none f (λ k. (edge_at g k).from == u) 0 (length g.edges) (λ k low high h. zero_at n k) in
-    let into : (u : ℕ) → inflow g f u ≡ 0 = λ u. total_is f (λ k. (edge_at g k).to == u) (places g) ∙ none f (λ k. (edge_at g k).to == u) 0 (length g.edges) (λ k low high h. zero_at n k) in
+pub nothing : (g : Digraph) (P : List Bool) (s t : ℕ) (f : ℕ → ℕ) → ((k : ℕ) → f k ≡ 0) → IsFlowing g P s t f 0
+nothing g P s t f empty =
+    let out : (u : ℕ) → outflow g f u ≡ 0 = λ u. total_is f (λ k. (edge_at g k).from == u) (places g) ∙ none f (λ k. (edge_at g k).from == u) 0 (length g.edges) (λ k low high h. empty k) in
+    let into : (u : ℕ) → inflow g f u ≡ 0 = λ u. total_is f (λ k. (edge_at g k).to == u) (places g) ∙ none f (λ k. (edge_at g k).to == u) 0 (length g.edges) (λ k low high h. empty k) in
     record {
-      within = λ k lt. omega (arith, zero_at n k);
+      within = λ k lt. omega (arith, empty k);
       balanced = λ u not-s not-t. into u ∙ sym (out u);
       source = omega (arith, into s, out s);
-      small = λ k. omega (arith, zero_at n k);
+      small = λ k. omega (arith, empty k);
     }
 
 -- ---- a flow passes
@@ -134,20 +126,6 @@ marked_known marks n = All-filter (is_marked marks) (λ u. u < n) (range_with_le
 
 -- ---- the flow
 
-abbrev pub carrying : List ℕ → ℕ → List ℕ
-carrying fs n = filter (λ k. nat_lt 0 (amount_of fs k)) (range_with_len 0 n)
-
-abbrev pub carried_by : List ℕ → ℕ → Amount
-carried_by fs k = record { edge = k; amount = amount_of fs k }
-
--- the amounts at these places
-abbrev pub listed : List ℕ → List ℕ → List Amount
-listed fs ks = map (carried_by fs) ks
-
-firsts : (fs ks : List ℕ) → map (λ (a : Amount). a.edge) (listed fs ks) ≡ ks
-firsts fs [] = refl
-firsts fs (k ∷ ks) = ap (λ (js : List ℕ). k ∷ js) (firsts fs ks)
-
 pub range_distinct : (p : ℕ → Bool) (a n : ℕ) → IsTrue (is_distinct (filter p (range_with_len a n)))
 range_distinct p a zero = refl
 range_distinct p a (suc n) = by_test (p a) (range_distinct p (a + 1) n)
@@ -158,75 +136,23 @@ range_distinct p a (suc n) = by_test (p a) (range_distinct p (a + 1) n)
         (not_from_false (has (filter p (range_with_len (a + 1) n)) a) (false_from_ne_true (has (filter p (range_with_len (a + 1) n)) a)
         (λ t. let r = range_has (a + 1) n a (filter_has p (range_with_len (a + 1) n) a t).0 in absurd (omega (arith, r.0))))) rest
 
-pub amount_is : (fs : List ℕ) (a n k : ℕ) → a ≤ k → k < a + n → amount_at (listed fs (filter (λ j. nat_lt 0 (amount_of fs j)) (range_with_len a n))) k ≡ amount_of fs k
-amount_is fs a zero k low high = absurd (omega arith)
-amount_is fs a (suc n) k low high = by_test (nat_lt 0 (amount_of fs a)) refl (λ le. amount_is fs (a + 1) n k le (omega arith))
-  where
-    past : (m i : ℕ) → k < i → amount_at (listed fs (filter (λ j. nat_lt 0 (amount_of fs j)) (range_with_len i m))) k ≡ 0
-    past zero i lt = refl
-    past (suc m) i lt = choose (nat_lt 0 (amount_of fs i)) (past m (i + 1) (omega arith))
-      where
-        choose : (b : Bool) → amount_at (listed fs (filter (λ j. nat_lt 0 (amount_of fs j)) (range_with_len (i + 1) m))) k ≡ 0
-            → amount_at (listed fs (cond b (i ∷ filter (λ j. nat_lt 0 (amount_of fs j)) (range_with_len (i + 1) m)) (filter (λ j. nat_lt 0 (amount_of fs j)) (range_with_len (i + 1) m)))) k ≡ 0
-        choose false h = h
-        choose true h = rw (ne_eqb i k (λ e. omega arith)) h
-
-    by_test : (b : Bool) → nat_lt 0 (amount_of fs a) ≡ b → (a + 1 ≤ k → amount_at (listed fs (filter (λ j. nat_lt 0 (amount_of fs j)) (range_with_len (a + 1) n))) k ≡ amount_of fs k)
-        → amount_at (listed fs (cond b (a ∷ filter (λ j. nat_lt 0 (amount_of fs j)) (range_with_len (a + 1) n)) (filter (λ j. nat_lt 0 (amount_of fs j)) (range_with_len (a + 1) n)))) k ≡ amount_of fs k
-    by_test true e h = elim (cases_eq a k) [
-      | inl same ↦ rw (eq-eqb a k same) (ap (λ (x : ℕ). amount_of fs x) same)
-      | inr ne ↦ rw (ne_eqb a k ne) (h (omega arith))
-    ]
-    by_test false e h = elim (cases_eq a k) [
-      | inl same ↦ past n (a + 1) (omega arith) ∙ sym (at_zero same)
-      | inr ne ↦ h (omega arith)
-    ]
-      where
-        at_zero : a ≡ k → amount_of fs k ≡ 0
-        at_zero same = elim (cases_lt 0 (amount_of fs a)) [
-          | inl lt ↦ absurd (both_ways (nat_lt 0 (amount_of fs a)) e (lt-ltb 0 (amount_of fs a) lt))
-          | inr le ↦ let at : amount_of fs a ≡ amount_of fs k = ap (λ (x : ℕ). amount_of fs x) same in omega (arith, at, le)
-        ]
-
 at_least : (i o v n : ℕ) (least : ℤ) → least ≡ pos n → n ≤ v → o ≡ i + v → IsTrue (int_le least (pos o -ℤ pos i))
 at_least i o v n least e le sum = grind (arith, ints)
 
-pub flow_passes : (g : Digraph) (P : List Bool) (s t : ℕ) (fs : List ℕ) (value n : ℕ) (least : ℤ) → IsFlowing g P s t (amount_of fs) value → least ≡ pos n → n ≤ value
-    → IsTrue (is_flow_of g P s t least (listed fs (carrying fs (length g.edges))))
-flow_passes g P s t fs value n least flow least-is enough =
-    let ps : List Amount = listed fs (carrying fs (length g.edges)) in
-    let f : ℕ → ℕ = amount_of fs in
-    let f' : ℕ → ℕ = amount_at ps in
-    let same : (k : ℕ) → k < length g.edges → f' k ≡ f k = λ k lt. amount_is fs 0 (length g.edges) k (omega arith) (omega arith) in
-    let out : (u : ℕ) → outflow g f' u ≡ outflow g f u = λ u. same_outflow g f f' u same in
-    let into : (u : ℕ) → inflow g f' u ≡ inflow g f u = λ u. same_inflow g f f' u same in
-    and_from (is_distinct (map (λ (a : Amount). a.edge) ps) && is_flow g P s t f') (int_le least (value_of g s f'))
-    (and_from (is_distinct (map (λ (a : Amount). a.edge) ps)) (is_flow g P s t f')
-    (subst (λ (ks : List ℕ). IsTrue (is_distinct ks)) (sym (firsts fs (carrying fs (length g.edges)))) (range_distinct (λ k. nat_lt 0 (amount_of fs k)) 0 (length g.edges)))
-    (and_from (is_within g P f') (is_conserved g s t f')
-    (all_of (λ k. nat_le (f' k) (if present P k then (edge_at g k).weight else 0)) 0 (length g.edges) (λ k low high.
-    le-leb (f' k) (capacity g P k) (let w = flow.within k (omega arith) in omega (arith, w, same k (omega arith)))))
-    (all_of (λ u. u == s || u == t || inflow g f' u == outflow g f' u) 0 g.nodes (λ u low high. conserved_at s t u (inflow g f' u) (outflow g f' u) (λ not-s not-t. into u ∙ (flow.balanced u not-s not-t ∙ sym (out u)))))))
-    (at_least (inflow g f' s) (outflow g f' s) value n least least-is enough (let source = flow.source in omega (arith, source, into s, out s)))
+-- a list in which no edge stands twice, of at least this value
+pub flow_passes : {g : Digraph} {P : List Bool} {s t : ℕ} {value : ℕ} (xs : List Amount) (n : ℕ) → IsFlowing g P s t (amount_at xs) value → IsTrue (is_distinct (edges_of xs)) → n ≤ value
+    → IsTrue (is_flow_of g P s t (pos n) xs)
+flow_passes {g = g} {P = P} {s = s} {t = t} {value = value} xs n flow distinct enough =
+    let f : ℕ → ℕ = amount_at xs in
+    and_from (is_distinct (edges_of xs) && is_flow g P s t f) (int_le (pos n) (value_of g s f))
+    (and_from (is_distinct (edges_of xs)) (is_flow g P s t f) distinct (flowing_passes flow))
+    (at_least (inflow g f s) (outflow g f s) value n (pos n) refl enough flow.source)
 
 value_exact : (i o v : ℕ) → o ≡ i + v → (pos o -ℤ pos i) ≡ pos v
 value_exact i o v sum = grind (arith, ints)
 
-pub flow_value : (g : Digraph) (P : List Bool) (s t : ℕ) (fs : List ℕ) (value : ℕ) → IsFlowing g P s t (amount_of fs) value → value_of g s (amount_at (listed fs (carrying fs (length g.edges)))) ≡ pos value
-flow_value g P s t fs value flow =
-    let f : ℕ → ℕ = amount_of fs in
-    let f' : ℕ → ℕ = amount_at (listed fs (carrying fs (length g.edges))) in
-    let same : (k : ℕ) → k < length g.edges → f' k ≡ f k = λ k lt. amount_is fs 0 (length g.edges) k (omega arith) (omega arith) in
-    value_exact (inflow g f' s) (outflow g f' s) value (let source = flow.source in omega (arith, source, same_inflow g f f' s same, same_outflow g f f' s same))
+pub flow_value : {g : Digraph} {P : List Bool} {s t : ℕ} {f : ℕ → ℕ} {value : ℕ} → IsFlowing g P s t f value → value_of g s f ≡ pos value
+flow_value {g = g} {s = s} {f = f} {value = value} flow = value_exact (inflow g f s) (outflow g f s) value flow.source
 
-pub flow_is : (g : Digraph) (P : List Bool) (s t : ℕ) (fs : List ℕ) (value : ℕ) → IsFlowing g P s t (amount_of fs) value → IsFlowOfValue g P s t value (listed fs (carrying fs (length g.edges)))
-flow_is g P s t fs value flow = record { passes = flow_passes g P s t fs value value (pos value) flow refl (omega arith); value = flow_value g P s t fs value flow }
-
-pub carried_known : (fs : List ℕ) (n : ℕ) → All (λ (a : Amount). a.edge < n) (map (carried_by fs) (carrying fs n))
-carried_known fs n = All-map (λ (a : Amount). a.edge < n) (carried_by fs) (carrying fs n)
-    (All-filter (λ k. nat_lt 0 (amount_of fs k)) (λ k. k < n) (range_with_len 0 n) (All-weaker (λ k. k < 0 + n) (λ k. k < n) (λ k p. omega arith) (range_with_len 0 n) (range_below 0 n)))
-
-pub carried_small : (fs : List ℕ) (n v : ℕ) → ((k : ℕ) → amount_of fs k ≤ v) → v ≤ MAX_WITNESS_VALUE → All (λ (a : Amount). a.amount ≤ MAX_WITNESS_VALUE) (map (carried_by fs) (carrying fs n))
-carried_small fs n v small low = All-map (λ (a : Amount). a.amount ≤ MAX_WITNESS_VALUE) (carried_by fs) (carrying fs n)
-    (All-filter (λ k. nat_lt 0 (amount_of fs k)) (λ k. amount_of fs k ≤ MAX_WITNESS_VALUE) (range_with_len 0 n)
-    (All-weaker (λ k. k < 0 + n) (λ k. amount_of fs k ≤ MAX_WITNESS_VALUE) (λ k p. let s = small k in omega arith) (range_with_len 0 n) (range_below 0 n)))
+pub flow_is : {g : Digraph} {P : List Bool} {s t : ℕ} {value : ℕ} (xs : List Amount) → IsFlowing g P s t (amount_at xs) value → IsTrue (is_distinct (edges_of xs)) → IsFlowOfValue g P s t value xs
+flow_is {value = value} xs flow distinct = record { passes = flow_passes xs value flow distinct (omega arith); value = flow_value flow }

@@ -3,6 +3,7 @@ use Rattle.std.specs.Prelude.{ℕ, length}
 use Rattle.mono_flows.specs.declared.finder.FlowFinder.TheInside.{Inside}
 use Rattle.mono_flows.specs.Visits.{IsSearch}
 use Rattle.mono_flows.specs.Levels.{AreLevels}
+use Rattle.mono_flows.specs.Rooms.{IsClearRoom}
 use Rattle.mono_flows.specs.Sums.{AreZero}
 
 abbrev pub node_count : Inside → ℕ
@@ -12,3 +13,4 @@ pub record IsReady (f : Inside) : Type 0 where
   pub search : IsSearch (node_count f) f.search
   pub levels : AreLevels (node_count f) f.levels
   pub sums : AreZero (node_count f) f.sums
+  pub room : IsClearRoom f.room

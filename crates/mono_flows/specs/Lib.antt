@@ -7,5 +7,7 @@ pub mod Listed
 pub mod Sums
 pub mod Cuts
 pub mod Answers
+pub mod Rooms
+pub mod Drained
 pub mod Finder
 pub mod Checker

@@ -31,7 +31,7 @@ fn arrive(
     ensures path { IfOk result (λ done. done ≡ false → IsLevelPath network.now flow.new levels.now.levels.items goal path.new.items) }
 {
     let _ = levels;
-    flow.augment(network, path, goal);
+    flow.augment(network, path, goal)?;
     if flow.value == goal {
         return Ok(true);
     }

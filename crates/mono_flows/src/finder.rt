@@ -6,21 +6,23 @@
 //! carries nothing, so what leaves them weighs exactly as much as is carried (Ford and Fulkerson, 1956). A search may
 //! begin with what an earlier one found.
 
-ghost use Rattle.std.specs.Prelude.{◌≡◌, ◌≢◌, ◌<◌, ◌≤◌, ◌+◌, ◌^◌, ◌≤ℤ◌, pos, All, IfOk, OnErr, OnOk, filter, length, map, nat_lt};
-ghost use Rattle.std.specs.List.{range_with_len};
+ghost use Rattle.std.specs.Prelude.{◌≡◌, ◌≢◌, ◌<◌, ◌≤◌, ◌+◌, ◌≤ℤ◌, ℕ, pos, All, IfOk, MatchOption, OnErr, OnOk, length};
+ghost use Rattle.mono_graph.specs.Flows.{amount_at};
 ghost use Rattle.mono_graph.specs.Digraph.{IsPartOf};
 ghost use Rattle.mono_flows.specs.Residual.{amount_of};
 ghost use Rattle.mono_flows.specs.Visits.{IsSearch};
-ghost use Rattle.mono_flows.specs.Flowing.{IsFlow, IsFlowTowards, HasEnded};
+ghost use Rattle.mono_flows.specs.Flowing.{IsFlow, IsFlowing, IsFlowTowards, IsListing, HasEnded};
 ghost use Rattle.mono_flows.specs.Levels.{AreLevels};
+ghost use Rattle.mono_flows.specs.Rooms.{HasRoomFor, IsClearRoom};
 ghost use Rattle.mono_flows.specs.Sums.{AreZero};
 ghost use Rattle.mono_flows.specs.Answers.{Passes, IsAnswer, IsKnown, IsSmall, IsDistinct, IsExact, HasValue, IsFlowOfValue};
 
 use crate::blocking_flow::add_blocking_flow;
+use crate::edge_room::EdgeRoom;
 use crate::flow::Flow;
 use crate::kept_flow::kept_flow;
 use crate::level_graph::LevelGraph;
-use crate::listing::marked_nodes;
+use crate::listing::{drain, marked_nodes};
 use crate::mend::mend;
 use crate::network::Network;
 use crate::node_sums::NodeSums;
@@ -31,16 +33,20 @@ use mono_base::limits::MAX_BOUND;
 use mono_graph::{Amount, Graph, Part};
 use std::alloc::{AllocError, Global};
 use std::marker::Model;
+use std::mem;
 
 /// Finds flows in graphs with one number of nodes, which is what contracts see of it.
 ///
-/// It keeps the room of a search by node from one call to the next, and clears only what a call visited.
+/// It keeps the room of a search by node and by edge from one call to the next, and clears only what a call touched.
 #[derive(Drop)]
 pub struct FlowFinder {
     search: Search,
     levels: LevelGraph,
     path: Vec<Visit>,
     sums: NodeSums,
+    room: EdgeRoom,
+    /// Room for what edges carry while a kept flow is mended.
+    mending: Vec<u64>,
 }
 
 impl Model for FlowFinder {
@@ -64,6 +70,8 @@ impl FlowFinder {
             levels: LevelGraph::new(alloc, nodes)?,
             path: Vec::new(alloc),
             sums: NodeSums::new(alloc, nodes)?,
+            room: EdgeRoom::new(alloc),
+            mending: Vec::new(alloc),
         })
     }
 
@@ -101,9 +109,10 @@ impl FlowFinder {
 
     /// What `find_flow` answers, and the value that it came to.
     ///
-    /// The search begins with the amounts `kept`, without what they carry through edges that aren't present, where that
-    /// is a flow with a value of at most `least`, else with nothing; and it leaves there the flow that it came to. So it
-    /// costs less where an earlier flow in much the same part is given. Where memory runs out, `kept` stays as it was.
+    /// The search begins with the amounts `kept`, of which what edges carry that aren't present goes other ways or is taken
+    /// back, where that is a flow with a value of at most `least`, else with nothing; and it leaves there the flow that it
+    /// came to. So where an earlier flow in much the same part is given, it costs what that flow and the ways round its lost
+    /// edges do. Where memory runs out, `kept` stays as it was.
     pub fn find_flow_from(
         &mut self,
         alloc: Global,
@@ -140,7 +149,17 @@ impl FlowFinder {
             sink,
         };
         let goal = unsigned(least);
-        let mut flow = begin(alloc, &network, &mut self.sums, kept.as_slice(), goal)?;
+        self.room.fit(alloc, graph)?;
+        let mut flow = begin(
+            alloc,
+            &network,
+            &mut self.search,
+            &mut self.sums,
+            &mut self.room,
+            &mut self.mending,
+            kept.as_slice(),
+            goal,
+        )?;
         grow(
             &network,
             &mut flow,
@@ -150,7 +169,8 @@ impl FlowFinder {
             goal,
         )?;
         let marks = self.search.marks.as_slice();
-        let found = outcome(alloc, &network, &flow, marks, goal, kept)?;
+        let found = outcome(alloc, &network, &mut flow, marks, goal, kept)?;
+        self.room.amounts = mem::replace(&mut flow.amounts, Vec::new(alloc));
         Ok(found)
     }
 }
@@ -159,23 +179,31 @@ impl FlowFinder {
 fn begin(
     alloc: Global,
     network: &Network,
+    search: &mut Search,
     sums: &mut NodeSums,
+    room: &mut EdgeRoom,
+    mending: &mut Vec<u64>,
     kept: &[Amount],
     goal: u64,
 ) -> Result<Flow, AllocError>
     requires kept { All (λ a. a.edge < length network.now.graph.now.edges) kept.now }
+    requires search { IsSearch network.now.graph.now.nodes search.old }
     requires sums { AreZero network.now.graph.now.nodes sums.old }
+    requires clear { IsClearRoom room.old }
+    requires fits { HasRoomFor (length network.now.graph.now.edges) room.old }
     ensures flow { IfOk result (IsFlow network.now) }
     ensures most { IfOk result (λ flow. flow.value ≤ goal) }
+    ensures search { IsSearch network.now.graph.now.nodes search.new }
     ensures sums { AreZero network.now.graph.now.nodes sums.new }
+    ensures clear { IsClearRoom room.new }
 {
     if kept.is_empty() {
-        return Flow::none(alloc, network);
+        return Ok(Flow::none(alloc, network, room));
     }
-    let left = mend(alloc, network, kept)?;
-    match kept_flow(alloc, network, sums, left.as_slice(), goal)? {
+    let left = mend(alloc, network, search, mending, kept)?;
+    match kept_flow(alloc, network, room, sums, left.as_slice(), goal)? {
         Some(flow) => Ok(flow),
-        None => Flow::none(alloc, network),
+        None => Ok(Flow::none(alloc, network, room)),
     }
 }
 
@@ -201,54 +229,75 @@ fn grow(
         if !search.find_path(network, &flow.amounts, goal - flow.value)? {
             return Ok(());
         }
-        flow.augment(network, &search.visits, goal);
+        flow.augment(network, &search.visits, goal)?;
         levels.set_levels(&search.visits, network.source);
         add_blocking_flow(network, flow, levels, path, goal)?;
     }
     Ok(())
 }
 
-/// The flow of these amounts, or where it carries less than is asked for, the cut that the marked nodes are.
-fn answer_of(
+/// The cut that the marked nodes are, where less is carried than is asked for.
+fn cut_of(
     alloc: Global,
     network: &Network,
     flow: &Flow,
     marks: &[bool],
     goal: u64,
-    amounts: &[Amount],
-) -> Result<FlowOrCut, AllocError>
+) -> Result<Option<Vec<u32>>, AllocError>
     requires ended { HasEnded network.now goal flow.now marks.now }
-    requires amounts { amounts.now ≡ map (λ k. record { edge = k; amount = amount_of flow.now.amounts.items k })
-        (filter (λ k. nat_lt 0 (amount_of flow.now.amounts.items k)) (range_with_len 0 (length network.now.graph.now.edges))) }
-    requires places { All (λ a. a.edge < length network.now.graph.now.edges) amounts.now }
-    ensures { IfOk result (IsAnswer network.now goal flow.now.value) }
+    ensures cut { IfOk result (λ found. MatchOption found (flow.now.value ≡ goal) (λ nodes. IsAnswer network.now goal flow.now.value (FlowOrCut.Cut nodes))) }
 {
-    if flow.value < goal {
-        let nodes = marked_nodes(alloc, marks, network.graph.nodes())?;
-        return Ok(FlowOrCut::Cut(nodes));
+    if flow.value == goal {
+        return Ok(None);
     }
-    Ok(FlowOrCut::Flow(Vec::from_slice(alloc, amounts)?))
+    let nodes = marked_nodes(alloc, marks, network.graph.nodes())?;
+    Ok(Some(nodes))
 }
 
-/// What a search came to. The amounts of the flow are kept, unless memory runs out.
+/// The cut, or where there is none, the flow of these amounts, which carries as much as is asked for.
+fn answer_of(
+    alloc: Global,
+    network: &Network,
+    cut: Option<Vec<u32>>,
+    carried: &[Amount],
+    value: u64,
+    goal: u64,
+) -> Result<FlowOrCut, AllocError>
+    requires cut { MatchOption cut (value ≡ goal) (λ nodes. IsAnswer network.now goal value (FlowOrCut.Cut nodes)) }
+    requires flow { IsFlowing network.now.graph.now network.now.part.now network.now.source network.now.sink (amount_at carried.now) value }
+    requires listed { IsListing network.now carried.now }
+    ensures { IfOk result (IsAnswer network.now goal value) }
+{
+    let _ = network;
+    let _ = value;
+    let _ = goal;
+    match cut {
+        Some(nodes) => Ok(FlowOrCut::Cut(nodes)),
+        None => Ok(FlowOrCut::Flow(Vec::from_slice(alloc, carried)?)),
+    }
+}
+
+/// What a search came to. The amounts of the flow are kept, unless memory runs out, and it carries nothing from then on.
 fn outcome(
     alloc: Global,
     network: &Network,
-    flow: &Flow,
+    flow: &mut Flow,
     marks: &[bool],
     goal: u64,
     kept: &mut Vec<Amount>,
 ) -> Result<Found, AllocError>
-    requires ended { HasEnded network.now goal flow.now marks.now }
+    requires ended { HasEnded network.now goal flow.old marks.now }
     requires kept { All (λ a. a.edge < length network.now.graph.now.edges) kept.old.items }
     ensures answer { IfOk result (λ found. IsAnswer network.now goal found.value found.answer) }
     ensures flow { IfOk result (λ found.
         IsFlowOfValue network.now.graph.now network.now.part.now network.now.source network.now.sink found.value kept.new.items) }
     ensures kept { All (λ a. a.edge < length network.now.graph.now.edges) kept.new.items }
     ensures unchanged { OnErr result (kept.new.items ≡ kept.old.items) }
+    ensures clear { OnOk result ((k : ℕ) → amount_of flow.new.amounts.items k ≡ 0) }
 {
-    let carried = flow.listed(alloc, network)?;
-    let answer = answer_of(alloc, network, flow, marks, goal, carried.as_slice())?;
+    let cut = cut_of(alloc, network, flow, marks, goal)?;
+    let carried = drain(alloc, &mut flow.amounts, &flow.touched)?;
+    let answer = answer_of(alloc, network, cut, carried.as_slice(), flow.value, goal)?;
     *kept = carried;
     Ok(Found {
         answer,

@@ -7,6 +7,8 @@ mod blocking_flow;
 mod checker;
 /// What leaves a set of nodes.
 mod cut;
+/// Room by edge.
+mod edge_room;
 /// The search for a flow.
 mod finder;
 /// A flow that grows.
@@ -21,7 +23,7 @@ mod level_graph;
 pub mod laws;
 /// Edges that a list of amounts names.
 mod listed_edges;
-/// Lists of marked nodes and of amounts.
+/// Lists of marked nodes and of what edges carry.
 mod listing;
 /// A flow without the edges that are lost.
 mod mend;

@@ -1,8 +1,8 @@
-//! Lists of the marked nodes and of the positive amounts.
+//! Lists of the marked nodes and of what edges carry.
 
-ghost use Rattle.std.specs.Prelude.{◌≡◌, IfOk, length, filter, map, nat_lt};
+ghost use Rattle.std.specs.Prelude.{◌≡◌, ◌<◌, All, IfOk, filter, length};
 ghost use Rattle.std.specs.List.{range_with_len};
-ghost use Rattle.mono_flows.specs.Residual.{amount_of};
+ghost use Rattle.mono_flows.specs.Drained.{AreDrained};
 ghost use Rattle.mono_flows.specs.Visits.{is_marked};
 
 use mono_graph::Amount;
@@ -26,22 +26,25 @@ pub(crate) fn marked_nodes(
     Ok(nodes)
 }
 
-/// The positive amounts, with their edges, in order.
-pub(crate) fn positive_amounts(
+/// Lists what the touched edges carry, each once, and lets them carry nothing from then on.
+pub(crate) fn drain(
     alloc: Global,
-    amounts: &[u64],
-    count: u32,
+    amounts: &mut Vec<u64>,
+    touched: &[u32],
 ) -> Result<Vec<Amount>, AllocError>
-    requires { length amounts.now ≡ count }
-    ensures { IfOk result (λ listed. listed.items
-        ≡ map (λ k. record { edge = k; amount = amount_of amounts.now k })
-        (filter (λ k. nat_lt 0 (amount_of amounts.now k)) (range_with_len 0 count))) }
+    requires { All (λ k. k < length amounts.old.items) touched.now }
+    ensures len { length amounts.new.items ≡ length amounts.old.items }
+    ensures drained { IfOk result (λ listed. AreDrained amounts.old.items amounts.new.items touched.now listed.items) }
 {
     let mut listed = Vec::new(alloc);
-    for edge in 0..count {
-        let amount = amounts[edge as usize];
+    for place in touched {
+        let amount = amounts[*place as usize];
         if amount > 0 {
-            listed.push(Amount { edge, amount })?;
+            listed.push(Amount {
+                edge: *place,
+                amount,
+            })?;
+            amounts[*place as usize] = 0;
         }
     }
     Ok(listed)

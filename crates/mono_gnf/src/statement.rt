@@ -10,7 +10,7 @@ ghost use Rattle.mono_problem.specs.WellFormed.{IsMost, IsLeast};
 use crate::GnfFault;
 use mono_base::limits::{MAX_BOUND, MAX_NODES, MAX_VARS, MAX_WEIGHT};
 use mono_problem::Predicate;
-use mono_text::{FieldRefusal, NumberRefusal, Tokens, fields, first_fields};
+use mono_text::{FieldRefusal, NumberRefusal, Tokens, fields_left, first_fields};
 
 /// The limit of a variable and of a number of variables.
 const VARS: u64 = MAX_VARS as u64;
@@ -156,7 +156,7 @@ fn header(mut tokens: Tokens<'_>) -> Result<Statement, GnfFault>
             return Err(GnfFault::UnknownWord);
         }
     }
-    let f = fields(tokens, &HEADER)?;
+    let f = fields_left(tokens, &HEADER)?;
     Ok(Statement::Header { vars: f[0] as u32 })
 }
 
@@ -171,7 +171,7 @@ fn digraph(mut tokens: Tokens<'_>) -> Result<Statement, GnfFault>
             }
         }
     }
-    let f = fields(tokens, &DIGRAPH)?;
+    let f = fields_left(tokens, &DIGRAPH)?;
     Ok(Statement::Graph {
         id: f[2] as u32,
         nodes: f[0] as u32,
@@ -218,7 +218,7 @@ fn reach(tokens: Tokens<'_>) -> Result<Statement, GnfFault>
     ensures value { result ≡ reach_of tokens.entry }
     ensures within { IfOk result IsWithin }
 {
-    let f = fields(tokens, &ENDS)?;
+    let f = fields_left(tokens, &ENDS)?;
     Ok(Statement::Atom {
         graph: f[0] as u32,
         var: f[3] as u32,
@@ -286,7 +286,7 @@ fn bounded(tokens: Tokens<'_>, measure: BoundedKind, strict: bool) -> Result<Sta
     ensures value { result ≡ bounded_of measure strict tokens.entry }
     ensures within { IfOk result IsWithin }
 {
-    let f = fields(tokens, &BOUNDED)?;
+    let f = fields_left(tokens, &BOUNDED)?;
     Ok(Statement::Atom {
         graph: f[0] as u32,
         var: f[3] as u32,
@@ -298,7 +298,7 @@ fn tree(tokens: Tokens<'_>, strict: bool) -> Result<Statement, GnfFault>
     ensures value { result ≡ tree_of strict tokens.entry }
     ensures within { IfOk result IsWithin }
 {
-    let f = fields(tokens, &TREE)?;
+    let f = fields_left(tokens, &TREE)?;
     Ok(Statement::Atom {
         graph: f[0] as u32,
         var: f[1] as u32,
@@ -312,7 +312,7 @@ fn acyclic(tokens: Tokens<'_>) -> Result<Statement, GnfFault>
     ensures value { result ≡ acyclic_of tokens.entry }
     ensures within { IfOk result IsWithin }
 {
-    let f = fields(tokens, &ACYCLIC)?;
+    let f = fields_left(tokens, &ACYCLIC)?;
     Ok(Statement::Atom {
         graph: f[0] as u32,
         var: f[1] as u32,

@@ -2,5 +2,6 @@ mod Fronts
 pub mod Growing
 pub mod TakenPieces
 pub mod KnownBytes
+pub mod ReadingOn
 mod Plans
 mod NamedTexts

@@ -1,5 +1,5 @@
 -- What reading the whole text of a name comes to, by what contracts see of the shelf before and after it.
-use Rattle.std.specs.Prelude.{◌≡◌, ◌<◌, ◌≤◌, ◌+◌, ℕ, List, length, take, Some, IfSome, IsSomeAnd, IsTrue}
+use Rattle.std.specs.Prelude.{◌≡◌, ◌<◌, ◌≤◌, ◌+◌, ℕ, List, length, take, Some, None, IfSome, IsSomeAnd, IsTrue}
 use Rattle.mono_io.specs.Faults.{counted}
 use Rattle.mono_io.specs.Shelf.{ShelfView, text_named, chosen_text, Lacks}
 
@@ -24,10 +24,12 @@ pub record IsTooLong (name : List ℕ) (limit : ℕ) (old new : ShelfView) : Typ
   pub place : new.place ≡ Some (limit + 1)
   pub faults : new.faults ≡ old.faults
 
--- Exactly one call failed: over a steady shelf, since no text has that name. No byte beyond the limit was read.
+-- Exactly one call failed: over a steady shelf, since no text has that name, and nothing is chosen then. No byte beyond the limit
+-- was read.
 pub record IsNotRead (name : List ℕ) (limit : ℕ) (old new : ShelfView) : Type 0 where
   pub once : BeginsOnce old new
   pub lacking : IsTrue old.steady → Lacks old.texts name
+  pub nothing : IsTrue old.steady → new.place ≡ None
   pub place : IfSome new.place (λ place. place ≤ limit)
   pub faults : new.faults ≡ counted old.faults
 

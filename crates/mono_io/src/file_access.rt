@@ -1,11 +1,11 @@
 //! Files by name, as a system gives them: one is open at a time.
 //!
 //! `FileShelf` is proved over every `FileAccess`, so also over one that tells all. `SystemFiles` is the real one. It tells
-//! nothing of what lies on a disk, and its two calls are one call of the library each.
-ghost use Rattle.std.specs.Prelude.{◌≡◌, ◌≤◌, ℕ, List, Option, Some, None, IfSome, IfOk, OnOk, option_and_then, length};
+//! nothing of what lies on a disk. How often it was asked, it counts.
+ghost use Rattle.std.specs.Prelude.{◌≡◌, ◌≤◌, ℕ, List, Option, Some, None, IfSome, IfOk, IsErr, OnOk, [], option_and_then, length};
 ghost use Rattle.std.specs.Io.KnownBytes.{ReadConsumes};
-ghost use Rattle.mono_io.specs.Faults.{HasToldCause};
-ghost use Rattle.mono_io.specs.Shelf.{Texts, told_text};
+ghost use Rattle.mono_io.specs.Faults.{HasCause, counted};
+ghost use Rattle.mono_io.specs.Shelf.{Texts, Lacks, told_text};
 
 use crate::Failed;
 use std::fs::File;
@@ -17,19 +17,28 @@ pub trait FileAccess: Drop {
     /// What the files give, by their names, where that is told.
     ghost contents: { Self → Option Texts };
 
+    /// The name of the open file; it means something only where the contents are told.
+    ghost opened: { Self → List ℕ };
+
     /// What the open file will still give, where that is told.
     ghost rest: { Self → Option (List ℕ) };
 
-    /// How often a call was refused, where that is told.
-    ghost refusals: { Self → Option ℕ };
+    /// How often a file was to be opened.
+    ghost opens: { Self → ℕ };
+
+    /// How often a call was refused.
+    ghost refusals: { Self → ℕ };
 
     /// Opens the file of that name at its beginning, in place of the one that was open.
     ///
-    /// `Failed` comes where it was refused, for whatever reason.
+    /// `Failed` comes for a name that the contents lack, where they are told, and where it was refused, for whatever reason.
     fn open(&mut self, name: &str) -> Result<(), Failed>
+        ensures opened { OnOk result (IfSome (contents self.old) (λ _. opened self.new ≡ name.now)) }
         ensures rest { OnOk result (IfSome (told_text (contents self.old) name.now) (λ bytes. rest self.new ≡ Some bytes)) }
+        ensures lacking { Lacks (contents self.old) name.now → IsErr result }
         ensures contents { contents self.new ≡ contents self.old }
-        ensures refusals { HasToldCause (refusals self.old) (refusals self.new) result };
+        ensures opens { opens self.new ≡ counted (opens self.old) }
+        ensures refusals { HasCause (refusals self.old) (refusals self.new) result };
 
     /// Reads the next bytes of the open file into the front of the buffer, and says how many.
     ///
@@ -38,15 +47,19 @@ pub trait FileAccess: Drop {
     fn read(&mut self, buf: &mut [u8]) -> Result<usize, Failed>
         ensures bound { IfOk result (λ count. count ≤ length buf.new) }
         ensures rest { ReadConsumes (rest self.old) (rest self.new) result buf.new }
+        ensures opened { opened self.new ≡ opened self.old }
         ensures contents { contents self.new ≡ contents self.old }
-        ensures refusals { HasToldCause (refusals self.old) (refusals self.new) result };
+        ensures opens { opens self.new ≡ opens self.old }
+        ensures refusals { HasCause (refusals self.old) (refusals self.new) result };
 }
 
 /// The files of the system. Whatever the system refuses is `Failed`, for want of memory too.
 #[derive(Drop)]
 pub struct SystemFiles<'a, R: Files> {
     files: &'a R,
-    opened: Option<R::File>,
+    open_file: Option<R::File>,
+    opens: u64,
+    refusals: u64,
 }
 
 impl<'a, R: Files> SystemFiles<'a, R> {
@@ -54,7 +67,23 @@ impl<'a, R: Files> SystemFiles<'a, R> {
     pub fn new(files: &'a R) -> Self {
         SystemFiles {
             files,
-            opened: None,
+            open_file: None,
+            opens: 0,
+            refusals: 0,
+        }
+    }
+
+    /// Reads on in the open file, if there is one, and counts nothing.
+    fn read_on(&mut self, buf: &mut [u8]) -> Result<usize, Failed>
+        ensures bound { IfOk result (λ count. count ≤ length buf.new) }
+        ensures rest { ReadConsumes (option_and_then (λ file. R.File.remaining file) self.old.open_file)
+            (option_and_then (λ file. R.File.remaining file) self.new.open_file) result buf.new }
+        ensures opens { self.new.opens ≡ self.old.opens }
+        ensures refusals { self.new.refusals ≡ self.old.refusals }
+    {
+        match &mut self.open_file {
+            Some(file) => file.read(buf).map_err(|_| Failed),
+            None => Err(Failed),
         }
     }
 }
@@ -62,22 +91,29 @@ impl<'a, R: Files> SystemFiles<'a, R> {
 impl<'a, R: Files> FileAccess for SystemFiles<'a, R> {
     ghost contents = { λ _. None };
 
-    ghost rest = { λ system. option_and_then (λ file. R.File.remaining file) system.opened };
+    ghost opened = { λ _. [] };
 
-    ghost refusals = { λ _. None };
+    ghost rest = { λ system. option_and_then (λ file. R.File.remaining file) system.open_file };
+
+    ghost opens = { λ system. system.opens };
+
+    ghost refusals = { λ system. system.refusals };
 
     fn open(&mut self, name: &str) -> Result<(), Failed> {
-        self.opened = File::open(self.files, name).ok();
-        match self.opened {
-            Some(_) => Ok(()),
-            None => Err(Failed),
+        self.opens = self.opens.saturating_add(1);
+        self.open_file = File::open(self.files, name).ok();
+        if self.open_file.is_none() {
+            self.refusals = self.refusals.saturating_add(1);
+            return Err(Failed);
         }
+        Ok(())
     }
 
     fn read(&mut self, buf: &mut [u8]) -> Result<usize, Failed> {
-        match &mut self.opened {
-            Some(file) => file.read(buf).map_err(|_| Failed),
-            None => Err(Failed),
+        let result = self.read_on(buf);
+        if result.is_err() {
+            self.refusals = self.refusals.saturating_add(1);
         }
+        result
     }
 }

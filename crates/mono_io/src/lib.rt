@@ -1,4 +1,4 @@
-//! Texts read from a shelf and bytes written to a sink, in memory and real.
+//! Texts read from a shelf and bytes written to a sink, in memory, or over any access to files and any writer.
 //!
 //! - `failed`: the answer of a call to the outside that failed
 //! - `shelf`, `sink`: the traits, each with a count of faults to which its failures are tied
@@ -9,7 +9,7 @@
 //! - `memory_sink`: bytes in memory
 //! - `worked`: rows that were worked by hand
 //! - `fault_plan`: which calls of the two in memory are to fail
-//! - `file_shelf`, `file_access`, `std_sink`: the files of the system and the standard output
+//! - `file_shelf`, `file_access`, `std_sink`: files over any access to them, that of the system, and what any writer holds
 #![tactic(auto)]
 
 mod consumer;

@@ -1,15 +1,14 @@
 //! A sink over a writer, as the standard output is one. What reaches a real output, no contract can say.
-ghost use Rattle.std.specs.Prelude.{◌≡◌, ◌<◌, ◌≤◌, ℕ, List, Option, None, Ok, IfOk, length, take};
-ghost use Rattle.std.specs.Io.KnownBytes.{WriteAppends, append_known};
+ghost use Rattle.std.specs.Prelude.{◌≡◌, ◌<◌, ◌≤◌, Ok, IfOk, length};
+ghost use Rattle.std.specs.Io.KnownBytes.{WriteAppends};
 ghost use Rattle.mono_io.specs.Faults.{HasCause};
-ghost use Rattle.mono_io.specs.Shelf.{moved};
 
 use crate::{Failed, Sink};
 use std::io::Write;
 use std::marker::Model;
 
-/// A writer, as `std::io::writer` makes one of the standard output. As a sink it tells nothing of what was written.
-/// Whatever the writer refuses is a fault, and so is a write that takes nothing.
+/// A writer, as `std::io::writer` makes one of the standard output. As a sink it tells what was written where the writer
+/// tells what it holds. Whatever the writer refuses is a fault, and so is a write that takes nothing.
 ///
 /// Contracts see what the writer holds, where it tells that, and the count of faults.
 #[derive(Drop)]
@@ -33,23 +32,28 @@ impl<W: Write + Drop> StdSink<W> {
     {
         StdSink { out, faults: 0 }
     }
+
+    /// The writer, as it stands.
+    pub fn into_writer(self) -> W
+        ensures { W.contents result ≡ self.contents }
+    {
+        self.out
+    }
 }
 
 impl<W: Write + Drop> Sink for StdSink<W> {
-    ghost written = { λ _. None };
+    ghost written = { λ sink. sink.contents };
 
     ghost faults = { λ sink. sink.faults };
 
     /// Where the writer tells what it holds, exactly the bytes that were taken are appended, and none by a write that
     /// fails.
     fn write(&mut self, bytes: &[u8]) -> Result<usize, Failed>
-        ensures contents { WriteAppends self.old.contents self.new.contents result bytes.now }
-
         // What the trait asks, in this sink's terms.
+        ensures written { WriteAppends self.old.contents self.new.contents result bytes.now }
         ensures bound { IfOk result (λ count. count ≤ length bytes.now) }
         ensures progress { IfOk result (λ count. 0 < length bytes.now → 0 < count) }
         ensures empty { length bytes.now ≡ 0 → result ≡ Ok 0 }
-        ensures written { ◌≡◌ {A = Option (List ℕ)} None (append_known None (take (moved result) bytes.now)) }
         ensures cause { HasCause self.old.faults self.new.faults result }
     {
         if bytes.is_empty() {

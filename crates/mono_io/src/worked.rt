@@ -2,7 +2,8 @@
 
 ghost use Rattle.std.specs.Prelude.{◌≡◌, ◌^◌, ◌-◌, ℕ, [], ◌∷◌, true, false, Some, None, Ok, Err, codes};
 ghost use Rattle.mono_io.specs.FaultPlan.{next_is_listed, is_over, succeeded, failed};
-ghost use Rattle.mono_io.specs.Faults.{counted, HasCause, HasToldCause};
+ghost use Rattle.mono_io.specs.Faults.{counted, HasCause};
+ghost use Rattle.mono_io.specs.FileShelf.{IsReadOn};
 ghost use Rattle.mono_io.specs.MemoryShelf.{left_to_read};
 ghost use Rattle.mono_io.specs.MemorySink.{free_room};
 ghost use Rattle.mono_io.specs.Reading.{IsRead, IsTooLong, IsNotRead, IsGivenUp};
@@ -22,9 +23,6 @@ pub fn worked_counts()
     ensures without_cause { ¬ HasCause {T = ℕ} {E = ℕ} 3 3 (Err 0) }
     ensures counted_twice { ¬ HasCause {T = ℕ} {E = ℕ} 3 5 (Err 0) }
     ensures hidden { ¬ HasCause {T = ℕ} {E = ℕ} 3 4 (Ok 0) }
-    ensures told_failed { HasToldCause {T = ℕ} {E = ℕ} (Some 3) (Some 4) (Err 0) }
-    ensures told_hidden { ¬ HasToldCause {T = ℕ} {E = ℕ} (Some 3) (Some 4) (Ok 0) }
-    ensures no_longer_told { ¬ HasToldCause {T = ℕ} {E = ℕ} (Some 3) None (Ok 0) }
 {}
 
 /// Texts are found by name, the first of a name.
@@ -60,10 +58,20 @@ pub fn worked_pieces()
 
     ensures none { AppendsPrefix (Some (codes "x")) (Some (codes "x")) (codes "ab") }
     ensures some { AppendsPrefix (Some (codes "x")) (Some (codes "xa")) (codes "ab") }
-    ensures all { AppendsPrefix (Some (codes "x")) (Some (codes "xab")) (codes "ab") }
+    ensures all { ¬ AppendsPrefix (Some (codes "x")) (Some (codes "xab")) (codes "ab") }
     ensures not_the_first { ¬ AppendsPrefix (Some (codes "x")) (Some (codes "xb")) (codes "ab") }
     ensures lost { ¬ AppendsPrefix (Some (codes "x")) (Some (codes "")) (codes "ab") }
     ensures more { ¬ AppendsPrefix (Some (codes "x")) (Some (codes "xabc")) (codes "ab") }
+    ensures no_longer_told { ¬ AppendsPrefix (Some (codes "x")) None (codes "ab") }
+
+    ensures read_on { IsReadOn (Some (codes "abc")) (Some 1) (Some (codes "bc")) }
+    ensures at_its_end { IsReadOn (Some (codes "abc")) (Some 3) (Some []) }
+    ensures untold { IsReadOn None (Some 1) None }
+    ensures nothing_open { IsReadOn (Some (codes "abc")) None None }
+    ensures read_twice { ¬ IsReadOn (Some (codes "abc")) (Some 1) (Some (codes "abc")) }
+    ensures skipped { ¬ IsReadOn (Some (codes "abc")) (Some 1) (Some (codes "c")) }
+    ensures behind_its_end { ¬ IsReadOn (Some (codes "abc")) (Some 4) (Some []) }
+    ensures rest_untold { ¬ IsReadOn (Some (codes "abc")) (Some 1) None }
 {}
 
 /// The text `ab` of the name `f`, read whole from a steady shelf.
@@ -87,7 +95,11 @@ pub fn worked_readings()
     ensures there { ¬ IsNotRead (codes "f") 2 (steady_shelf two_texts [] None 0 0) (steady_shelf two_texts [] None 1 1) }
     ensures no_cause { ¬ IsNotRead (codes "h") 2 (steady_shelf two_texts [] None 0 0) (steady_shelf two_texts [] None 1 0) }
     ensures two_causes { ¬ IsNotRead (codes "h") 2 (steady_shelf two_texts [] None 0 0) (steady_shelf two_texts [] None 1 2) }
-    ensures read_beyond { ¬ IsNotRead (codes "h") 2 (steady_shelf two_texts [] None 0 0) (steady_shelf two_texts [] (Some 3) 1 1) }
+    ensures chosen_still { ¬ IsNotRead (codes "h") 2 (steady_shelf two_texts [] None 0 0) (steady_shelf two_texts [] (Some 0) 1 1) }
+    ensures cut_off { IsNotRead (codes "f") 2 (record (steady_shelf two_texts [] None 0 0) { steady = false })
+        (record (steady_shelf two_texts (codes "f") (Some 1) 1 1) { steady = false }) }
+    ensures read_beyond { ¬ IsNotRead (codes "f") 2 (record (steady_shelf two_texts [] None 0 0) { steady = false })
+        (record (steady_shelf two_texts (codes "f") (Some 3) 1 1) { steady = false }) }
 
     ensures given_up { IsGivenUp 2 (steady_shelf two_texts [] None 0 0) (steady_shelf two_texts (codes "f") (Some 2) 1 0) }
     ensures given_up_at_a_fault { ¬ IsGivenUp 2 (steady_shelf two_texts [] None 0 0) (steady_shelf two_texts (codes "f") (Some 2) 1 1) }

@@ -4,7 +4,7 @@
 //! absent edges that leave it. Of two sets, the one nearest to the first node and the one nearest to the last, it is the
 //! one that rests on fewer.
 
-ghost use Rattle.std.specs.Prelude.{◌≡◌, ◌<◌, All, IfOk, IsTrue};
+ghost use Rattle.std.specs.Prelude.{◌≡◌, ◌<◌, All, IfOk, IfSome, IsTrue, length};
 ghost use Rattle.mono_graph.specs.Digraph.{IsPartOf};
 ghost use Rattle.mono_graph.specs.Walks.{is_cut};
 ghost use Rattle.mono_theory.specs.Evidences.{IsEvidence};
@@ -14,10 +14,11 @@ use crate::nearest::widened_for;
 use crate::reached_rows::ReachedRows;
 use mono_base::Row;
 use mono_graph::{Graph, Limit, Part};
+use mono_mend::WalkMender;
 use mono_paths::{PathOrCut, WalkFinder};
 use mono_problem::Predicate;
 use mono_steps::Witness;
-use mono_theory::walks::walk_evidence;
+use mono_theory::walks::{kept_walk, walk_evidence};
 use mono_theory::{
     Asked, AsksWalk, EitherSide, Evidence, GraphTheory, Kind, NodeMarks, PossibleRows,
 };
@@ -28,6 +29,7 @@ use std::marker::Model;
 #[derive(Drop)]
 pub struct Reach {
     finder: WalkFinder,
+    mender: WalkMender,
     marks: NodeMarks,
 }
 
@@ -38,7 +40,7 @@ impl Model for Reach {
 
     ghost view = { λ r. r.finder };
 
-    ghost invariant = { λ r. r.marks ≡ r.finder };
+    ghost invariant = { λ r. (r.mender ≡ r.finder) × (r.marks ≡ r.finder) };
 }
 
 /// The evidence that a set of nodes is. It rests on each absent edge that leaves it.
@@ -103,6 +105,32 @@ fn least_cut(
     }
 }
 
+/// The evidence that a walk near to these edges is, where one is found there.
+fn walk_near(
+    alloc: Global,
+    mender: &mut WalkMender,
+    graph: &Graph,
+    part: &Part,
+    from: u32,
+    to: u32,
+    edges: &[u32],
+) -> Result<Option<Evidence>, AllocError>
+    requires mender { mender.old ≡ graph.now.nodes }
+    requires part { IsPartOf part.now graph.now }
+    requires from { from < graph.now.nodes }
+    requires to { to < graph.now.nodes }
+    requires edges { All (λ k. k < length graph.now.edges) edges.now }
+    ensures mender { mender.new ≡ mender.old }
+    ensures evidence { IfOk result (λ found. IfSome found (IsEvidence graph.now part.now (Predicate.Reach from to))) }
+{
+    let _ = graph.nodes();
+    let limit = Limit::Free;
+    match mender.mend(alloc, graph, part, from, to, limit, edges)? {
+        Some(places) => Ok(Some(walk_evidence(alloc, graph, places)?)),
+        None => Ok(None),
+    }
+}
+
 impl Kind for Reach {
     ghost use Rattle.std.specs.Prelude.{true};
     ghost use Rattle.mono_reach.specs.Reaches.{is_reach};
@@ -115,12 +143,17 @@ impl Kind for Reach {
 
     ghost IS_THOROUGH = { true };
 
-    const FOLLOWS_WITNESS: bool = true;
+    const MOST_FOLLOWED: u32 = u32::MAX;
 
     fn with_nodes(alloc: Global, count: u32) -> Result<Self, AllocError> {
         let finder = WalkFinder::new(alloc, count)?;
+        let mender = WalkMender::new(alloc, count)?;
         let marks = NodeMarks::new(alloc, count)?;
-        Ok(Reach { finder, marks })
+        Ok(Reach {
+            finder,
+            mender,
+            marks,
+        })
     }
 
     fn evidence(
@@ -146,6 +179,24 @@ impl Kind for Reach {
                 to,
                 nodes,
             ),
+        }
+    }
+
+    fn mend(
+        &mut self,
+        alloc: Global,
+        graph: &Graph,
+        part: &Part,
+        predicate: Predicate,
+        kept: Option<&Evidence>,
+    ) -> Result<Option<Evidence>, AllocError> {
+        let _ = graph.nodes();
+        let Predicate::Reach { from, to } = predicate else {
+            unreachable!()
+        };
+        match kept_walk(kept) {
+            Some(edges) => walk_near(alloc, &mut self.mender, graph, part, from, to, edges),
+            None => Ok(None),
         }
     }
 }

@@ -22,8 +22,8 @@ use std::marker::Model;
 
 /// Rows are kept where the different first nodes times the nodes of the graph are at most so many.
 ///
-/// A row takes 20 bytes for each node of the graph, so all rows of a theory take at most 80 MB.
-pub const MOST_REACHED: usize = 4_000_000;
+/// A row takes 20 bytes for each node of the graph, so all rows of a theory take at most 160 MB.
+pub const MOST_REACHED: usize = 8_000_000;
 
 /// The rows of reached nodes of the atoms' first nodes.
 #[derive(Drop)]

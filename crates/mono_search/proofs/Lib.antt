@@ -23,3 +23,4 @@ pub mod Beginning
 pub mod Resolved
 pub mod Counting
 pub mod MoreSteps
+pub mod Turned

@@ -142,11 +142,19 @@ pub record GoesBack (v w : StateView) (restarts : Bool) : Type 0 where
   pub trail : w.trail ≡ lowered (if restarts then 0 else learnt.back_to) settled
   pub order : Releases v.order w.order (drop (count_to (if restarts then 0 else learnt.back_to) settled.marks) settled.lits)
 
+-- where the search restarts, signs may have been saved besides; nothing else has changed
+pub record TurnsSigns (restarts : Bool) (v w : StateView) : Type 0 where
+  pub signs : List Bool
+  pub turned : w ≡ record v { order = record v.order { phases = signs } }
+  pub as_before : restarts ≡ false → signs ≡ v.order.phases
+
 -- the search went back after one clause more, and counted it: whether it restarts is as the counts say
 pub record CountsAndGoesBack (m n : Counted) (v w : StateView) : Type 0 where
   pub restarts : Bool
   pub counts : Counts m n restarts
-  pub back : GoesBack v w restarts
+  pub gone : StateView
+  pub back : GoesBack v gone restarts
+  pub turned : TurnsSigns restarts gone w
 
 -- one clause more was learned, within the budget
 pub record HasLearned (budget : ℕ) (v w : StateView) : Type 0 where

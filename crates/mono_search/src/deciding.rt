@@ -13,10 +13,10 @@ use mono_theory::Theory;
 use mono_trail::Trail;
 use std::alloc::{AllocError, Global};
 
-/// For so many steps a search follows what theories prefer, then for as many it doesn't, and so on.
+/// For so many steps a search follows what theories prefer, then for as many it doesn't, and so on, but for its probes.
 const STRETCH: usize = 512;
 
-/// Whether a search that has made so many steps follows what theories prefer. Some problems are solved within few steps by
+/// Whether a search that has made so many steps follows what theories prefer, outside its probes. Some problems are solved within few steps by
 /// that alone, and others only without it, so neither is kept up for long.
 fn follows_theories(steps: usize) -> bool {
     steps / STRETCH % 2 == 0
@@ -57,7 +57,8 @@ impl<'p, T: Theory> State<'p, T> {
     fn is_preferred(&self, var: u32) -> bool
         requires { IsVar self.now.theories.problem.vars var }
     {
-        follows_theories(self.journal.steps().len()) && self.theories.prefers(var)
+        let main = follows_theories(self.journal.steps().len());
+        self.memory.follows(main) && self.theories.prefers(var)
     }
 
     /// The values of the variables, where each has one and nothing is left to do.

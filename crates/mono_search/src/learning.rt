@@ -7,7 +7,7 @@ ghost use Rattle.mono_steps.specs.Journals.{chain_count};
 ghost use Rattle.mono_search.specs.State.{IsJournal, IsConsistent, IsReady, IsInConflict};
 ghost use Rattle.mono_search.specs.Outcomes.{HasMoreSteps, may_go_on};
 ghost use Rattle.mono_search.specs.Restarts.{KeepsCount};
-ghost use Rattle.mono_search.specs.Runs.{ResolvedAs, GoesBack, CountsAndGoesBack};
+ghost use Rattle.mono_search.specs.Runs.{ResolvedAs, GoesBack, TurnsSigns, CountsAndGoesBack};
 
 use crate::backjumping::backjump;
 use crate::restarts::Restarts;
@@ -48,8 +48,22 @@ impl<'p, T: Theory> State<'p, T> {
             self.restart();
             return Ok(Some(Outcome::Unknown));
         }
-        self.learn(alloc, conflict, restarts.count_clause())?;
+        let anew = restarts.count_clause();
+        self.learn(alloc, conflict, anew)?;
+        self.turn(anew, restarts.term());
         Ok(None)
+    }
+
+    /// Where the search begins anew, the signs for the stretch up to the next restart are saved. All else stays.
+    fn turn(&mut self, anew: bool, term: u64)
+        requires { IsReady self.old }
+        ensures problem { self.new.theories.problem ≡ self.old.theories.problem }
+        ensures steps { self.new.steps ≡ self.old.steps }
+        ensures trail { self.new.trail ≡ self.old.trail }
+        ensures ready { IsReady self.new }
+        ensures turned { TurnsSigns anew self.old self.new }
+    {
+        self.memory.turn(&mut self.order, &self.trail, anew, term);
     }
 
     /// How many clauses were learned.
@@ -73,6 +87,7 @@ impl<'p, T: Theory> State<'p, T> {
         ensures within { chain_count self.new.steps ≤ chain_count self.old.steps + 1 }
         ensures back { OnOk result (GoesBack self.old self.new restarts) }
     {
+        self.memory.remember(&self.trail);
         let problem = self.theories.problem();
         let learnt = analyse(
             alloc,

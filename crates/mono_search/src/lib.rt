@@ -22,6 +22,8 @@ mod handing;
 mod inputs;
 /// What a conflict leads to.
 mod learning;
+/// What is remembered of signs, and how restarts turn them.
+mod memory;
 /// Signs that are preferred at decisions.
 mod preferring;
 /// What follows from the literals of the trail.

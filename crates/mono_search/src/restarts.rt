@@ -53,4 +53,9 @@ impl Restarts {
         self.count = next;
         true
     }
+
+    /// Luby's term for the clauses that are learned up to the next restart.
+    pub(crate) fn term(&self) -> u64 {
+        luby(self.count.saturating_add(1))
+    }
 }

@@ -9,6 +9,7 @@ ghost use Rattle.mono_theory.specs.Owners.{facts_of, OwnsEach};
 ghost use Rattle.mono_search.specs.Runs.{BeginsWith};
 
 use crate::inputs::Inputs;
+use crate::memory::Memory;
 use crate::theories::Theories;
 use mono_clauses::ClauseStore;
 use mono_problem::Problem;
@@ -26,6 +27,8 @@ pub struct State<'p, T: Theory> {
     pub(crate) store: ClauseStore,
     pub(crate) journal: Journal,
     pub(crate) order: Order,
+    /// What signs are saved at restarts: nothing of it is seen in contracts.
+    pub(crate) memory: Memory,
 }
 
 impl<'p, T: Theory> Model for State<'p, T> {
@@ -48,6 +51,7 @@ impl<'p, T: Theory> State<'p, T> {
         ensures { IfOk result (BeginsWith problem.now) }
     {
         let theories = Theories::new(alloc, problem, theories)?;
+        let memory = Memory::new(alloc, problem)?;
         let inputs = Inputs::new(alloc, problem)?;
         Ok(State {
             theories,
@@ -55,6 +59,7 @@ impl<'p, T: Theory> State<'p, T> {
             store: inputs.store,
             journal: Journal::new(alloc),
             order: inputs.order,
+            memory,
         })
     }
 

@@ -18,6 +18,9 @@ use Rattle.mono_theory.specs.Supports.{SideView}
 use Rattle.mono_theory.specs.SureRows.{SureRowsView}
 use Rattle.mono_theory.specs.Theories.{Facts}
 use Rattle.mono_theory.specs.Watching.{watch_by}
+use Rattle.mono_trail.specs.declared.reason.Mark.{Mark}
+use Rattle.mono_trail.specs.declared.reason.Reason.TheVariants.{Decided}
+use Rattle.mono_search.specs.Worked.{two_clauses}
 use Rattle.mono_acyclic.specs.declared.ordered_edges.Closing.{Closing}
 use Rattle.mono_acyclic.specs.Orders.{OrderedView}
 
@@ -33,6 +36,18 @@ of_four_atoms = record {
   atoms = atom 1 3 (kind.Reach 0 2) ∷ atom 2 4 kind.Acyclic ∷ record (atom 3 5 (kind.Reach 0 1)) { graph = 1 } ∷ atom 4 6 (kind.Reach 0 1) ∷ [];
   clauses = [];
 }
+
+-- node 1 can be reached from node 0 exactly where variable 3 is true, and there is no cycle exactly where variable 4 is
+abbrev pub reaches_without_cycles : List Atom
+reaches_without_cycles = atom 1 3 (kind.Reach 0 1) ∷ atom 2 4 kind.Acyclic ∷ []
+
+-- {1, 2} and {1, -2} over seven variables
+abbrev pub over_seven : Instance
+over_seven = record two_clauses { vars = 7 }
+
+-- one literal, decided at level 1
+abbrev pub decided_at_1 : List Mark
+decided_at_1 = record { level = 1; reason = Decided } ∷ []
 
 -- no edge, until with the second step both come
 abbrev pub second_brings_both : ℕ → List Bool

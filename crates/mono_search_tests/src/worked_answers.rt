@@ -6,13 +6,14 @@ ghost use Rattle.mono_problem.specs.declared.atom.Predicate.TheVariants as kind;
 ghost use Rattle.mono_problem.specs.Holds.{HasNoModel};
 ghost use Rattle.mono_problem.specs.Quiet.{HasForcedTrue, IsNearlyQuiet, TheoryQuiet};
 ghost use Rattle.mono_problem.specs.Worked.{piped};
-ghost use Rattle.mono_steps.specs.WorkedLemmas.{minus};
+ghost use Rattle.mono_steps.specs.declared.lemma.Witness.TheVariants as by;
+ghost use Rattle.mono_steps.specs.WorkedLemmas.{minus, of_1};
 ghost use Rattle.mono_theory.specs.declared.theory.Finding.TheVariants as finding;
 ghost use Rattle.mono_theory.specs.Evidences.{Decides};
 ghost use Rattle.mono_theory.specs.Owners.{OwnsEach};
 ghost use Rattle.mono_theory.specs.Theories.{FindingIs};
 ghost use Rattle.mono_theory.specs.Worked.{reaches, walk_along};
-ghost use Rattle.mono_search_tests.specs.Worked.{atom, its, of_four_atoms, over};
+ghost use Rattle.mono_search_tests.specs.Worked.{atom, its, of_four_atoms, over, reaches_without_cycles};
 
 /// Whether a predicate holds in a part, decided.
 pub fn what_decides_a_predicate()
@@ -30,6 +31,17 @@ pub fn what_theories_find()
     ensures lemma_while_open { FindingIs (parallel 1 1) reaches (pos 1 ∷ []) (finding.Lemma (walk_along 2)) → ⊥ }
     ensures nothing_seen { TheoryQuiet (parallel 1 1) reaches [] }
     ensures owed { TheoryQuiet (parallel 1 1) reaches (minus 1 ∷ minus 2 ∷ []) → ⊥ }
+{}
+
+/// Of two atoms, one of which falls as edges come, each has to be quiet. No literal of a lemma is true, and whether the other atom is
+/// quiet makes no difference.
+pub fn what_theories_find_of_two_atoms()
+    ensures quiet { FindingIs (parallel 1 1) reaches_without_cycles (pos 1 ∷ pos 3 ∷ pos 4 ∷ []) finding.Quiet }
+    ensures first_owes { FindingIs (parallel 1 1) reaches_without_cycles (pos 1 ∷ pos 4 ∷ []) finding.Quiet → ⊥ }
+    ensures second_owes { FindingIs (parallel 1 1) reaches_without_cycles (pos 1 ∷ pos 3 ∷ []) finding.Quiet → ⊥ }
+    ensures lemma_of_one { FindingIs (parallel 1 1) reaches_without_cycles (pos 1 ∷ pos 4 ∷ []) (finding.Lemma (walk_along 1)) }
+    ensures true_literal { FindingIs (parallel 1 1) reaches (pos 1 ∷ minus 2 ∷ [])
+        (finding.Lemma (of_1 (minus 1 ∷ minus 2 ∷ pos 3 ∷ []) (by.Path (1 ∷ [])))) → ⊥ }
 {}
 
 /// An atom has forced what is true, or is nearly quiet.

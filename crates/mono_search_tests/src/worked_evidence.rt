@@ -7,6 +7,7 @@ ghost use Rattle.mono_problem.specs.declared.atom.Predicate.TheVariants as kind;
 ghost use Rattle.mono_steps.specs.declared.lemma.Witness.TheVariants as by;
 ghost use Rattle.mono_theory.specs.Evidences.{IsEvidence};
 ghost use Rattle.mono_theory.specs.Sound.{IsSound};
+ghost use Rattle.mono_flow.specs.Flowing.{AreNeeded, EachIsNeeded};
 
 /// A walk is evidence where it rests on its edges and they are present. A cut is evidence where it rests on the edges that leave
 /// it and they are absent.
@@ -43,4 +44,17 @@ pub fn what_sound_evidence_is()
     ensures unused { IsSound (parallel 1 1) (kind.Flow 0 1 (pos 1)) true (record { witness = by.Flow (amount 2 1 ∷ []); edges = 0 ∷ 1 ∷ [] }) → ⊥ }
     ensures too_great { IsSound (pipe 1 1) (kind.Distance 0 2 (pos 7)) false
         (record { witness = by.Label (label 0 0 ∷ label 1 1152921504606846977 ∷ []); edges = 0 ∷ 1 ∷ [] }) → ⊥ }
+{}
+
+/// Of the absent edges that leave a set of nodes those have to stay absent whose weight is more than what may still come: at most
+/// `slack` in sum. One that just fits needn't.
+pub fn edges_that_flow_cuts_need()
+    ensures just_fits { EachIsNeeded (parallel 3 4) 3 (0 ∷ []) (0 ∷ []) → ⊥ }
+    ensures heavier_by_one { EachIsNeeded (parallel 4 3) 3 (0 ∷ []) (0 ∷ []) }
+    ensures heavier_than_what_is_left { EachIsNeeded (parallel 3 4) 6 (0 ∷ 1 ∷ []) (1 ∷ []) }
+    ensures fits_what_is_left { EachIsNeeded (parallel 3 4) 7 (0 ∷ 1 ∷ []) (1 ∷ []) → ⊥ }
+    ensures one_of_two_fits { EachIsNeeded (parallel 3 9) 5 (0 ∷ 1 ∷ []) (0 ∷ 1 ∷ []) → ⊥ }
+    ensures others_fit { AreNeeded (parallel 3 4) 3 (0 ∷ 1 ∷ []) (1 ∷ []) }
+    ensures others_too_heavy { AreNeeded (parallel 3 4) 2 (0 ∷ 1 ∷ []) (1 ∷ []) → ⊥ }
+    ensures not_absent { AreNeeded (parallel 3 4) 3 (0 ∷ []) (0 ∷ 1 ∷ []) → ⊥ }
 {}

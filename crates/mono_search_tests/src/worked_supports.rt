@@ -8,7 +8,7 @@ ghost use Rattle.mono_steps.specs.declared.lemma.Witness.TheVariants as by;
 ghost use Rattle.mono_steps.specs.WorkedLemmas.{minus};
 ghost use Rattle.mono_theory.specs.declared.either_side.EitherSide.TheVariants as side;
 ghost use Rattle.mono_theory.specs.declared.stage.Stage.TheVariants as stage;
-ghost use Rattle.mono_theory.specs.EitherSides.{IsEitherKept};
+ghost use Rattle.mono_theory.specs.EitherSides.{IsEitherBack, IsEitherKept};
 ghost use Rattle.mono_theory.specs.Sound.{IsWitnessIn};
 ghost use Rattle.mono_theory.specs.Stages.{NoneWaits};
 ghost use Rattle.mono_theory.specs.Supports.{IsKeptBy, IsSide, IsSideFor};
@@ -87,4 +87,21 @@ pub fn what_is_kept_either_way()
         (side.Searches (keeping (Some along_the_second) None second_is_watched stage.Waits))
         (side.Searches (keeping None None second_is_watched stage.Waits)) → ⊥ }
     ensures rows_for_searches { IsEitherKept (seen_so_far []) (minus 1) (side.Searches (keeping None None ([] ∷ [] ∷ []) stage.Waits)) (rows_told 1 5) → ⊥ }
+{}
+
+/// Going back, rows are those of the literals that are left, and what searches found waits where a literal that went settled it.
+pub fn what_goes_back()
+    ensures rows { IsEitherBack 2 (rows_told 5 7) (rows_told 2 8) }
+    ensures rows_behind { IsEitherBack 6 (rows_told 5 7) (rows_told 5 7) }
+    ensures rows_too_far { IsEitherBack 2 (rows_told 5 7) (rows_told 1 7) → ⊥ }
+    ensures rows_ahead { IsEitherBack 2 (rows_told 5 7) (rows_told 5 7) → ⊥ }
+    ensures settled_later { IsEitherBack {R = ℕ} 1 (side.Searches (keeping None (Some cut_at_0) [] (stage.Forcing 2)))
+        (side.Searches (keeping None (Some cut_at_0) [] stage.Waits)) }
+    ensures settled_before { IsEitherBack {R = ℕ} 1 (side.Searches (keeping None (Some cut_at_0) [] (stage.Forcing 1)))
+        (side.Searches (keeping None (Some cut_at_0) [] (stage.Forcing 1))) }
+    ensures still_settled { IsEitherBack {R = ℕ} 1 (side.Searches (keeping None (Some cut_at_0) [] (stage.Forcing 2)))
+        (side.Searches (keeping None (Some cut_at_0) [] (stage.Forcing 2))) → ⊥ }
+    ensures forgets_what_was_shown { IsEitherBack {R = ℕ} 1 (side.Searches (keeping None (Some cut_at_0) [] (stage.Forcing 1)))
+        (side.Searches (keeping None None [] (stage.Forcing 1))) → ⊥ }
+    ensures rows_for_searches { IsEitherBack 2 (side.Searches (keeping None None [] stage.Waits)) (rows_told 2 7) → ⊥ }
 {}

@@ -16,7 +16,7 @@ use Rattle.mono_tests.specs.SmallTrail.{both_levels}
 use Rattle.mono_learn.proofs.WorkedRows.{stands_level}
 use Rattle.mono_tests.proofs.PointRows.{of_each, of_none}
 
-same_clause : (c d : List ℤ) → Some c ≡ Some d → d ≡ c
+pub same_clause : (c d : List ℤ) → Some c ≡ Some d → d ≡ c
 same_clause c d e = cc
 
 -- ---- conflicts

@@ -8,7 +8,7 @@ ghost use Rattle.mono_steps.specs.declared.lemma.Witness.TheVariants as by;
 ghost use Rattle.mono_steps.specs.declared.step.Step.TheVariants as step;
 ghost use Rattle.mono_trail.specs.declared.reason.Reason.TheVariants.{Decided, Clause, Late};
 ghost use Rattle.mono_trail.specs.Moves.{settled};
-ghost use Rattle.mono_learn.specs.ReasonsStay.{IsUnitIn};
+ghost use Rattle.mono_learn.specs.ReasonsStay.{IsUnitIn, MayJoin, StillShown};
 ghost use Rattle.mono_learn.specs.Settled.{AreAskedFor, Settles};
 ghost use Rattle.mono_learn.specs.FirstPoint.{HasOnePresent, IsMinimized, IsTaught, StepsBack, ResolvesBack};
 ghost use Rattle.mono_learn.specs.Explain.{AtomForces, IsExplanation};
@@ -130,6 +130,28 @@ pub fn atoms_were_shown_what_came_before()
     ensures no_atom { (shown : ℕ → List ℤ) → shown 2 ≡ pos 3 ∷ [] → WasForced (clauses_over 6 []) shown (both_levels 0).lits 1 2 1 → ⊥ }
     ensures no_atom_of_a_reason { (cs : List (List ℤ)) (shown : ℕ → List ℤ) → HasReasons (clauses_over 6 []) cs shown (both_levels 0) → ⊥ }
     ensures fewer { (p : Instance) (shown : ℕ → List ℤ) → shown 2 ≡ [] → WasForced p shown (both_levels 0).lits 1 2 1 → ⊥ }
+{}
+
+/// A literal may join a trail as a decision, as the one literal of a clause that isn't false, or as what an atom forces by what it
+/// was shown, which stands on the trail.
+pub fn literals_that_may_join()
+    ensures decided { (shown : ℕ → List ℤ) → MayJoin denied [] shown [] (pos 2) Decided }
+    ensures implied { (shown : ℕ → List ℤ) → MayJoin denied denied.clauses shown (minus 1 ∷ []) (pos 2) (Clause 1) }
+    ensures another_is_open { (shown : ℕ → List ℤ) → MayJoin denied denied.clauses shown [] (pos 2) (Clause 1) → ⊥ }
+    ensures not_in_it { (shown : ℕ → List ℤ) → MayJoin denied denied.clauses shown (minus 1 ∷ minus 2 ∷ []) (pos 3) (Clause 1) → ⊥ }
+    ensures no_clause { (shown : ℕ → List ℤ) → MayJoin denied denied.clauses shown (minus 1 ∷ []) (pos 2) (Clause 3) → ⊥ }
+    ensures forced { MayJoin barred [] (λ a. pos 1 ∷ minus 2 ∷ []) (minus 5 ∷ pos 1 ∷ []) (pos 3) (Late 1 1) }
+    ensures shown_more { MayJoin barred [] (λ a. pos 1 ∷ []) (pos 1 ∷ []) (pos 3) (Late 1 2) → ⊥ }
+    ensures not_forced { MayJoin barred [] (λ a. []) [] (pos 3) (Late 2 0) → ⊥ }
+    ensures not_on_the_trail { MayJoin barred [] (λ a. pos 1 ∷ []) (minus 5 ∷ []) (pos 3) (Late 1 1) → ⊥ }
+{}
+
+/// A late reason reads the same of new lists where these begin as the old ones do, as far as it reads.
+pub fn lists_that_read_the_same()
+    ensures longer { StillShown (λ a. pos 3 ∷ []) (λ a. pos 3 ∷ minus 5 ∷ []) (both_levels 0) }
+    ensures shorter { StillShown (λ a. pos 3 ∷ []) (λ a. []) (both_levels 0) → ⊥ }
+    ensures another { StillShown (λ a. pos 3 ∷ []) (λ a. pos 4 ∷ []) (both_levels 0) → ⊥ }
+    ensures no_late_reason { StillShown (λ a. pos 3 ∷ []) (λ a. []) worked_trail }
 {}
 
 /// The lemma of a literal that an atom forced is of that atom and justified, has the literal, and its others are false.

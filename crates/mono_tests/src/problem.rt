@@ -1,14 +1,14 @@
 //! Worked rows: what the words of `mono_problem` make of two small graphs.
 
 ghost use Rattle.std.specs.Prelude.{◌≡◌, ◌+◌, true, false, ℤ, List, [], ◌∷◌, length, map, pos, negsuc, Some, None};
-ghost use Rattle.mono_base.specs.declared.limits.TheConstants.{MAX_BOUND, MAX_CLAUSES, MAX_LITERALS};
+ghost use Rattle.mono_base.specs.declared.limits.TheConstants.{MAX_ATOMS, MAX_BOUND, MAX_CLAUSES, MAX_EDGES, MAX_GRAPHS, MAX_LITERALS, MAX_NODES, MAX_VARS};
 ghost use Rattle.mono_graph.specs.Worked.{edge_of, pipe, round_trip, single};
 ghost use Rattle.mono_problem.specs.declared.atom.Predicate.TheVariants as kind;
 ghost use Rattle.mono_problem.specs.declared.uses.Use.TheVariants as use_of;
 ghost use Rattle.mono_problem.specs.Assuming.{HasRoom};
 ghost use Rattle.mono_problem.specs.Growth.{nothing, raised, with_graph, with_edge, with_atom, with_clause};
 ghost use Rattle.mono_problem.specs.Holds.{HoldsAtom};
-ghost use Rattle.mono_problem.specs.Instance.{Instance, graph_at, identity_at, literals_total, place_named, has_number, totals_of};
+ghost use Rattle.mono_problem.specs.Instance.{Instance, edges_total, graph_at, identity_at, literals_total, nodes_total, place_named, has_number, totals_of};
 ghost use Rattle.mono_problem.specs.Read.{atom_numbered, clause_numbered};
 ghost use Rattle.mono_problem.specs.Uses.{all_uses, has_edge_use, uses_of};
 ghost use Rattle.mono_problem.specs.WellFormed.{IsInstance, IsOver};
@@ -137,4 +137,15 @@ pub fn whole_problems()
     ensures variable_beyond { IsInstance (asks_only (record reaches_2 { var = 7 })) → ⊥ }
     ensures literal_0 { IsInstance (of_clauses ((pos 0 ∷ []) ∷ [])) → ⊥ }
     ensures literal_beyond { IsInstance (of_clauses ((minus 7 ∷ []) ∷ [])) → ⊥ }
+{}
+
+/// A problem has no more variables, graphs, nodes, edges, predicates, clauses and literals than an input may have.
+pub fn problems_beyond_the_limits()
+    ensures variables { (p : Instance) → p.vars ≡ MAX_VARS + 1 → IsInstance p → ⊥ }
+    ensures graphs { (p : Instance) → length p.graphs ≡ MAX_GRAPHS + 1 → IsInstance p → ⊥ }
+    ensures nodes { (p : Instance) → nodes_total p ≡ MAX_NODES + 1 → IsInstance p → ⊥ }
+    ensures edges { (p : Instance) → edges_total p ≡ MAX_EDGES + 1 → IsInstance p → ⊥ }
+    ensures predicates { (p : Instance) → length p.atoms ≡ MAX_ATOMS + 1 → IsInstance p → ⊥ }
+    ensures clauses { (p : Instance) → length p.clauses ≡ MAX_CLAUSES + 1 → IsInstance p → ⊥ }
+    ensures literals { (p : Instance) → literals_total p ≡ MAX_LITERALS + 1 → IsInstance p → ⊥ }
 {}

@@ -143,6 +143,8 @@ pub fn zero_alone()
 /// Units come one after the other, the last one first. Each needs a clause whose other literals came before it.
 pub fn unit_propagation()
     ensures unit { is_unit_with (minus 1 ∷ []) ((pos 1 ∷ pos 2 ∷ []) ∷ []) (pos 2) ≡ true }
+    ensures alone { is_unit_with [] ((pos 2 ∷ []) ∷ []) (pos 2) ≡ true }
+    ensures another_alone { is_unit_with [] ((pos 2 ∷ []) ∷ []) (minus 2) ≡ false }
     ensures open_literal { is_unit_with [] ((pos 1 ∷ pos 2 ∷ []) ∷ []) (pos 2) ≡ false }
     ensures not_in_it { is_unit_with (minus 1 ∷ minus 2 ∷ []) ((pos 1 ∷ pos 2 ∷ []) ∷ []) (pos 3) ≡ false }
     ensures second_clause { is_unit_with (minus 3 ∷ []) ((pos 1 ∷ pos 2 ∷ []) ∷ (pos 3 ∷ pos 1 ∷ []) ∷ []) (pos 1) ≡ true }

@@ -1,5 +1,5 @@
 -- Fields: numbers in a row, each within the limit at its place.
-use Rattle.std.specs.Prelude.{ℕ, ◌+◌, List, [], ◌∷◌, length, ◌==◌, nat_lt, if◌then◌else◌, Result, Ok, Err}
+use Rattle.std.specs.Prelude.{ℕ, ◌+◌, List, [], ◌∷◌, drop, length, nat_le, ◌==◌, nat_lt, if◌then◌else◌, Result, Ok, Err}
 use Rattle.mono_text.specs.Numbers.{natural, within}
 use Rattle.mono_text.specs.declared.number.NumberRefusal.{NumberRefusal}
 use Rattle.mono_text.specs.declared.number.NumberRefusal.TheVariants as refusal
@@ -30,3 +30,7 @@ first_fields limits ts = if nat_lt (length ts) (length limits) then Err field.Co
 -- the fields that all tokens are, where there is exactly one for each limit
 abbrev pub fields_of : List ℕ → List (List ℕ) → Result (List ℕ) FieldRefusal
 fields_of limits ts = if length ts == length limits then fields_from 0 limits ts else Err field.Count
+
+-- the fields that all tokens behind the first n are
+abbrev pub fields_behind : ℕ → List ℕ → List (List ℕ) → Result (List ℕ) FieldRefusal
+fields_behind n limits ts = if nat_le n (length ts) then fields_of limits (drop n ts) else Err field.Count

@@ -4,9 +4,10 @@
 //! tokens are cut, since a wrong count comes before every fault of a field.
 
 ghost use Rattle.std.specs.Prelude.{◌≡◌, ◌<◌, ◌≤◌, nat_le, length, drop, IfOk, ℕ, slice_index};
-ghost use Rattle.mono_text.specs.Fields.{refused, first_fields, fields_of};
+ghost use Rattle.mono_text.specs.Fields.{refused, first_fields, fields_behind, fields_of};
+ghost use Rattle.mono_text.specs.Text.{tokens_of};
 
-use crate::{NumberRefusal, Tokens};
+use crate::{Line, NumberRefusal, Tokens};
 
 /// Why tokens aren't these fields.
 #[derive(Clone, Copy, PartialEq, Eq, Debug)]
@@ -77,7 +78,7 @@ pub fn first_fields<const N: usize>(
 /// `Count` exactly where there aren't `N` tokens. Otherwise the first field from the left that isn't a natural up to its
 /// limit is named by its place, from 0.
 #[inline(always)]
-pub fn fields<const N: usize>(
+pub fn fields_left<const N: usize>(
     mut tokens: Tokens<'_>,
     limits: &[u64; N],
 ) -> Result<[u64; N], FieldRefusal>
@@ -89,5 +90,27 @@ pub fn fields<const N: usize>(
     match tokens.next() {
         None => read,
         Some(_) => Err(FieldRefusal::Count),
+    }
+}
+
+/// The naturals that the line's tokens behind the first `skip` are, one for each limit and up to it.
+///
+/// `Count` exactly where the line hasn't `skip + N` tokens. Otherwise the first field from the left that isn't a natural up
+/// to its limit is named by its place, from 0.
+#[inline(always)]
+pub fn fields<const N: usize>(
+    line: &Line<'_>,
+    skip: usize,
+    limits: &[u64; N],
+) -> Result<[u64; N], FieldRefusal>
+    ensures value { result ≡ fields_behind skip limits.now (tokens_of line.now.text.now) }
+    ensures within { IfOk result (λ values.
+        (k : ℕ) → k < N → slice_index values k ≤ slice_index limits.now k) }
+{
+    let mut tokens = line.tokens();
+    if pass(&mut tokens, skip) {
+        fields_left(tokens, limits)
+    } else {
+        Err(FieldRefusal::Count)
     }
 }

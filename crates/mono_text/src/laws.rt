@@ -4,7 +4,7 @@ ghost use Rattle.std.specs.Prelude.{◌≡◌, [], ◌∷◌, codes, decimal, So
 ghost use Rattle.std.specs.Fmt.{signed_decimal};
 ghost use Rattle.mono_text.specs.Text.{lines_of, numbered_from, tokens_of, token_lines, first_byte, is_comment, is_skipped, spaced};
 ghost use Rattle.mono_text.specs.Numbers.{natural, signed, within, signed_within, IsFirstNatural, IsFirstSigned};
-ghost use Rattle.mono_text.specs.Fields.{first_fields, fields_of};
+ghost use Rattle.mono_text.specs.Fields.{first_fields, fields_behind, fields_of};
 ghost use Rattle.mono_text.specs.declared.number.NumberRefusal.TheVariants as refusal;
 ghost use Rattle.mono_text.specs.declared.field.FieldRefusal.TheVariants as field;
 
@@ -114,6 +114,11 @@ pub fn worked_fields()
     ensures first { first_fields (5 ∷ 9 ∷ []) (codes "5" ∷ codes "9" ∷ []) ≡ Ok (5 ∷ 9 ∷ []) }
     ensures first_more { first_fields (5 ∷ 9 ∷ []) (codes "5" ∷ codes "9" ∷ codes "x" ∷ []) ≡ Ok (5 ∷ 9 ∷ []) }
     ensures first_fewer { first_fields (5 ∷ 9 ∷ []) (codes "x" ∷ []) ≡ Err field.Count }
+    ensures behind { fields_behind 1 (5 ∷ 9 ∷ []) (codes "x" ∷ codes "5" ∷ codes "9" ∷ []) ≡ Ok (5 ∷ 9 ∷ []) }
+    ensures behind_all { fields_behind 2 [] (codes "x" ∷ codes "y" ∷ []) ≡ Ok [] }
+    ensures none_behind { fields_behind 2 [] (codes "x" ∷ []) ≡ Err field.Count }
+    ensures fewer_behind { fields_behind 1 (5 ∷ 9 ∷ []) (codes "5" ∷ codes "9" ∷ []) ≡ Err field.Count }
+    ensures fault_behind { fields_behind 1 (5 ∷ 9 ∷ []) (codes "x" ∷ codes "5" ∷ codes "10" ∷ []) ≡ Err (field.TooLarge 1) }
     ensures first_refused { first_fields (5 ∷ 9 ∷ []) (codes "6" ∷ codes "x" ∷ codes "x" ∷ []) ≡ Err (field.TooLarge 0) }
 {}
 

@@ -25,7 +25,7 @@ mod print;
 mod tokens;
 
 pub use decimal::{push_natural, push_signed};
-pub use field::{FieldRefusal, fields, first_fields};
+pub use field::{FieldRefusal, fields, fields_left, first_fields};
 pub use laws::{
     natural_of_decimal, printed_numbers, signed_of_decimal, worked_comments, worked_fields,
     worked_first_numbers, worked_limits, worked_lines, worked_numbers, worked_other_numbers,

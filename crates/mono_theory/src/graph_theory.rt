@@ -127,6 +127,8 @@ pub struct GraphTheory<K: Kind, S: Side<K> = KeptSide, P: Side<K> = KeptSide> {
     /// What is kept of the atoms with the surely present edges, and with the possibly present ones.
     surely: S,
     possibly: P,
+    /// How many literals it has explained, up to the last value of the type.
+    explained: u32,
 }
 
 impl<K: Kind, S: Side<K>, P: Side<K>> Model for GraphTheory<K, S, P> {
@@ -209,6 +211,7 @@ impl<K: Kind, S: NewSide<K>, P: NewSide<K>> GraphTheory<K, S, P> {
             kind,
             surely,
             possibly,
+            explained: 0,
         })
     }
 }
@@ -258,7 +261,7 @@ impl<K: Kind, S: Side<K>, P: Side<K>> Theory for GraphTheory<K, S, P> {
     }
 
     fn prefers(&self, var: u32) -> bool {
-        K::FOLLOWS_WITNESS && self.possibly.prefers(&self.frame, var)
+        self.explained < K::MOST_FOLLOWED && self.possibly.prefers(&self.frame, var)
     }
 
     fn seen(&self) -> usize {
@@ -324,6 +327,7 @@ impl<K: Kind, S: Side<K>, P: Side<K>> Theory for GraphTheory<K, S, P> {
         ensures surely { self.new.surely ≡ self.old.surely }
         ensures possibly { self.new.possibly ≡ self.old.possibly }
     {
+        self.explained = self.explained.saturating_add(1);
         explanation::<K, S, P>(
             self.alloc,
             &mut self.kind,

@@ -181,6 +181,16 @@ impl KeptSide {
         self.shown.is_right(self.part(frame), atom, !self.possible)
     }
 
+    /// The support that is kept of the atom, if there is one. It rests on edges of the side's own value, and needn't be right.
+    pub(crate) fn support(&self, frame: &Frame, atom: u32) -> Option<&Evidence>
+        requires side { IsSide frame.now self.now.possible self.now }
+        requires atom { atom < length frame.now.atoms }
+        ensures { IfSome result (λ e. IsSound frame.now.graph (atom_at frame.now.atoms atom).predicate self.now.possible e.now) }
+    {
+        let _ = frame.seen();
+        self.supports.at(atom).as_ref()
+    }
+
     /// An atom that waits stands on its support, which is right.
     pub(crate) fn stand(&mut self, atom: u32)
         requires next { IsNext self.old atom }

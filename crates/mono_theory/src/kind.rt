@@ -1,6 +1,6 @@
 //! What a kind of predicate supplies. All else is the same for every kind.
 
-ghost use Rattle.std.specs.Prelude.{◌≡◌, IfOk, IsTrue};
+ghost use Rattle.std.specs.Prelude.{◌≡◌, ◌<◌, All, IfOk, IfSome, IsTrue, length};
 ghost use Rattle.mono_theory.specs.Evidences.{IsEvidence};
 
 use crate::Evidence;
@@ -27,9 +27,12 @@ pub trait Kind: Drop {
 
     ghost IS_THOROUGH: { Bool };
 
-    /// Whether a decision takes an edge to be present where what shows that a predicate may hold, whose variable is true,
-    /// rests on it. Nothing hangs on it but how long a search takes.
-    const FOLLOWS_WITNESS: bool;
+    /// Until a theory has explained so many literals, a decision takes an edge to be present where what shows that a predicate
+    /// may hold, whose variable is true, rests on it. Nothing hangs on it but how long a search takes.
+    ///
+    /// Where a problem has a model that needs few conflicts, following finds it: each edge that is decided absent may take away
+    /// something that is kept. Where conflicts go on, following walks within bounds, and trees, makes more of them.
+    const MOST_FOLLOWED: u32;
 
     /// Room for graphs with this many nodes.
     fn with_nodes(alloc: Global, count: u32) -> Result<Self, AllocError>
@@ -49,4 +52,27 @@ pub trait Kind: Drop {
         requires part { IsPartOf part.now graph.now }
         ensures size { nodes self.new ≡ nodes self.old }
         ensures evidence { IfOk result (IsEvidence graph.now part.now predicate) };
+
+    /// What shows that the predicate holds in the part, or that it fails there, found near to the evidence that was kept of it and
+    /// that is right no more: edges on which that rests came or went. Where none was kept, what a short search finds. `None` where
+    /// nothing was found: then `evidence` tells.
+    fn mend(
+        &mut self,
+        alloc: Global,
+        graph: &Graph,
+        part: &Part,
+        predicate: Predicate,
+        kept: Option<&Evidence>,
+    ) -> Result<Option<Evidence>, AllocError>
+        requires size { nodes self.old ≡ graph.now.nodes }
+        requires kind { IsTrue (covers predicate) }
+        requires over { IsOver graph.now predicate }
+        requires part { IsPartOf part.now graph.now }
+        requires kept { IfSome kept (λ e. All (λ k. k < length graph.now.edges) e.now.edges) }
+        ensures size { nodes self.new ≡ nodes self.old }
+        ensures evidence { IfOk result (λ found. IfSome found (IsEvidence graph.now part.now predicate)) }
+    {
+        let _ = (alloc, graph.nodes(), predicate);
+        Ok(None)
+    }
 }

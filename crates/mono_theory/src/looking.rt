@@ -5,14 +5,15 @@
 //! Where predicates of settled atoms needn't be decided, a settled atom shows without a look.
 
 ghost use Rattle.std.specs.Prelude.{◌≡◌, ◌<◌, not, length, IfOk};
+ghost use Rattle.mono_theory.specs.Evidences.{IsEvidence};
 ghost use Rattle.mono_theory.specs.Sound.{IsRightIn, evidence_at};
 ghost use Rattle.mono_theory.specs.Stages.{NoneWaits};
-ghost use Rattle.mono_theory.specs.Supports.{AreCovered, ExamineIs, IsAlike, IsNext, IsSide, SideIs, part_of};
+ghost use Rattle.mono_theory.specs.Supports.{AreCovered, ExamineIs, IsAlike, IsNext, IsSide, SideIs, atom_at, part_of};
 
 use crate::evidence::{literal, rests_on_present, shown_by};
 use crate::frame::Frame;
 use crate::kept_side::KeptSide;
-use crate::{Force, Kind};
+use crate::{Evidence, Force, Kind};
 use std::alloc::{AllocError, Global};
 
 /// An atom that waits shows, or forces its literal where that isn't true.
@@ -36,6 +37,33 @@ fn answer_shown(frame: &Frame, side: &mut KeptSide, place: u32) -> Force
     }
 }
 
+/// What shows whether the predicate of an atom holds with the edges of the side: near to the support that is kept of it, or else
+/// what a search finds.
+fn evidence_of<K: Kind>(
+    alloc: Global,
+    kind: &mut K,
+    frame: &Frame,
+    side: &KeptSide,
+    place: u32,
+) -> Result<Evidence, AllocError>
+    requires size { K.nodes kind.old ≡ frame.now.graph.nodes }
+    requires covered { AreCovered K.covers frame.now.atoms }
+    requires side { IsSide frame.now side.now.possible side.now }
+    requires place { place < length frame.now.atoms }
+    ensures size { K.nodes kind.new ≡ K.nodes kind.old }
+    ensures evidence { IfOk result (IsEvidence frame.now.graph (part_of frame.now.graph frame.now.seen side.now.possible)
+        (atom_at frame.now.atoms place).predicate) }
+{
+    let predicate = frame.atom_at(place as usize).predicate;
+    let graph = frame.graph();
+    let part = side.part(frame);
+    let kept = side.support(frame, place);
+    if let Some(evidence) = kind.mend(alloc, graph, part, predicate, kept)? {
+        return Ok(evidence);
+    }
+    kind.evidence(alloc, graph, part, predicate)
+}
+
 /// Searches for what shows whether the predicate of an atom that waits is decided as the side would have it.
 fn search<K: Kind>(
     alloc: Global,
@@ -54,9 +82,7 @@ fn search<K: Kind>(
     ensures alike { IsAlike side.old side.new }
     ensures answer { IfOk result (ExamineIs frame.now side.old side.new) }
 {
-    let atom = frame.atom_at(place as usize);
-    let graph = frame.graph();
-    let evidence = kind.evidence(alloc, graph, side.part(frame), atom.predicate)?;
+    let evidence = evidence_of::<K>(alloc, kind, frame, side, place)?;
     if rests_on_present(&evidence.witness) == side.is_possible() {
         side.take_up(alloc, frame, place, evidence)?;
         return Ok(Force::Quiet);

@@ -233,6 +233,11 @@ impl<K: AsksWalk> Rows<K> for PossibleRows {
         self.rows.undo_to(kept as u32);
     }
 
+    fn prefers(&self, frame: &Frame, looked: usize, var: u32) -> bool {
+        let _ = (frame.seen(), looked);
+        self.rows.rest_on_any(frame.graph(), frame.edges_of(var))
+    }
+
     fn shows(&self, frame: &Frame, looked: usize, place: usize) -> bool {
         let _ = (frame.atom_at(place), looked);
         self.is_cut_off(place)

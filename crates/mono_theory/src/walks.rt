@@ -1,6 +1,6 @@
 //! Evidence from edges that are named one by one, for every kind of predicate that a walk serves.
 
-ghost use Rattle.std.specs.Prelude.{◌≡◌, ◌<◌, length, All, IfOk};
+ghost use Rattle.std.specs.Prelude.{◌≡◌, ◌<◌, ℕ, length, All, IfOk, IfSome};
 ghost use Rattle.mono_theory.specs.Walked.{numbers_of, walk_evidence as walk_evidence_of};
 
 use crate::Evidence;
@@ -32,4 +32,17 @@ pub fn walk_evidence(alloc: Global, graph: &Graph, places: Vec<u32>) -> Result<E
         witness: Witness::Path(Row::from_vec(numbers)),
         edges: Row::from_vec(places),
     })
+}
+
+/// The edges of a walk that is kept, by their places: none where nothing is kept. `None` where what is kept is no walk.
+pub fn kept_walk(kept: Option<&Evidence>) -> Option<&[u32]>
+    ensures { (count : ℕ) → IfSome kept.entry (λ e. All (λ k. k < count) e.now.edges) → IfSome result (λ ks. All (λ k. k < count) ks.now) }
+{
+    match kept {
+        None => Some(&[]),
+        Some(evidence) => match evidence.witness {
+            Witness::Path(_) => Some(evidence.edges.as_slice()),
+            _ => None,
+        },
+    }
 }

@@ -17,6 +17,12 @@ use std::marker::Model;
 /// What the first bumps add to an activity. With it a decay always makes the increment greater.
 const FIRST_INCREMENT: u64 = 64;
 
+/// The activity of a variable that was never bumped.
+const FIRST_ACTIVITY: u64 = 1;
+
+/// The activity of a variable that is held back, and of no other.
+const HELD_BACK: u64 = 0;
+
 /// By how many binary digits the activities and the increment are scaled down.
 const SCALE: u32 = 40;
 
@@ -53,7 +59,7 @@ impl Heap {
         ensures { IfOk result (λ h. h ≡ replicate vars true) }
     {
         let ranking = Ranking::new(alloc, vars)?;
-        let activities = zeros(alloc, vars as usize)?;
+        let activities = first_activities(alloc, vars as usize)?;
         Ok(Heap {
             ranking,
             count: vars as usize,
@@ -74,7 +80,7 @@ impl Heap {
         exchange(&mut self.ranking, 0, last);
         let index = self.ranking.item(last);
         self.count = last;
-        sift_down(&mut self.ranking, &self.activities, last);
+        sift_down(&mut self.ranking, &self.activities, 0, last);
         Some(index + 1)
     }
 
@@ -93,17 +99,32 @@ impl Heap {
         sift_up(&mut self.ranking, &self.activities, last, self.count);
     }
 
-    /// The variable becomes more active.
+    /// The variable becomes more active, unless it is held back.
     pub fn bump(&mut self, var: u32)
         requires { IsVar (length self.old) var }
         ensures { self.new ≡ self.old }
     {
         let index = var as usize - 1;
+        if self.activities[index] == HELD_BACK {
+            return;
+        }
         make_room(&mut self.activities, &mut self.increment, index);
         self.activities[index] += self.increment;
         let place = self.ranking.place(var - 1);
         if place < self.count {
             sift_up(&mut self.ranking, &self.activities, place, self.count);
+        }
+    }
+
+    /// The variable is less active than all that aren't held back, and stays so.
+    pub fn hold_back(&mut self, var: u32)
+        requires { IsVar (length self.old) var }
+        ensures { self.new ≡ self.old }
+    {
+        self.activities[var as usize - 1] = HELD_BACK;
+        let place = self.ranking.place(var - 1);
+        if place < self.count {
+            sift_down(&mut self.ranking, &self.activities, place, self.count);
         }
     }
 
@@ -116,11 +137,11 @@ impl Heap {
     }
 }
 
-/// So many zeros.
-fn zeros(alloc: Global, count: usize) -> Result<Vec<u64>, AllocError>
+/// The activities of so many variables that were never bumped.
+fn first_activities(alloc: Global, count: usize) -> Result<Vec<u64>, AllocError>
     ensures { IfOk result (λ all. length all.items ≡ count) }
 {
-    vec![in alloc; 0; count]
+    vec![in alloc; FIRST_ACTIVITY; count]
 }
 
 /// A bump of the variable fits afterwards.
@@ -144,16 +165,26 @@ fn halve_range(activities: &mut [u64], increment: &mut u64)
     }
 }
 
-/// The activities and the increment lose their last binary digits, and the order by activity stays.
+/// The activities and the increment lose their last binary digits. The order by activity stays, and who is held back.
 fn scale_down(activities: &mut [u64], increment: &mut u64)
     ensures as_many { length activities.new ≡ length activities.old }
     ensures small { All (λ a. a < 2 ^ 24) activities.new }
     ensures increment { increment.new < 2 ^ 24 }
 {
     for activity in activities {
-        *activity >>= SCALE;
+        *activity = scaled(*activity);
     }
     *increment = (*increment >> SCALE).max(FIRST_INCREMENT);
+}
+
+/// The activity without its last binary digits.
+fn scaled(activity: u64) -> u64
+    ensures { result < 2 ^ 24 }
+{
+    if activity == HELD_BACK {
+        return HELD_BACK;
+    }
+    (activity >> SCALE).max(FIRST_ACTIVITY)
 }
 
 /// The variables at two places change places.
@@ -191,17 +222,18 @@ fn sift_up(ranking: &mut Ranking, activities: &[u64], start: usize, count: usize
     }
 }
 
-/// The variable at the top of the heap goes down until none below it is more active.
-fn sift_down(ranking: &mut Ranking, activities: &[u64], count: usize)
+/// The variable at a place of the heap goes down until none below it is more active.
+fn sift_down(ranking: &mut Ranking, activities: &[u64], start: usize, count: usize)
     requires inverse { AreInverse ranking.old.items ranking.old.places }
     requires few { length ranking.old.items ≤ MAX_VARS }
     requires scored { length activities.now ≡ length ranking.old.items }
+    requires start { start ≤ count }
     requires count { count ≤ length ranking.old.items }
     ensures inverse { AreInverse ranking.new.items ranking.new.places }
     ensures as_many { length ranking.new.items ≡ length ranking.old.items }
     ensures waits { waits_of count ranking.new.places ≡ waits_of count ranking.old.places }
 {
-    let mut place = 0;
+    let mut place = start;
     while let Some(child) = child_of(ranking, activities, place, count) {
         if !is_before(ranking, activities, child, place) {
             return;

@@ -2,7 +2,8 @@
 //!
 //! The variables that wait stand in a binary heap, the most active first. Activities are whole numbers: a bump adds the
 //! present increment, and a decay makes the increment greater instead of making every activity less. Before a number
-//! would pass its range, all of them are scaled down, which keeps their order.
+//! would pass its range, all of them are scaled down, which keeps their order. A variable that is held back comes last,
+//! and no bump changes that.
 
 ghost use Rattle.std.specs.Prelude.{◌≡◌, ◌≤◌, ◌-◌, ◌<◌, length, true, IfOk, IfSome, IfNone, slice_set, pos, int_lt};
 ghost use Rattle.mono_base.specs.Literal.{var_of, value_in, IsLitWithin};
@@ -76,12 +77,20 @@ impl Order {
         self.heap.insert(var);
     }
 
-    /// The variable becomes more active, and so comes earlier.
+    /// The variable becomes more active, and so comes earlier, unless it is held back.
     pub fn bump(&mut self, var: u32)
         requires { IsVar (length self.old.waits) var }
         ensures { self.new ≡ self.old }
     {
         self.heap.bump(var);
+    }
+
+    /// The variable comes behind all that aren't held back, whatever is bumped.
+    pub fn hold_back(&mut self, var: u32)
+        requires { IsVar (length self.old.waits) var }
+        ensures { self.new ≡ self.old }
+    {
+        self.heap.hold_back(var);
     }
 
     /// Earlier bumps count for less from now on: for 16 parts of 17.

@@ -130,7 +130,7 @@ impl Kind for Tree {
 
     ghost IS_THOROUGH = { false };
 
-    const FOLLOWS_WITNESS: bool = false;
+    const MOST_FOLLOWED: u32 = 1;
 
     fn with_nodes(alloc: Global, count: u32) -> Result<Self, AllocError> {
         let finder = TreeFinder::new(alloc, count)?;

@@ -60,7 +60,7 @@ def main(words: Sequence[str] | None = None) -> int:
     if given.file is None and given.judge is None:
         made.error("a FILE is wanted, or --judge FOLDER")
     try:
-        with programs.tidy_on_sigterm():
+        with programs.tidy_on_signals():
             return judge(given) if given.judge else solve(given)
     except (GulfezoError, NotAccepted, OSError) as fault:
         print(f"gulfezo-cubes: {fault}", file=sys.stderr)

@@ -1,6 +1,6 @@
 //! Cores of assumptions, each handed to `check-with`.
 
-use super::{Outcome, assert_outcome, outcome_of};
+use super::{Outcome, USAGE, assert_outcome, outcome_of};
 use crate::status::Status;
 use std::alloc::{AllocError, Global};
 use std::process::Abort;
@@ -79,6 +79,23 @@ fn cores_are_accepted_under_their_literals(rt: HostRuntime) -> Result<(), Fail> 
         let judged = judged_with(rt.alloc(), found.text.as_slice(), judged_under)?;
         assert_outcome(&rt, &judged, verdict, Status::Accepted);
     }
+    Ok(())
+}
+
+/// There may be a thousand assumptions; more are no command.
+#[test]
+fn a_thousand_literals_are_assumed(rt: HostRuntime) -> Result<(), Fail> {
+    let most = vec![in rt.alloc(); "1"; 1000]?;
+    let found = core_of(rt.alloc(), most.as_slice())?;
+    assert_outcome(
+        &rt,
+        &found,
+        b"s SATISFIABLE\nv 1 -2 -3 0\n",
+        Status::Satisfiable,
+    );
+    let more = vec![in rt.alloc(); "1"; 1001]?;
+    let refused = core_of(rt.alloc(), more.as_slice())?;
+    assert_outcome(&rt, &refused, USAGE, Status::Words);
     Ok(())
 }
 

@@ -20,6 +20,12 @@ const OTHER: &str = "s SATISFIABLE\nv 1 2 0\n";
 
 const BAD: &str = "bad\n\n\n\n\n\n\n\n";
 
+/// A name of 300 bytes.
+const LONG_NAME: &str =
+    "a.a.a.a.a.a.a.a.a.a.a.a.a.a.a.a.a.a.a.a.a.a.a.a.a.a.a.a.a.a.a.a.a.a.a.a.a.a.a.a.a.a.a.a.a.a.a.a.a.a.\
+     a.a.a.a.a.a.a.a.a.a.a.a.a.a.a.a.a.a.a.a.a.a.a.a.a.a.a.a.a.a.a.a.a.a.a.a.a.a.a.a.a.a.a.a.a.a.a.a.a.a.\
+     a.a.a.a.a.a.a.a.a.a.a.a.a.a.a.a.a.a.a.a.a.a.a.a.a.a.a.a.a.a.a.a.a.a.a.a.a.a.a.a.a.a.a.a.a.a.a.a.a.a.";
+
 /// Two edges in a row that are there, and a predicate that denies that they lead on.
 const DENIED: &str =
     "digraph int 3 2 0\nedge 0 0 1 1\nedge 0 1 2 2\nreach 0 0 2 3\n1 0\n2 0\n-3 0\n";
@@ -101,6 +107,42 @@ fn a_missing_file_is_a_read_fault(rt: HostRuntime) -> Result<(), Fail> {
         (&["solve", "missing"], "", "read fault\n", Status::ReadFault),
         (&["print", "missing"], "", "read fault\n", Status::ReadFault),
         (
+            &["core", "missing", "1"],
+            INPUT,
+            "read fault\n",
+            Status::ReadFault,
+        ),
+        (
+            &["check-with", "missing", "f", "1"],
+            INPUT,
+            "read fault\n",
+            Status::ReadFault,
+        ),
+        (
+            &["check-with", "f", "missing", "1"],
+            INPUT,
+            "read fault\n",
+            Status::ReadFault,
+        ),
+        (
+            &["best", "missing", "1"],
+            INPUT,
+            "read fault\n",
+            Status::ReadFault,
+        ),
+        (
+            &["ask", "missing", "1", "4"],
+            INPUT,
+            "read fault\n",
+            Status::ReadFault,
+        ),
+        (
+            &["team", "missing", "1", "1"],
+            INPUT,
+            "read fault\n",
+            Status::ReadFault,
+        ),
+        (
             &["migrate", "f", "b", "2"],
             DENIED,
             "read fault\n",
@@ -156,6 +198,57 @@ fn an_input_beyond_its_limit_is_too_long(rt: HostRuntime) -> Result<(), Fail> {
             (&["solve", "f"], "too long\n", Status::TooLong),
             (&["check", "f", "missing"], "too long\n", Status::TooLong),
         ],
+    )
+}
+
+/// With as many clauses as there may be, there is no room for one more of each assumption, whether ANSWER is there or not.
+#[test]
+fn assumptions_find_no_room(rt: HostRuntime) -> Result<(), Fail> {
+    let clause: &[u8] = b"0\n";
+    let clauses = clause.repeat(rt.alloc(), 8_000_000)?;
+    each_ends(
+        &rt,
+        clauses.as_slice(),
+        &[
+            (&["core", "f", "1"], "refused 0 TooMany\n", Status::Refused),
+            (
+                &["check-with", "f", "missing", "1"],
+                "refused 0 TooMany\n",
+                Status::Refused,
+            ),
+        ],
+    )
+}
+
+/// The greatest budget, one name for FILE and ANSWER, and a path of more than 255 bytes.
+#[test]
+fn words_at_their_limits_are_taken(rt: HostRuntime) -> Result<(), Fail> {
+    each_ends(
+        &rt,
+        INPUT.as_bytes(),
+        &[
+            (
+                &["solve", "f", "--conflicts", "18446744073709551615"],
+                MODEL,
+                Status::Satisfiable,
+            ),
+            (
+                &["check", "f", "f"],
+                "rejected 1 NotAnswer\n",
+                Status::Rejected,
+            ),
+        ],
+    )?;
+    let mut shelf = MemoryShelf::new(rt.alloc());
+    shelf.put(LONG_NAME, INPUT.as_bytes())?;
+    let text = b"p gnf 2 2\n1 2 0\n-1 0\n";
+    ends_within(
+        &rt,
+        &["print", LONG_NAME],
+        &mut shelf,
+        100,
+        text,
+        Status::Printed,
     )
 }
 

@@ -156,13 +156,11 @@ fn fields_of_lines(rt: HostRuntime) {
         (b"5 -9", Err(FieldRefusal::NotNumber(1))),
     ];
     for (text, want) in pairs {
-        assert_eq!(rt; fields(line_of(text).tokens(), &[5, 9]), want);
+        assert_eq!(rt; fields(&line_of(text), 0, &[5, 9]), want);
     }
-    assert_eq!(rt; fields(line_of(b" ").tokens(), &[]), Ok([]));
-    assert_eq!(rt;
-        fields(line_of(b"a").tokens(), &[]),
-        Err(FieldRefusal::Count)
-    );
+    assert_eq!(rt; fields(&line_of(b"a 5 09"), 1, &[5, 9]), Ok([5, 9]));
+    assert_eq!(rt; fields(&line_of(b" "), 0, &[]), Ok([]));
+    assert_eq!(rt; fields(&line_of(b"a"), 0, &[]), Err(FieldRefusal::Count));
 }
 
 #[test]

@@ -11,6 +11,11 @@ none_of_two (false ∷ []) is on = cc
 none_of_two (false ∷ (true ∷ flags)) is on = cc
 none_of_two (false ∷ (false ∷ flags)) is on = cc
 
+none_of_both : (flags : List Bool) → [] ≡ pick flags (minus 1 ∷ pos 1 ∷ []) → is_set flags 0 ≡ true → ⊥
+none_of_both [] is on = cc
+none_of_both (true ∷ flags) is on = cc
+none_of_both (false ∷ flags) is on = cc
+
 not_picked : (flags : List Bool) → pos 2 ∷ [] ≡ pick flags (minus 1 ∷ []) → ⊥
 not_picked [] is = cc
 not_picked (true ∷ []) is = cc
@@ -43,6 +48,9 @@ returns-clause-model_that_breaks_another c = λ h. let e = h.satisfies.0 in cc
 
 pub returns-clause-other_left_out : goal.returns-clause-other_left_out
 returns-clause-other_left_out c = λ h. none_of_two h.flags h.is (h.others 1 (λ e. omega (arith, e)) refl)
+
+pub returns-clause-earlier_left_out : goal.returns-clause-earlier_left_out
+returns-clause-earlier_left_out c = λ h. none_of_both h.flags h.is (h.others 0 (λ e. omega (arith, e)) refl)
 
 pub returns-clause-not_assumed : goal.returns-clause-not_assumed
 returns-clause-not_assumed c = λ h. not_picked h.flags h.is

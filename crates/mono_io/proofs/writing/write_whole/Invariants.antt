@@ -1,5 +1,5 @@
 use Rattle.std.proofs.Common.{◌≡◌, ◌-◌, ◌≤◌, length, take, drop}
-use Rattle.std.specs.Io.KnownBytes.{append_known}
+use Rattle.std.specs.Io.KnownBytes.{Appends}
 use Rattle.mono_io.proofs.writing.write_whole.Given as goal
 
 -- what was written is the text's front, up to the rest
@@ -9,7 +9,7 @@ invariant-loop-rest g l =
     record {
       shorter : length l.rest ≤ length l.bytes;
       rest : l.rest ≡ drop done l.bytes;
-      written : g.K.Sink.written l.sink ≡ append_known (g.K.Sink.written l.initial.sink) (take done l.bytes);
+      written : Appends (g.K.Sink.written l.initial.sink) (g.K.Sink.written l.sink) (take done l.bytes);
       faults : g.K.Sink.faults l.sink ≡ g.K.Sink.faults l.initial.sink;
     }
 

@@ -1,10 +1,11 @@
-use Rattle.std.proofs.Common.{◌≡◌, ◌+◌, ◌-◌, ℕ, List, length, set, sym, subst, ◌∙◌, arith}
+use Rattle.std.proofs.Common.{◌≡◌, ◌<◌, ◌+◌, ◌-◌, All, ℕ, List, length, set, sym, subst, ◌∙◌, arith}
 use Rattle.std.proofs.lemmas.List.{get_or_read, length-set}
+use Rattle.std.proofs.lemmas.List.Elements.{All-push}
 use Rattle.mono_flows.specs.declared.visit.Visit.{Visit}
 use Rattle.mono_flows.specs.Flowing.{IsFlowing}
 use Rattle.mono_flows.specs.Residual.{amount_of}
 use Rattle.mono_flows.specs.Visits.{visit_at}
-use Rattle.mono_flows.proofs.Augmenting.{Moving, forth, back, moved}
+use Rattle.mono_flows.proofs.Augmenting.{AreTouched, Moving, forth, back, moved, touched_more}
 use Rattle.mono_flows.proofs.flow.Flow.augment.Goals as goal
 
 pub loop-at-preserved-then-visit : goal.loop-at-preserved-then-visit
@@ -13,6 +14,11 @@ loop-at-preserved-then-visit c =
     record {
       len = length-set c.loop-at.self.amounts.items _ _ ∙ c.loop-at.invariant.len;
       value = c.loop-at.invariant.value;
+      known = subst (λ (ks : List ℕ). All (λ (k : ℕ). k < length c.args.network.now.graph.now.edges) ks) (sym c.in_ok-push.ensures.items)
+          (All-push (λ (k : ℕ). k < length c.args.network.now.graph.now.edges) c.loop-at.self.touched.items (visit_at c.args.path.now c.loop-at.at).edge.place c.loop-at.invariant.known
+          (c.requires.path.tree.steps c.loop-at.at c.loop-at-test.true c.loop-at.invariant.moving.inside).known);
+      touched = subst (λ (ks : List ℕ). AreTouched (set c.loop-at.self.amounts.items (visit_at c.args.path.now c.loop-at.at).edge.place (c.index_mut.result.now - (visit_at c.args.path.now (length c.args.path.now - 1)).residual)) ks) (sym c.in_ok-push.ensures.items)
+          (touched_more c.loop-at.self.amounts.items c.loop-at.self.touched.items (visit_at c.args.path.now c.loop-at.at).edge.place (c.index_mut.result.now - (visit_at c.args.path.now (length c.args.path.now - 1)).residual) c.loop-at.invariant.touched);
       moving = subst (λ (x : ℕ). Moving c.args.network.now.graph.now c.args.network.now.part.now c.args.network.now.sink (visit_at c.args.path.now (length c.args.path.now - 1)).residual c.args.path.now (amount_of c.args.self.now.amounts.items)
           (amount_of (set c.loop-at.self.amounts.items (visit_at c.args.path.now c.loop-at.at).edge.place (x - (visit_at c.args.path.now (length c.args.path.now - 1)).residual))) (visit_at c.args.path.now c.loop-at.at).before)
           (sym (get_or_read c.loop-at.self.amounts.items (visit_at c.args.path.now c.loop-at.at).edge.place c.index_mut.result.now (let k = (c.requires.path.tree.steps c.loop-at.at c.loop-at-test.true c.loop-at.invariant.moving.inside).known in omega arith) c.index_mut.ensures.value 0))
@@ -26,6 +32,11 @@ loop-at-preserved c =
     record {
       len = length-set c.loop-at.self.amounts.items _ _ ∙ c.loop-at.invariant.len;
       value = c.loop-at.invariant.value;
+      known = subst (λ (ks : List ℕ). All (λ (k : ℕ). k < length c.args.network.now.graph.now.edges) ks) (sym c.in_ok-push.ensures.items)
+          (All-push (λ (k : ℕ). k < length c.args.network.now.graph.now.edges) c.loop-at.self.touched.items (visit_at c.args.path.now c.loop-at.at).edge.place c.loop-at.invariant.known
+          (c.requires.path.tree.steps c.loop-at.at c.loop-at-test.true c.loop-at.invariant.moving.inside).known);
+      touched = subst (λ (ks : List ℕ). AreTouched (set c.loop-at.self.amounts.items (visit_at c.args.path.now c.loop-at.at).edge.place (c.index_mut-else-visit.result.now + (visit_at c.args.path.now (length c.args.path.now - 1)).residual)) ks) (sym c.in_ok-push.ensures.items)
+          (touched_more c.loop-at.self.amounts.items c.loop-at.self.touched.items (visit_at c.args.path.now c.loop-at.at).edge.place (c.index_mut-else-visit.result.now + (visit_at c.args.path.now (length c.args.path.now - 1)).residual) c.loop-at.invariant.touched);
       moving = subst (λ (x : ℕ). Moving c.args.network.now.graph.now c.args.network.now.part.now c.args.network.now.sink (visit_at c.args.path.now (length c.args.path.now - 1)).residual c.args.path.now (amount_of c.args.self.now.amounts.items)
           (amount_of (set c.loop-at.self.amounts.items (visit_at c.args.path.now c.loop-at.at).edge.place (x + (visit_at c.args.path.now (length c.args.path.now - 1)).residual))) (visit_at c.args.path.now c.loop-at.at).before)
           (sym (get_or_read c.loop-at.self.amounts.items (visit_at c.args.path.now c.loop-at.at).edge.place c.index_mut-else-visit.result.now (let k = (c.requires.path.tree.steps c.loop-at.at c.loop-at-test.true c.loop-at.invariant.moving.inside).known in omega arith) c.index_mut-else-visit.ensures.value 0))
@@ -44,6 +55,8 @@ returns-clause-flow c =
       small = c.requires.flow.small;
       flow = record {
         len = c.loop-at.invariant.len;
+        known = c.loop-at.invariant.known;
+        touched = c.loop-at.invariant.touched;
         flowing = subst (λ (value : ℕ). IsFlowing n.graph.now n.part.now n.source n.sink (amount_of c.loop-at.self.amounts.items) (value + extra)) (sym c.loop-at.invariant.value)
             (moved n.graph.now n.part.now n.source n.sink (c.args.goal - c.args.self.now.value) extra c.args.self.now.value path (amount_of c.args.self.now.amounts.items) (amount_of c.loop-at.self.amounts.items)
             c.requires.path c.requires.flow.apart c.requires.flow.flow.flowing

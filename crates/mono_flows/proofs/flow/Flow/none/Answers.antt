@@ -1,12 +1,17 @@
-use Rattle.std.proofs.Common.{List, ℕ, sym, subst, arith}
+use Rattle.std.proofs.Common.{◌<◌, ℕ, List, length, subst, sym, ◌∙◌, arith}
+use Rattle.std.specs.Prelude.{All}
+use Rattle.std.proofs.lemmas.List.Elements.{All-nil}
 use Rattle.mono_flows.specs.Residual.{amount_of}
-use Rattle.mono_flows.specs.Flowing.{IsFlowing}
 use Rattle.mono_flows.proofs.Results.{nothing}
 use Rattle.mono_flows.proofs.flow.Flow.none.Goals as goal
 
 pub returns-clause-flow : goal.returns-clause-flow
-returns-clause-flow c = record {
-  len = omega (arith, c.in_ok-vec.ensures.len, c.edge_count-edges.ensures);
-  flowing = subst (λ (fs : List ℕ). IsFlowing c.args.network.now.graph.now c.args.network.now.part.now c.args.network.now.source c.args.network.now.sink (amount_of fs) 0) (sym (c.in_ok-vec.ensures.items_if_clones_equal (λ y e. e)))
-      (nothing c.args.network.now.graph.now c.args.network.now.part.now c.args.network.now.source c.args.network.now.sink c.edge_count-edges.result);
-}
+returns-clause-flow c =
+    let n = c.args.network.now in
+    let empty = c.take_amounts-amounts.ensures.empty in
+    record {
+      len = c.take_amounts-amounts.ensures.len ∙ c.requires.fits.amounts;
+      known = subst (λ (ks : List ℕ). All (λ (k : ℕ). k < length n.graph.now.edges) ks) (sym c.new-touched.ensures.items) (All-nil (λ (k : ℕ). k < length n.graph.now.edges));
+      touched = λ k some. let none = empty k in absurd (omega (arith, none, some));
+      flowing = nothing n.graph.now n.part.now n.source n.sink (amount_of c.take_amounts-amounts.result.items) empty;
+    }

@@ -7,5 +7,5 @@ returns c =
       trail = rw v at c.in_ok-trail.ensures;
       sound = c.level.ensures.sound;
       store = c.in_ok-store.ensures;
-      order = rw v at c.in_ok-order.ensures;
+      order = c.in_ok-order.ensures;
     }

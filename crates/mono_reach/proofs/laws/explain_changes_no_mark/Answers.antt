@@ -1,0 +1,10 @@
+use Rattle.mono_reach.proofs.MarksRead.{marks_same, read_same}
+use Rattle.mono_reach.proofs.laws.explain_changes_no_mark.Goals as goal
+
+pub returns-clause-stay : goal.returns-clause-stay
+returns-clause-stay c =
+    let s = c.args.theory.now in
+    let r = c.explain.new.self in
+    let kept = c.in_ok-explain.ensures in
+    read_same s r c.args.atom c.args.node c.marks-before.result c.marks-after.result kept.atoms c.requires.owned c.marks-before.ensures.value c.marks-after.ensures.value
+    (λ p. marks_same s r p c.args.node kept.atoms kept.surely kept.possibly)

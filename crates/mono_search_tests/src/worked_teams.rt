@@ -1,0 +1,52 @@
+//! Worked rows: pieces and boards of teams, what their plays show, and which variables their workers prefer to be true.
+
+ghost use Rattle.std.specs.Prelude.{◌≡◌, ℕ, true, false, List, [], ◌∷◌, pos};
+ghost use Rattle.mono_problem.specs.Instance.{Instance};
+ghost use Rattle.mono_steps.specs.declared.step.Step.{Step};
+ghost use Rattle.mono_search.specs.Worked.{both_signs, first_learned, two_clauses};
+ghost use Rattle.mono_portfolio.specs.declared.event.Event.TheVariants as event;
+ghost use Rattle.mono_portfolio.specs.declared.event.Reply.TheVariants as reply;
+ghost use Rattle.mono_portfolio.specs.Outcomes.{IsBoardOfRounds};
+ghost use Rattle.mono_portfolio.specs.Preferred.{preferred, prefers};
+ghost use Rattle.mono_portfolio.specs.Rounds.{AreRounds, IsPiece};
+ghost use Rattle.mono_portfolio.specs.Soundness.{IsSound};
+ghost use Rattle.mono_portfolio.specs.Worked.{some_lemma};
+ghost use Rattle.mono_search_tests.specs.Worked.{over_seven};
+
+/// A piece of a board is what a worker learned, and no other list of as many steps.
+pub fn pieces_of_boards()
+    ensures as_many { IsPiece 1 two_clauses [] [] (some_lemma ∷ []) → ⊥ }
+    ensures none { IsPiece 1 two_clauses [] [] [] → ⊥ }
+{}
+
+/// A board of rounds has what the workers gave in them, over more variables than two.
+pub fn boards_of_rounds()
+    ensures no_round { IsBoardOfRounds over_seven 2 0 [] }
+    ensures nobody { IsBoardOfRounds over_seven 0 1 [] }
+    ensures nothing_given { IsBoardOfRounds over_seven 1 1 [] → ⊥ }
+    ensures given_in_no_round { IsBoardOfRounds over_seven 2 0 first_learned → ⊥ }
+    ensures few_variables { IsBoardOfRounds two_clauses 2 0 [] → ⊥ }
+    ensures of_as_many { (p : Instance) (board : List Step) (workers rounds : ℕ) → IsBoardOfRounds p workers rounds board
+        → AreRounds 1000 p workers rounds [] [] board }
+{}
+
+/// A gift behind Unsat is a refutation, whichever worker gives it. No play has a model and Unsat, whichever comes first.
+pub fn what_plays_show()
+    ensures gift_of_another { IsSound two_clauses (event.Run 1 1 ∷ event.Give 1 ∷ []) (reply.Unsat ∷ reply.Given 1 ∷ []) first_learned → ⊥ }
+    ensures model_last { IsSound two_clauses (event.Run 0 1 ∷ event.Run 1 1 ∷ []) (reply.Unsat ∷ reply.Model (true ∷ true ∷ []) ∷ []) [] → ⊥ }
+    ensures model_between { IsSound two_clauses (event.Run 0 1 ∷ event.Run 1 1 ∷ event.Run 0 1 ∷ [])
+        (reply.Slice ∷ reply.Model (true ∷ true ∷ []) ∷ reply.Unsat ∷ []) [] → ⊥ }
+    ensures model_alone { IsSound two_clauses (event.Run 0 1 ∷ []) (reply.Model (true ∷ false ∷ []) ∷ []) [] }
+    ensures unsat_alone { IsSound both_signs (event.Run 2 1 ∷ []) (reply.Unsat ∷ []) [] }
+{}
+
+/// The first worker prefers no variable to be true, and each next one those that one more than its number divides.
+pub fn preferred_variables()
+    ensures fourth { preferred 3 8 ≡ pos 4 ∷ pos 8 ∷ [] }
+    ensures its_own { prefers 3 4 ≡ true }
+    ensures one_below { prefers 3 3 ≡ false }
+    ensures no_multiple { prefers 3 6 ≡ false }
+    ensures second { prefers 1 2 ≡ true }
+    ensures first { prefers 0 4 ≡ false }
+    ensures fifth { preferred 4 4 ≡ [] }
+{}
