@@ -19,13 +19,18 @@ from .reading import read_problem
 from .reasons import explained
 
 
+# How the first line of what `best` writes begins.
+BESTS = [[b"c", word] for word in (b"best", b"open", b"beyond", b"never")]
+
+
 @dataclass(frozen=True)
 class Judged:
-    """An answer, if there is one, the problem that it answers, and what `check` says of it."""
+    """An answer, if there is one, the problem that it answers, what `check` says of it, and the `words` that ask it."""
 
     problem: Problem
     answer: Answer | None
     verdict: str
+    words: str = ""
 
 
 def judged_answer(
@@ -44,13 +49,13 @@ def judged_answer(
     for number in assumed:
         problem.literal(number)
     verdict = "unchecked" if unchecked else accepted_verdict(Path(file), Path(answer), assumed)
-    return Judged(problem, read_answer(problem, answer, assumed), verdict)
+    words = ["gulfezo", "check-with" if assumed else "check", file, answer, *map(str, assumed)]
+    return Judged(problem, read_answer(problem, answer, assumed), verdict, " ".join(words))
 
 
 def core_of(answer: Path) -> list[int]:
     """The literals of the core that an answer begins with; none where it has none."""
-    with open(answer, "rb") as lines:
-        tokens = lines.readline(1 << 20).split()
+    tokens = first_tokens(answer)
     if tokens[:2] != [b"c", b"core"] or tokens[-1] != b"0":
         return []
     try:
@@ -67,8 +72,16 @@ def accepted_verdict(file: Path, answer: Path, assumed: Sequence[int] = ()) -> s
         raise ProgramMissing(f"{missing}; or believe an unchecked answer by --unchecked") from missing
     if not said.startswith("accepted "):
         why = explained(said, file if said.startswith("refused") else answer)
+        if first_tokens(answer)[:2] in BESTS:
+            why += f"\n  {answer} begins as what `best FILE ATOM` writes: --best ATOM says that it is that"
         raise GulfezoError(f"check says '{said}', so nothing is made of it; --unchecked does it all the same{why}")
     return said
+
+
+def first_tokens(answer: Path) -> list[bytes]:
+    """The tokens of an answer's first line."""
+    with open(answer, "rb") as lines:
+        return lines.readline(1 << 20).split()
 
 
 def objective_of(problem: Problem, atom: int) -> Objective:
@@ -84,21 +97,21 @@ def judged_best(problem: Problem, file: Path, answer: Path, atom: int, unchecked
     objective = objective_of(problem, atom)
     bound = bound_of(answer, objective)
     asked = objective.asked(-bound if objective.is_flow else bound)
+    words = f"gulfezo ask {file} {atom} {bound} > asked.gnf; gulfezo check asked.gnf {answer}"
     if unchecked:
-        return Judged(asked, read_answer(asked, answer), "unchecked")
+        return Judged(asked, read_answer(asked, answer), "unchecked", words)
     with tempfile.TemporaryDirectory(prefix="gulfezo-") as folder:
         text = Path(folder, "asked.gnf")
         with open(text, "wb") as out:
             status = programs.run([programs.find(), "ask", str(file), str(atom), str(bound)], out)
         if status != 0:
             raise GulfezoError(f"ask ended with {status} for the bound {bound}: is {answer} what `best` wrote for it?")
-        return Judged(asked, read_answer(asked, answer), accepted_verdict(text, answer))
+        return Judged(asked, read_answer(asked, answer), accepted_verdict(text, answer), words)
 
 
 def bound_of(answer: Path, objective: Objective) -> int:
     """The bound for which what `best` wrote is an answer of what `ask` prints."""
-    with open(answer, "rb") as lines:
-        tokens = lines.readline(1000).split()
+    tokens = first_tokens(answer)
     if tokens == [b"c", b"never"]:
         return objective.bound(objective.weakest)
     if tokens == [b"c", b"beyond"]:

@@ -20,7 +20,13 @@ if TYPE_CHECKING:
     from .steps import Refutation
 
 Path = str | os.PathLike[str]
-BUDGET = 100_000  # learned clauses, where nothing is said: seconds to minutes
+
+
+class Unsaid(int):
+    """A number that holds where nothing is said. Whoever gives the same one gives another object."""
+
+
+BUDGET = Unsaid(100_000)  # learned clauses: seconds to minutes
 
 
 class Asking:
@@ -66,11 +72,11 @@ class Asking:
         """
         from . import solving
 
-        if conflicts is not None and budget != BUDGET:
+        if conflicts is not None and not isinstance(budget, Unsaid):
             raise ValueError("`conflicts` is another name of `budget`: give one of the two")
         spent = budget if conflicts is None else conflicts
         literals = list(solving.assumed(self._asked, assumptions))
-        team = solving.team_of(workers, rounds, None if spent == BUDGET else spent)
+        team = solving.team_of(workers, rounds, not isinstance(spent, Unsaid))
         run = solving.run_of(program, spent, seconds, progress)
         if team:
             run.form, run.team = "team", team

@@ -164,7 +164,7 @@ class Descent:
         self.least: int | None = None  # the least cost that isn't refuted
         self.searches = self.learned = 0
 
-    def note(self) -> str:
+    def note(self, phase: str = "solving") -> str:
         """The line that tells of progress."""
         parts = [f"searches: {self.searches}", f"learned clauses: {self.learned} or more"]
         if self.model is not None:
@@ -173,7 +173,7 @@ class Descent:
             parts.append(f"bound: {self.objective.value(self.least)}")
         if self.model is not None and self.least is not None:
             parts.append(f"gap: {self.cost - self.least}")
-        return f"looking for the best value of {self.objective.name} ({', '.join(parts)})"
+        return f"looking for the best value of {self.objective.name}, {phase} ({', '.join(parts)})"
 
     def found(self) -> Iterator[Found]:
         """Each improvement, until nothing is better, or the budget or the time is spent.
@@ -265,7 +265,7 @@ class Descent:
         bound, asked = self.objective.bound(cost), self.place / "asked.gnf"
         number = str(self.objective.predicate.predicate_number)
         words = [self.run.program, "ask", str(self.place / "problem.gnf"), number, str(bound)]
-        with self.run.phase("checking", f"checking what was found for the bound {bound}"):
+        with self.run.phase("checking", lambda: self.note("checking")):
             with open(asked, "wb") as out:
                 status = programs.run(words, out, self.run.deadline)
             if status != 0:
@@ -281,7 +281,7 @@ class Descent:
         kept = [self.place / f"{word}.gnf", self.place / word]
         for old, new in zip((asked, printed), kept):
             os.replace(old, new)
-        with self.run.phase("reading", "reading the answer"):
+        with self.run.phase("reading", lambda: self.note("reading")):
             found = accepted(problem, kept[0], kept[1])
         assert isinstance(found, (Model, Refutation))
         return found

@@ -15,6 +15,7 @@ from .literals import Literal
 from .model import Model
 from .reasons import explained
 from .solving import Run, assumed, checked, in_folder, is_progress, run_of, write
+from .statistics import Statistics
 from .steps import Refutation
 
 if TYPE_CHECKING:
@@ -87,6 +88,11 @@ class Core:
     def names(self) -> list[str]:
         """The literals in words: see `Problem.described`."""
         return [self.problem.described(literal) for literal in self.literals]
+
+    @property
+    def statistics(self) -> Statistics:
+        """What it took, and what its refutation has."""
+        return self.refutation.statistics
 
     @property
     def is_minimal(self) -> bool:

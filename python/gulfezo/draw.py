@@ -68,6 +68,7 @@ def drawing(
     if step.predicate is None:
         numbers = ", ".join(str(step.number) for step in answer.lemmas[:9])
         raise ValueError(f"clause {lemma} is a chain and speaks of no graph; lemmas have the numbers {numbers}")
+    answer.require_graph(graph_of(problem, step))
     return drawn([(graph_of(problem, step), marking.of_lemma(problem, step))])
 
 

@@ -48,8 +48,9 @@ def read_monosat(path: str | os.PathLike[str]) -> Problem:
     """The problem of a file of MonoSAT's, where each of its lines means something here.
 
     Read are clauses, `digraph` with whole weights and perhaps a name, `node G N [NAME]`, which adds a node or names
-    one, `edge`, `symbol X NAME`, `amo LIT.. 0` (at most one), and the predicates that this program has. `FormatError`:
-    any other line, such as one on bit-vectors or geometry.
+    one, `edge`, `symbol X NAME`, `amo LIT.. 0` (at most one), and the predicates that this program has. A bare `solve`,
+    which MonoSAT's own front writes where it solves, says nothing of the problem. `FormatError`: any other line, such
+    as one on bit-vectors or geometry, or a `solve` under assumptions.
     """
     reader = Reader()
     most_one: list[list[int]] = []
@@ -65,6 +66,8 @@ def read_monosat(path: str | os.PathLike[str]) -> Problem:
             most_one.append(taken(reader, number, tokens, line, lambda: amo(reader, tokens)))
         elif word in SHARED or word == "c" or word.lstrip("-").isdigit():
             taken(reader, number, tokens, line)
+        elif word == "solve":
+            taken(reader, number, tokens, line, lambda: solve(reader, tokens))
         else:
             raise FormatError(number, f"`{word}` has no counterpart in this program's format")
     problem = reader.finished()
@@ -133,6 +136,13 @@ def amo(reader: Reader, tokens: list[str]) -> list[int]:
     for number in numbers:
         reader.use_variables(abs(number))
     return numbers
+
+
+def solve(reader: Reader, tokens: list[str]) -> None:
+    """Reads `solve`."""
+    reader.require_closed()
+    if len(tokens) > 1:
+        raise ValueError("it assumes literals; leave them out, and give them to `Problem.solve`")
 
 
 def networkx_graph(problem: Problem, graph: Any, weight: str, default: int | None) -> Graph:

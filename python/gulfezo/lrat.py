@@ -68,6 +68,7 @@ def numbers_of(problem: Problem, answer: Refutation) -> list[int]:
 
 def proof(problem: Problem, answer: Refutation, with_hints: bool = True) -> list[str]:
     """The lines of the LRAT proof, or of the DRAT proof where hints aren't wanted, over `clauses_of` both."""
+    answer.require_clauses()
     clauses = [frozenset(clause) for clause in given_clauses(problem, answer)]
     numbers = [*range(1, len(clauses) + 1), *numbers_of(problem, answer)]
     lines = []
@@ -92,6 +93,7 @@ def given_clauses(problem: Problem, answer: Refutation) -> Iterator[Sequence[int
 
 def clauses_of(problem: Problem, answer: Refutation) -> str:
     """The problem's clauses, those of what was assumed, and then those of the lemmas, as a DIMACS CNF file."""
+    answer.require_clauses()
     count = len(problem.clauses) + len(answer.assumptions) + len(answer.lemmas)
     rows = [f"p cnf {problem.variables} {count}"]
     rows += [dimacs(clause) for clause in given_clauses(problem, answer)]
@@ -121,8 +123,8 @@ def convert(
     with_lemmas: bool = False,
     assume: Sequence[int] = (),
     atom: int | None = None,
-) -> tuple[str, str, int]:
-    """The proof, the clauses it is about, and how many of these are lemmas, of a problem's file and an answer's.
+) -> tuple[str, str, int, str]:
+    """The proof, the clauses it is about, how many of these are lemmas, and the words by which the program judges them.
 
     An answer of `core` is about its core too, one of another run about what is to be assumed with it, and one of `best
     FILE ATOM` about what `ask` prints; see `asked.judged_answer`.
@@ -134,7 +136,7 @@ def convert(
     if not with_lemmas:
         require_no_lemma(found)
     lines = proof(problem, found, with_hints)
-    return "".join(line + "\n" for line in lines), clauses_of(problem, found), len(found.lemmas)
+    return "".join(line + "\n" for line in lines), clauses_of(problem, found), len(found.lemmas), given.words
 
 
 def main(words: Sequence[str] | None = None) -> int:
@@ -150,12 +152,12 @@ def main(words: Sequence[str] | None = None) -> int:
     given = parser.parse_args(words)
     try:
         asked = given.assume, given.best
-        text, clauses, lemmas = convert(given.file, given.answer, not given.drat, bool(given.cnf), *asked)
+        text, clauses, lemmas, judges = convert(given.file, given.answer, not given.drat, bool(given.cnf), *asked)
         if given.cnf:
             write_whole(given.cnf, clauses.encode())
         if lemmas:
             told = f"the last {lemmas} clauses of {given.cnf} are lemmas about graphs, which clauses alone don't give"
-            print(f"gulfezo-lrat: {told}; 'gulfezo check {given.file} {given.answer}' judges them", file=sys.stderr)
+            print(f"gulfezo-lrat: {told}; '{judges}' judges them", file=sys.stderr)
         if given.out:
             write_whole(given.out, text.encode())
         else:

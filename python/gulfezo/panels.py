@@ -2,8 +2,9 @@
 
 from __future__ import annotations
 
+import math
 from collections import defaultdict
-from dataclasses import dataclass
+from dataclasses import dataclass, replace
 
 from . import layout, svg
 from .graph import Graph
@@ -14,6 +15,14 @@ View = tuple[Graph, Marks]
 
 # How an edge is drawn by its height: its colour, its width, and its dashes.
 STYLES = [(svg.PALE, 1.2, "3 4"), (svg.INK, 1.6, ""), (COLOURS[1], 1.8, "6 5"), (COLOURS[0], 4.5, "")]
+
+
+# A long line that would run through a node is bent aside by the first of these that keeps clear of all nodes; in graphs
+# of more nodes nobody would see it.
+BENDS = (34.0, -34.0, 60.0, -60.0, 90.0, -90.0)
+MOST_NODES = 150
+LONG, CLEAR = 1.2 * svg.STEP, svg.RADIUS + 4
+Taken = tuple[int, int, float]  # two nodes, and the bend of a line from the first to the second
 
 
 @dataclass(frozen=True)
@@ -69,6 +78,11 @@ def drawn(views: list[View], absent: bool = True) -> str:
 def draw_edges(picture: svg.Picture, panel: list[View], at: list[svg.Point], absent: bool) -> None:
     """The edges, those that are marked on top, and then their labels."""
     lines = [line for graph, marks in panel for line in lines_of(graph, marks) if absent or line.height]
+    graph = panel[0][0]
+    nodes = [node for node in range(len(graph)) if node not in graph.hidden_nodes]
+    if len(nodes) <= MOST_NODES:
+        taken: set[Taken] = set()
+        lines = [around(line, at, nodes, taken) for line in lines]
     notes = []
     for line in sorted(lines, key=lambda line: line.height):
         place, number = line.draw(picture, at), line.edge.edge_number
@@ -76,6 +90,22 @@ def draw_edges(picture: svg.Picture, panel: list[View], at: list[svg.Point], abs
             notes.append((place, line.marks.notes[number], line.marks.strong.get(number, PLAIN).colour))
     for place, note, colour in notes:
         picture.text(place, note, colour, 11)
+
+
+def around(line: Line, at: list[svg.Point], nodes: list[int], taken: set[Taken]) -> Line:
+    """The line, bent where it would run through one of these nodes that it doesn't join, and not as one before it."""
+    ends = line.edge.start, line.edge.end
+    start, end = at[ends[0]], at[ends[1]]
+    if math.dist(start, end) < LONG:
+        return line
+    others = [at[node] for node in nodes if node not in ends]
+    for bend in (line.bend, *BENDS):
+        side = (*ends, bend) if ends[0] < ends[1] else (*ends[::-1], -bend)
+        points = svg.along(start, end, bend)
+        if side not in taken and all(math.dist(point, other) > CLEAR for other in others for point in points):
+            taken.add(side)
+            return replace(line, bend=bend)
+    return line
 
 
 def draw_nodes(picture: svg.Picture, panel: list[View], at: list[svg.Point]) -> None:

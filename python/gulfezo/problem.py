@@ -5,7 +5,7 @@ from __future__ import annotations
 import contextlib
 import os
 from array import array
-from collections.abc import Iterable, Iterator, Mapping, Sequence
+from collections.abc import Iterable, Iterator, Mapping
 from typing import Any, Hashable, NamedTuple
 
 from . import cardinality
@@ -33,9 +33,14 @@ class Mark(NamedTuple):
 
 def count(bound: Any, call: str) -> int:
     """A bound on a number of literals: any whole number, negative ones too."""
-    if isinstance(bound, Literal) or isinstance(bound, Iterable) and not isinstance(bound, str):
-        raise TypeError(f"{call} takes its bound first and then the literals: {call}(2, [a, b, c])")
+    require_bound_first(bound, call, "[a, b, c]")
     return whole(bound, "a bound on a number of literals", least=None)
+
+
+def require_bound_first(bound: Any, call: str, literals: str) -> None:
+    """`TypeError`: literals stand in the place of the bound."""
+    if isinstance(bound, Literal) or isinstance(bound, Iterable) and not isinstance(bound, str):
+        raise TypeError(f"{call} takes its bound first and then the literals: {call}(2, {literals})")
 
 
 class Problem(Asking, Naming):
@@ -221,15 +226,17 @@ class Problem(Asking, Naming):
 
     def at_most_weight(self, bound: int, terms: Iterable[tuple[Literal, int]]) -> None:
         """The weights of the literals that are true are at most `bound` together (a pseudo-Boolean constraint)."""
+        require_bound_first(bound, "at_most_weight", "[(a, 3), (b, 5)]")
         with self.unchanged_on_error():
-            self.require(self.add_sum(list(terms)).at_most(bound))
+            self.require(self.add_sum(terms).at_most(bound))
 
     def at_least_weight(self, bound: int, terms: Iterable[tuple[Literal, int]]) -> None:
         """The weights of the literals that are true are at least `bound` together."""
+        require_bound_first(bound, "at_least_weight", "[(a, 3), (b, 5)]")
         with self.unchanged_on_error():
-            self.require(self.add_sum(list(terms)).at_least(bound))
+            self.require(self.add_sum(terms).at_least(bound))
 
-    def add_sum(self, terms: Sequence[tuple[Literal, int]], name: str = "") -> Sum:
+    def add_sum(self, terms: Iterable[tuple[Literal, int]], name: str = "") -> Sum:
         """The sum of the amounts whose literals are true; `Sum.at_most` and `Sum.at_least` bound it."""
         return self.sums.add(terms, one_line(name))
 

@@ -9,6 +9,8 @@ time in as few units as will do.
 
 from __future__ import annotations
 
+import contextlib
+import itertools
 from collections.abc import Callable, Hashable, Iterable, Iterator, Mapping
 from functools import cached_property
 from typing import TYPE_CHECKING
@@ -32,6 +34,9 @@ class Time:
         self.problem = problem
         self.first = first
         self.steps = steps
+
+    def __repr__(self) -> str:
+        return f"<time from {self.first - 1} to {self.first - 1 + len(self.steps)}>"
 
     def at_least(self, hour: int) -> Literal:
         """Whether it is so many hours or more."""
@@ -60,8 +65,8 @@ class Task:
         self.starts = Time(schedule.problem, 1, steps)
         self.ends = Time(schedule.problem, 1 + hours, steps)
 
-    def before(self, other: Task) -> Literal:
-        """Whether this task ends by the time at which the other one starts; true exactly where it does."""
+    def before(self, other: Hashable) -> Literal:
+        """Whether this task ends by the time at which the other one, or that of the key, starts."""
         return self.schedule.before(self, other)
 
     def __repr__(self) -> str:
@@ -109,6 +114,26 @@ class Schedule:
     def __getitem__(self, key: Hashable) -> Task:
         return self.tasks[key]
 
+    def _own(self, key: Hashable) -> Task:
+        """The task of that key, or the task itself where one is given. `ValueError`: the schedule has none."""
+        found = key if isinstance(key, Task) else self.tasks.get(key) if isinstance(key, Hashable) else None
+        if found is None or found.schedule is not self:
+            raise ValueError(f"this schedule has no task {key!r}; several are given one by one: in_order('a', 'b')")
+        return found
+
+    @contextlib.contextmanager
+    def _unchanged_on_error(self) -> Iterator[None]:
+        """Within it, an error takes away what was added to the problem, and what is kept here of it."""
+        orders, known = dict(self._orders), set(vars(self))
+        try:
+            with self.problem.unchanged_on_error():
+                yield
+        except BaseException:
+            self._orders = orders
+            for name in set(vars(self)) - known:
+                delattr(self, name)
+            raise
+
     def __iter__(self) -> Iterator[Task]:
         return iter(self.tasks.values())
 
@@ -118,14 +143,13 @@ class Schedule:
     def __repr__(self) -> str:
         return f"<schedule of {len(self)} tasks by {self.horizon}>"
 
-    def before(self, first: Task, second: Task) -> Literal:
+    def before(self, first: Hashable, second: Hashable) -> Literal:
         """See `Task.before`."""
-        if first.schedule is not self or second.schedule is not self:
-            raise ValueError(f"{first} and {second} aren't both of this schedule")
-        pair = first.node, second.node
+        one, other = self._own(first), self._own(second)
+        pair = one.node, other.node
         if pair not in self._orders:
             with self.problem.unchanged_on_error():
-                edge = self.graph.add_edge(*pair, variable=self._order(first, second))
+                edge = self.graph.add_edge(*pair, variable=self._order(one, other))
             self._orders[pair] = edge
         return self._orders[pair]
 
@@ -154,33 +178,38 @@ class Schedule:
 
     def in_order(self, *keys: Hashable) -> None:
         """Each of these tasks, but the first one, starts when the one before it has ended, or later."""
-        tasks = [self[key] for key in keys]
-        with self.problem.unchanged_on_error():
+        tasks = [self._own(key) for key in keys]
+        with self._unchanged_on_error():
             self.problem.require(*(first.before(second) for first, second in zip(tasks, tasks[1:])))
 
     def one_at_a_time(self, *keys: Hashable) -> None:
         """No two of these tasks, which want the same machine, run at one time."""
-        tasks = [self[key] for key in keys]
-        for place, first in enumerate(tasks):
-            for second in tasks[:place]:
-                self.problem.add_clause(first.before(second), second.before(first))
+        tasks = [self._own(key) for key in keys]
+        with self._unchanged_on_error():
+            for first, second in itertools.combinations(tasks, 2):
+                self.problem.add_clause(second.before(first), first.before(second))
 
     @cached_property
     def ends(self) -> Time:
         """When all tasks have ended: `problem.require(schedule.ends.at_most(11))` is a deadline for all of them."""
-        problem, steps = self.problem, []
-        for hour in range(1, self.horizon + 1):
-            late = [task.ends.at_least(hour) for task in self]
-            steps.append(problem.add_variable(f"something ends at {hour} or later"))
-            problem.add_clause(~steps[-1], *late)
-            for literal in late:
-                problem.add_clause(steps[-1], ~literal)
-        return Time(problem, 1, steps)
+        with self._unchanged_on_error():
+            steps = [self._late(hour) for hour in range(1, self.horizon + 1)]
+        return Time(self.problem, 1, steps)
+
+    def _late(self, hour: int) -> Literal:
+        """A variable that is true exactly where a task ends then or later."""
+        found = self.problem.add_variable(f"something ends at {hour} or later")
+        late = [task.ends.at_least(hour) for task in self]
+        self.problem.add_clause(~found, *late)
+        for literal in late:
+            self.problem.add_clause(found, ~literal)
+        return found
 
     @cached_property
     def makespan(self) -> Sum:
         """The hours until all tasks have ended, as a sum that `problem.minimise` takes."""
-        return self.problem.add_sum([(step, 1) for step in self.ends.steps], f"{self.name or 'tasks'}: makespan")
+        with self._unchanged_on_error():
+            return self.problem.add_sum([(step, 1) for step in self.ends.steps], f"{self.name or 'tasks'}: makespan")
 
     def starts(self, model: Model) -> dict[Hashable, int]:
         """The hour at which each task starts in a model."""

@@ -89,13 +89,13 @@ def assumed(problem: Problem, assumptions: Iterable[Literal]) -> dict[int, Liter
     return found
 
 
-def team_of(workers: int | None, rounds: int | None, budget: object) -> list[int]:
+def team_of(workers: int | None, rounds: int | None, has_budget: bool) -> list[int]:
     """The numbers of workers and rounds, or nothing. `ValueError`: what is given says something else than it seems."""
     if workers is None:
         if rounds is not None:
             raise ValueError("`rounds` are those of workers: give `workers` too, or a `budget` instead")
         return []
-    if budget is not None:
+    if has_budget:
         raise ValueError("the budget of workers is their rounds, each of 1,000 learned clauses")
     rounds = ROUNDS if rounds is None else rounds
     return [whole(workers, "a number of workers", 8, 1), whole(rounds, "a number of rounds", 100, 1)]

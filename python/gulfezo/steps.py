@@ -10,6 +10,7 @@ from functools import cached_property
 from typing import TYPE_CHECKING, Literal as Constant, NoReturn, Self, overload
 
 from .errors import FormatError
+from .graph import Graph
 from .lines import Lines
 from .problem import Problem
 from .statistics import Statistics
@@ -63,6 +64,9 @@ class Steps(Sequence[Step]):
     def __len__(self) -> int:
         return len(self.places)
 
+    def __repr__(self) -> str:
+        return f"<{len(self)} steps>"
+
     @overload
     def __getitem__(self, at: int) -> Step: ...
     @overload
@@ -106,6 +110,8 @@ class Derivation:
         self.steps = steps
         self.assumptions = tuple(assumptions)
         self.seconds: dict[str, float] = {}
+        self._clauses = len(problem.clauses)
+        self._sizes = {graph.identity: (len(graph), len(graph.edges)) for graph in problem.graphs.values()}
 
     def __repr__(self) -> str:
         return f"<{type(self).__name__.lower()} of {len(self.steps)} steps, {len(self.lemmas)} of them lemmas>"
@@ -132,6 +138,17 @@ class Derivation:
         lines = self.steps.lines
         words = Counter(lines.word(place) for place in self.lemmas.places)
         return Statistics(dict(self.seconds), len(self.steps) - len(self.lemmas), dict(words), len(lines.data))
+
+    def require_clauses(self) -> None:
+        """`ValueError`: the problem has more clauses or fewer than when the answer came, whose steps count on them."""
+        found = len(self.problem.clauses)
+        if found != self._clauses:
+            raise ValueError(f"there were {self._clauses} clauses when this answer came, and are {found}: solve again")
+
+    def require_graph(self, graph: Graph) -> None:
+        """`ValueError`: the graph has more nodes or edges or fewer than when the answer came, which is about those."""
+        if self._sizes.get(graph.identity) != (len(graph), len(graph.edges)):
+            raise ValueError(f"graph {graph.identity} isn't as it was when this answer came: solve again")
 
     def step(self, number: int) -> Step:
         """The step whose clause has that number, as chains name it. `ValueError`: none has."""

@@ -2,8 +2,8 @@
 
 from __future__ import annotations
 
-from collections.abc import Sequence
-from typing import TYPE_CHECKING
+from collections.abc import Iterable
+from typing import TYPE_CHECKING, Any
 
 from .limits import MOST_BOUND, MOST_WEIGHT, whole
 from .literals import Literal, Predicate, literal_of
@@ -65,6 +65,15 @@ class Sum:
         return f"<sum{f' {self.name!r}' if self.name else ''} of {len(self.terms)} amounts>"
 
 
+def pairs_of(terms: Any) -> list[tuple[Any, Any]]:
+    """The terms of a sum. `TypeError`: they aren't a list of pairs."""
+    found = list(terms) if isinstance(terms, Iterable) else [terms]
+    for term in found:
+        if not isinstance(term, (tuple, list)) or len(term) != 2:
+            raise TypeError(f"a sum takes a list of pairs, as [(a, 3), (b, 5)], and {term!r} is no pair")
+    return found
+
+
 class Sums:
     """The sums of a problem, and what they share: their graph, a literal that is always true, and negations."""
 
@@ -108,10 +117,10 @@ class Sums:
             self.negations[literal.number] = made.number
         return literal_of(self.negations[literal.number], self.problem)
 
-    def add(self, terms: Sequence[tuple[Literal, int]], name: str) -> Sum:
+    def add(self, terms: Iterable[tuple[Literal, int]], name: str) -> Sum:
         """A further sum."""
         problem = self.problem
-        chosen = [(problem.require_own(x), whole(amount, "an amount", MOST_WEIGHT)) for x, amount in terms]
+        chosen = [(problem.require_own(x), whole(amount, "an amount", MOST_WEIGHT)) for x, amount in pairs_of(terms)]
         with problem.unchanged_on_error():
             if self.graph is None:
                 made = problem.add_graph(NAME)

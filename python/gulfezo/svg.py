@@ -2,6 +2,7 @@
 
 from __future__ import annotations
 
+import math
 import re
 from collections.abc import Sequence
 from html import escape
@@ -31,9 +32,9 @@ class Picture:
     def line(self, start: Point, end: Point, bend: float, colour: str, width: float, dashes: str, arrow: bool) -> Point:
         """A line between two nodes, from rim to rim, bent aside by so many pixels; the point where a label belongs."""
         (x0, y0), (x1, y1) = start, end
-        length = max(1.0, ((x1 - x0) ** 2 + (y1 - y0) ** 2) ** 0.5)
+        length = max(1.0, math.dist(start, end))
         along, aside = ((x1 - x0) / length, (y1 - y0) / length), (-(y1 - y0) / length, (x1 - x0) / length)
-        middle = ((x0 + x1) / 2 + 2 * bend * aside[0], (y0 + y1) / 2 + 2 * bend * aside[1])
+        middle = bent(start, end, bend)
         tip = RADIUS + (width + 4 if arrow else 0)
         begin, stop = towards(start, middle, RADIUS), towards(end, middle, tip)
         path = f"M{begin[0]:.1f} {begin[1]:.1f} Q{middle[0]:.1f} {middle[1]:.1f} {stop[0]:.1f} {stop[1]:.1f}"
@@ -108,6 +109,24 @@ class Picture:
         background = f"<rect x='{left:.0f}' y='{top:.0f}' width='100%' height='100%' fill='white'/>"
         head = f"<svg xmlns='http://www.w3.org/2000/svg' viewBox='{box}' {size} {FONT}>"
         return "\n".join([head, background, *self.shapes, "</svg>", ""])
+
+
+def along(start: Point, end: Point, bend: float, count: int = 24) -> list[Point]:
+    """Points of a line between two nodes that is bent aside by so many pixels."""
+    middle = bent(start, end, bend)
+    found = []
+    for place in range(1, count):
+        t = place / count
+        near, half, far = (1 - t) ** 2, 2 * t * (1 - t), t * t
+        found.append(tuple(near * a + half * b + far * c for a, b, c in zip(start, middle, end)))
+    return [(x, y) for x, y in found]
+
+
+def bent(start: Point, end: Point, bend: float) -> Point:
+    """The point towards which a line begins and ends that is bent aside by so many pixels."""
+    (x0, y0), (x1, y1) = start, end
+    length = max(1.0, math.dist(start, end))
+    return ((x0 + x1) / 2 - 2 * bend * (y1 - y0) / length, (y0 + y1) / 2 + 2 * bend * (x1 - x0) / length)
 
 
 def towards(start: Point, end: Point, by: float) -> Point:

@@ -13,8 +13,8 @@ import xml.dom.minidom
 from pathlib import Path
 from unittest import mock
 
-from gulfezo import Model, Problem, draw, layout, marks, parse_answer, parse_problem
-from helpers import missing
+from gulfezo import Model, Problem, draw, layout, marks, panels, parse_answer, parse_problem, svg
+from helpers import REPOSITORY, missing
 
 GRAPH = """digraph int 3 3 0
 edge 0 0 1 1 5
@@ -145,6 +145,24 @@ class Drawings(unittest.TestCase):
         self.assertIsNone(layout.in_layers(3, edges))
         self.assertEqual(len(layout.places(problem.graphs[0], edges)), 3)
 
+    def test_long_lines_go_round_nodes(self):
+        problem = Problem()
+        graph = problem.add_graph()
+        graph.add_nodes(["a@0,0", "b@1,0", "c@2,0"])
+        for _ in range(2):
+            graph.add_edge(0, 2)
+        graph.add_edge(2, 0)
+        lines = panels.lines_of(graph, marks.bare(graph))
+        taken: set = set()
+        at = [(0.0, 0.0), (90.0, 0.0), (180.0, 0.0)]
+        bent = [panels.around(line, at, [0, 1, 2], taken) for line in lines]
+        for line in bent:
+            points = svg.along(at[line.edge.start], at[line.edge.end], line.bend)
+            self.assertGreater(min(abs(y) for x, y in points if 60 < x < 120), svg.RADIUS)
+        self.assertEqual(len(taken), 3)
+        self.assertEqual(panels.around(lines[0], at, [0, 2], set()), lines[0])
+        self.assertEqual(svg.along((0, 0), (100, 0), 10, 2), [(50, 10)])
+
     def test_edges_of_a_cut_are_marked(self):
         model = parse_answer(self.problem, "s SATISFIABLE\nv 1 -2 3 4 5 -6 -7 0\n")
         picture = draw.drawing(self.problem, model, predicate=3)
@@ -234,6 +252,17 @@ class Command(unittest.TestCase):
             with contextlib.redirect_stderr(told), mock.patch("gulfezo.asked.programs", program):
                 self.assertEqual(draw.main([str(file), str(answer), "-o", str(out)]), 1)
             self.assertIn("rejected 1 NotAnswer", told.getvalue())
+
+
+    def test_the_tools_of_a_checkout(self):
+        first = REPOSITORY / "examples" / "first"
+        with tempfile.TemporaryDirectory() as folder:
+            out = Path(folder, "out.svg")
+            for words in (["draw", first / "harbour.gnf", "-o", out], ["lrat", "--help"], ["recheck", "--help"]):
+                command = [str(REPOSITORY / "tools" / words[0]), *map(str, words[1:])]
+                run = subprocess.run(command, capture_output=True, text=True, check=False)
+                self.assertEqual((run.returncode, run.stderr), (0, ""))
+            texts(out.read_text())
 
 
 class Files(unittest.TestCase):

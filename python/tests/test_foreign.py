@@ -46,7 +46,7 @@ class Files(unittest.TestCase):
     def test_monosat(self):
         text = (
             "c x\np cnf 3 1\ndigraph int 0 0 0 streets\nnode 0 0 a\nnode 0 1\ndigraph 2 0 3\nsymbol 3 there\n"
-            "edge 0 0 1 1 4\nedge 3 1 0 2\nreach 0 0 1 3\nmst_weight_lt 3 5 2\nacyclic 0 6\n1 -3 0\n"
+            "edge 0 0 1 1 4\nedge 3 1 0 2\nreach 0 0 1 3\nmst_weight_lt 3 5 2\nsolve\nacyclic 0 6\n1 -3 0\nsolve\n"
         )
         found = self.read(read_monosat, text)
         self.assertEqual(
@@ -64,7 +64,9 @@ class Files(unittest.TestCase):
             ("digraph 1 0 0\nreach 0 0 1 1\n", 2, "no node 1"),
             ("digraph 1 0 0\nedge 0 0 0 1 -3\n", 2, "no natural number"),
             ("symbol 0 a\n", 1, "from 1"),
-            ("solve\n", 1, "`solve`"),
+            ("1 0\nsolve 1 -2\n", 2, "`solve`: it assumes literals"),
+            ("1 2\nsolve\n", 2, "isn't ended by 0"),
+            ("minimize bv 1\n", 1, "`minimize`"),
             ("1 2\n", 1, "isn't ended by 0"),
             ("1 2\ndigraph 1 0 0\n", 2, "isn't ended by 0"),
         )

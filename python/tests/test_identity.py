@@ -176,6 +176,26 @@ class Unchanged(unittest.TestCase):
         problem.add_sum([(problem.literal(1), 1)])
         self.assertEqual(graph.add_node("e", key="key"), 4)
 
+    def test_a_schedule_forgets_what_was_taken_away(self):
+        problem = Problem()
+        shop = problem.add_schedule({"a": 1, "b": 1, "c": 1})
+        problem.always()
+        known = problem.variables
+        for call in (
+            lambda: shop.in_order("a", "b", "c"),
+            lambda: shop.one_at_a_time("a", "b"),
+            lambda: shop.ends,
+            lambda: shop.makespan,
+        ):
+            problem.variables = 999_999  # one more is possible
+            mark = problem.mark()
+            self.assertRaisesRegex(ValueError, "variables", call)
+            self.assertEqual(problem.mark(), mark)
+            problem.variables = known
+        order = shop["a"].before("b")
+        self.assertEqual((list(problem.edges), shop["a"].before(shop["b"])), ([order], order))
+        self.assertEqual(shop.makespan.greatest, 3)
+
     def test_a_large_bound_takes_few_variables(self):
         problem = Problem()
         problem.at_most(1000, problem.add_variables(2000))

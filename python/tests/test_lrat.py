@@ -3,7 +3,9 @@
 import contextlib
 import io
 import itertools
+import os
 import random
+import re
 import shutil
 import subprocess
 import tempfile
@@ -139,6 +141,18 @@ class Solved(unittest.TestCase):
         self.assertEqual(lrat.main([*files, "-o", str(proof), "--cnf", str(cnf), *words]), 0)
         return cnf, proof
 
+    def judges(self, words: list[str]) -> str:
+        """The words that judge the lemmas, as the command tells them, once they have been run and did so."""
+        told = io.StringIO()
+        with contextlib.redirect_stderr(told):
+            self.assertEqual(lrat.main(words), 0)
+        (found,) = re.findall("'(gulfezo .*)' judges them", told.getvalue())
+        (self.folder / "gulfezo").symlink_to(os.path.abspath(self.program))
+        line = found.replace("gulfezo ", "./gulfezo ")
+        run = subprocess.run(line, shell=True, cwd=self.folder, stdout=subprocess.PIPE, text=True, check=False)
+        self.assertEqual((run.returncode, run.stdout), (0, "accepted refutation\n"))
+        return found
+
     def test_lrat(self):
         for name, problem in PROBLEMS.items():
             with self.subTest(name):
@@ -173,9 +187,8 @@ class Solved(unittest.TestCase):
         self.assertTrue(accepts_lrat(cnf, proof))
         self.assertEqual(cnf.splitlines()[2:4], [f"{literal.number} 0" for literal in core])
         words = ["-o", str(self.folder / "proof"), "--cnf", str(self.folder / "cnf")]
-        with contextlib.redirect_stderr(io.StringIO()):
-            files = [str(self.folder / "problem.gnf"), str(self.folder / "answer")]
-            self.assertEqual(lrat.main([*files, *words]), 0)
+        files = [str(self.folder / "problem.gnf"), str(self.folder / "answer")]
+        self.assertIn("check-with", self.judges([*files, *words]))
         self.assertEqual([(self.folder / name).read_text() for name in ("proof", "cnf")], [proof, cnf])
 
     def test_the_best_value(self):
@@ -183,8 +196,7 @@ class Solved(unittest.TestCase):
         with open(answer, "wb") as out:
             subprocess.run([self.program, "best", str(file), "1"], stdout=out, check=False)
         words = ["-o", str(self.folder / "proof"), "--cnf", str(self.folder / "cnf"), "--best", "1"]
-        with contextlib.redirect_stderr(io.StringIO()):
-            self.assertEqual(lrat.main([str(file), str(answer), *words]), 0)
+        self.assertIn(f"ask {file} 1 8 ", self.judges([str(file), str(answer), *words]))
         cnf, proof = (self.folder / name for name in ("cnf", "proof"))
         self.assertTrue(accepts_lrat(cnf.read_text(), proof.read_text()))
         problem = Problem()

@@ -161,6 +161,29 @@ class Numbers(Mistakes):
         self.assertEqual(problem.clauses, [(), ()])
 
 
+class Terms(Mistakes):
+    def test_sums_take_pairs_and_bounds_come_first(self):
+        problem, x, y = self.problem, self.x, self.y
+        for wrong in ([x, y], {x: 1}, (x, 1), [(x, 1), y], x):
+            with self.assertRaisesRegex(TypeError, "a list of pairs"):
+                problem.add_sum(wrong)
+        for call in (problem.at_most_weight, problem.at_least_weight):
+            with self.assertRaisesRegex(TypeError, "its bound first"):
+                call([(x, 1)], 5)
+        self.refused(TypeError, lambda: problem.add_sum([(1, x)]), lambda: problem.at_most_weight(5, [x]))
+        self.assertEqual(problem.add_sum(((z, 2) for z in (x, y))).greatest, 4)
+
+    def test_tasks_by_their_keys(self):
+        shop, other = (Problem().add_schedule({"a": 1, "b": 2}) for _ in range(2))
+        before = shop.problem.text()
+        for wrong in (["a", "b"], "c", other["a"], None):
+            calls = [shop["a"].before, lambda key: shop.in_order("a", key), lambda key: shop.one_at_a_time("a", key)]
+            for call in calls:
+                with self.assertRaisesRegex(ValueError, "one by one"):
+                    call(wrong)
+        self.assertEqual(shop.problem.text(), before)
+
+
 class Gates(unittest.TestCase):
     def test_by_trying_all_assignments(self):
         for count, word in itertools.product(range(1, 5), (Or, And)):

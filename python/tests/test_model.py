@@ -5,7 +5,7 @@ import tempfile
 import unittest
 
 from gulfezo import FormatError, Model, PackageMissing, Problem, Progress, Refutation
-from gulfezo import parse_answer, read_answer, search
+from gulfezo import drawing, parse_answer, read_answer, search
 from helpers import assignments, missing
 
 
@@ -96,6 +96,19 @@ class Texts(Fixture):
         with self.assertRaisesRegex(ValueError, "from 1 to 3"):
             answer.step(4)
         self.assertIsInstance(parse_answer(self.problem, "s UNKNOWN\n"), Progress)
+
+    def test_an_answer_is_about_the_problem_as_it_was(self):
+        text = "s UNSATISFIABLE\ncut 1 1 3 5 -6 0 0\nchain 0 1\n"
+        answer = parse_answer(self.problem, text)
+        before = drawing(self.problem, answer)
+        self.problem.add_sum([(self.problem.add_variable(), 5)]).at_most(3)
+        self.assertEqual(drawing(self.problem, answer), before)
+        with self.assertRaisesRegex(ValueError, "were 0 clauses when this answer came, and are 3"):
+            answer.lrat()
+        self.graph.add_edge(0, 3)
+        with self.assertRaisesRegex(ValueError, "graph 0 isn't as it was"):
+            drawing(self.problem, answer)
+        self.assertIsNone(answer._repr_svg_())
 
     def test_blank_lines_and_comments(self):
         for text in [

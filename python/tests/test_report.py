@@ -129,6 +129,9 @@ class Command(unittest.TestCase):
         self.assertEqual(status, 0, told)
         self.assertEqual(data_of(out.read_text())["predicates"][-1][1].split(", ")[-1].split()[0], "8")
         self.assertEqual(self.run_it(first / "bridges.gnf", best, "--best", "2", "-o", out)[0], 1)
+        status, told = self.run_it(first / "bridges.gnf", best, "-o", out)
+        self.assertEqual(status, 1)
+        self.assertIn("--best ATOM", told)
 
 
 class Browser(unittest.TestCase):

@@ -217,6 +217,7 @@ class StandIns(unittest.TestCase):
         for named, said in [
             ({"rounds": 5}, "give `workers`"),
             ({"budget": 5, "conflicts": 6}, "another name"),
+            ({"budget": 100_000, "conflicts": 6}, "another name"),
             ({"seconds": "5"}, "a number above 0, which '5'"),
             ({"seconds": True}, "above 0"),
         ]:

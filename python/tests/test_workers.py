@@ -21,13 +21,14 @@ class Workers(unittest.TestCase):
             script.write_text(script.read_text().replace("if sys.argv[1] in", asked))
             self.assertTrue(problem.solve(program=team, workers=8, rounds=100, progress=False))
             team = stand_in(folder, 10, "s SATISFIABLE\nv 1 0\n", "rejected 2 ClauseFalse 1")
-            self.assertRaises(RejectedAnswer, problem.solve, None, folder, team, workers=1, progress=False)
+            self.assertRaises(RejectedAnswer, problem.solve, folder=folder, program=team, workers=1, progress=False)
             team = stand_in(folder, 0, "s UNKNOWN\n", "accepted progress 0")
             with self.assertRaisesRegex(BudgetSpent, "rounds"):
                 problem.solve(program=team, workers=1, progress=False)
-        for wrong in ({"workers": 0}, {"workers": 9}, {"workers": 2, "rounds": 101}, {"workers": 2, "budget": 5}):
-            with self.assertRaises(ValueError):
-                problem.solve(**wrong)
+        wrong = [{"workers": 0}, {"workers": 9}, {"workers": 2, "rounds": 101}, {"workers": 2, "conflicts": 5}]
+        for named in (*wrong, *({"workers": 2, "budget": budget} for budget in (5, 100_000, None))):
+            with self.subTest(named), self.assertRaises(ValueError):
+                problem.solve(**named)
 
     def test_the_program_itself(self):
         said = subprocess.run([program()], stdout=subprocess.PIPE, text=True, check=False).stdout

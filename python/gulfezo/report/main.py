@@ -25,7 +25,7 @@ def main(words: Sequence[str] | None = None) -> int:
     parser.add_argument("answer", metavar="ANSWER", help="an answer to it that `gulfezo check` accepts")
     parser.add_argument("-o", metavar="PAGE", dest="out", help="the page (ANSWER.html)")
     parser.add_argument("--assume", metavar="LIT", nargs="+", type=int, default=[], help="what the answer assumes")
-    parser.add_argument("--best", metavar="ATOM", type=int, help="FILE is what `best FILE ATOM` was given")
+    parser.add_argument("--best", metavar="ATOM", type=int, help="ANSWER is what `best FILE ATOM` wrote")
     parser.add_argument("--unchecked", action="store_true", help="don't run `gulfezo check` on the answer")
     given = parser.parse_args(words)
     out = given.out or f"{given.answer}.html"
