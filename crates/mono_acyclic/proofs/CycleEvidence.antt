@@ -28,7 +28,7 @@ own_walk g P u v ks known h =
     let c = and_parts (list_all (is_place g) ks) (list_all (present P) ks) b.0 in
     (c.1, and_from (list_all (is_place g) ks && list_all (present (only g ks)) ks) (leads g u ks v) (and_from (list_all (is_place g) ks) (list_all (present (only g ks)) ks) c.0 (all_from (present (only g ks)) ks (λ k t. in_only g ks k (all_has (λ j. j < length g.edges) ks k known t) t))) b.1)
 
-own_cycle : (g : Digraph) (P : List Bool) (ks : List ℕ) → All (λ k. k < length g.edges) ks → IsTrue (is_cycle g P ks) → IsTrue (list_all (present P) ks) × IsTrue (is_cycle g (only g ks) ks)
+pub own_cycle : (g : Digraph) (P : List Bool) (ks : List ℕ) → All (λ k. k < length g.edges) ks → IsTrue (is_cycle g P ks) → IsTrue (list_all (present P) ks) × IsTrue (is_cycle g (only g ks) ks)
 own_cycle g P [] known h = absurd cc
 own_cycle g P (k ∷ ks) known h = own_walk g P (edge_at g k).from (edge_at g k).from (k ∷ ks) known h
 

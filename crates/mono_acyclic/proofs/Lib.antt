@@ -1,3 +1,4 @@
 pub mod CycleEvidence
 pub mod OrderStays
 pub mod Together
+pub mod Closers

@@ -1,11 +1,11 @@
 -- What is kept of the surely present edges stays right while literals come and go, and decides whether there is a cycle.
-use Rattle.std.proofs.Common.{◌≡◌, ℕ, ◌+◌, ◌<◌, ◌≤◌, Bool, true, false, not, ◌&&◌, ◌||◌, List, [], ◌∷◌, ◌++◌, length, map, take, get_or, refl, sym, ap, subst, ◌∙◌, inl, inr, arith, ℤ, pos, nat_abs, int_lt, take-take}
+use Rattle.std.proofs.Common.{◌≡◌, ℕ, ◌+◌, ◌<◌, ◌≤◌, Bool, true, false, not, ◌&&◌, ◌||◌, List, [], ◌∷◌, ◌++◌, length, take, get_or, refl, sym, ap, subst, ◌∙◌, inl, inr, arith, ℤ, pos, int_lt, take-take}
 use Rattle.std.specs.Prelude.{IsTrue, Result, Ok, Err, OnErr, Option, Some, None, All, replicate, ◌==◌}
 use Rattle.std.specs.Option.{is_some}
 use Rattle.std.proofs.lemmas.Bool.{both_ways, cases_lt, or_left, eq-eqb, false_from_ne_true}
 use Rattle.std.proofs.lemmas.List.{get_or-map, get_or_past, get_or-replicate, length-map, length-replicate, length-take-le, take_more}
 use Rattle.mono_base.specs.Literal.{var_of}
-use Rattle.mono_base.specs.Partial.{is_true_in, is_false_in, is_partial}
+use Rattle.mono_base.specs.Partial.{is_true_in, is_partial}
 use Rattle.mono_base.specs.Worklist.{is_listed}
 use Rattle.mono_base.proofs.Partials.{has_var_of, later_is_new, is_partial-take}
 use Rattle.mono_graph.specs.declared.edge.Edge.{Edge}
@@ -20,7 +20,7 @@ use Rattle.mono_problem.specs.declared.atom.Predicate.{Predicate}
 use Rattle.mono_problem.specs.declared.atom.Predicate.TheVariants as kind
 use Rattle.mono_problem.specs.Quiet.{under}
 use Rattle.mono_problem.specs.Read.{no_atom}
-use Rattle.mono_theory.specs.Bound.{Bound, edge_vars, IsBoundOf}
+use Rattle.mono_theory.specs.Bound.{edge_vars}
 use Rattle.mono_theory.specs.DueAtoms.{PutsDue}
 use Rattle.mono_theory.specs.Evidences.{Decides, IsEvidence, shown_by}
 use Rattle.mono_theory.specs.Index.{ArePlacesOf}
@@ -28,7 +28,8 @@ use Rattle.mono_theory.specs.RowSides.{DecidesRest}
 use Rattle.mono_theory.specs.Supports.{AreCovered, atom_at}
 use Rattle.mono_theory.specs.Theories.{Facts, cut_to}
 use Rattle.mono_theory.specs.SureParts.{sure_parts}
-use Rattle.mono_theory.proofs.SureEdges.{sure_all, sure_grown, sure_larger, walk_places, none_sure}
+use Rattle.mono_theory.proofs.SureEdges.{sure_all, sure_gains, sure_larger, walk_places, none_sure}
+use Rattle.mono_theory.proofs.PartsFollow.{IsNextOf, next_of}
 use Rattle.mono_acyclic.specs.declared.ordered_edges.Closing.{Closing}
 use Rattle.mono_acyclic.specs.Cyclic.{cycle_evidence, is_cycle_predicate}
 use Rattle.mono_acyclic.specs.Orders.{OrderedView, IsOrderedTo, IsClosed, IsKeptTo, AreEdgesOf, AreEdgesTo, ordered_count, shows_cycle}
@@ -72,31 +73,26 @@ edges_cut f {s = s} n le h =
 
 -- the literal at the place is positive, and these are the edges of its variable
 pub record AreItsEdges (f : Facts) (n : ℕ) (l : ℤ) (ks : List ℕ) : Type 0 where
-  pub more : n < length f.seen
-  pub next : get_or f.seen n l ≡ l
-  pub partial : IsTrue (is_partial f.seen)
+  pub its : IsNextOf f n l ks
   pub positive : int_lt (pos 0) l ≡ true
-  pub places : ArePlacesOf (edge_vars f.graph) (nat_abs l) ks
+
+-- as a frame tells it
+pub edges_told : (f : Facts) (n : ℕ) (l : ℤ) (ks : List ℕ) → n < length f.seen → get_or f.seen n l ≡ l → IsTrue (is_partial f.seen) → int_lt (pos 0) l ≡ true → ArePlacesOf (edge_vars f.graph) (var_of (get_or f.seen n (pos 0))) ks → AreItsEdges f n l ks
+edges_told f n l ks more next partial up places = record { its = next_of f n l ks more next partial places; positive = up }
 
 -- they come
-pub sure_gains : (f : Facts) (n : ℕ) (l : ℤ) (ks : List ℕ) → AreItsEdges f n l ks → IsGrown (sure_parts f n) (sure_parts f (n + 1)) ks
-sure_gains f n l ks h =
-    let vs = edge_vars f.graph in
-    let t = take n f.seen in
-    let before : Bound = record { vars = vs; under = map (λ v. is_true_in t (pos v)) vs; over = map (λ v. not (is_false_in t (pos v))) vs } in
-    let held : IsBoundOf before vs t = record { vars = refl; surely = refl; possibly = refl } in
-    let grown = sure_grown f n l before ks h.more h.next h.partial held h.positive h.places in
-    subst (λ (Q : List Bool). IsGrown (sure_parts f n) Q ks) (sym grown.is) grown.grown
+gains : (f : Facts) (n : ℕ) (l : ℤ) (ks : List ℕ) → AreItsEdges f n l ks → IsGrown (sure_parts f n) (sure_parts f (n + 1)) ks
+gains f n l ks h = sure_gains f n l ks h.its h.positive
 
 -- and weren't there before
 pub sure_apart : (f : Facts) (n : ℕ) (l : ℤ) (ks : List ℕ) → AreItsEdges f n l ks → (k : ℕ) → IsTrue (has ks k) → present (sure_parts f n) k ≡ false
 sure_apart f n l ks h k there = false_from_ne_true (present (sure_parts f n) k) (λ on.
     let t = take n f.seen in
-    let place = h.places.each k there in
+    let place = h.its.places.each k there in
     let held : k < length f.graph.edges = let lt = place.held in omega (arith, lt, length-map f.graph.edges (λ (e : Edge). e.var)) in
     let var : (edge_at f.graph k).var ≡ var_of l = sym (get_or-map (λ (e : Edge). e.var) f.graph.edges k no_edge 0 held) ∙ place.is in
-    let more : take (n + 1) f.seen ≡ t ++ l ∷ [] = take_more f.seen n l h.more ∙ ap (λ (m : ℤ). t ++ m ∷ []) h.next in
-    let front : IsTrue (is_partial (t ++ l ∷ [])) = subst (λ (u : List ℤ). IsTrue (is_partial u)) more (is_partial-take (n + 1) f.seen h.partial) in
+    let more : take (n + 1) f.seen ≡ t ++ l ∷ [] = take_more f.seen n l h.its.more ∙ ap (λ (m : ℤ). t ++ m ∷ []) h.its.at in
+    let front : IsTrue (is_partial (t ++ l ∷ [])) = subst (λ (u : List ℤ). IsTrue (is_partial u)) more (is_partial-take (n + 1) f.seen h.its.partial) in
     let new = later_is_new t (l ∷ []) (var_of l) front (or_left (var_of l == var_of l) false (eq-eqb (var_of l) (var_of l) refl)) in
     both_ways _ new (has_var_of t (pos (edge_at f.graph k).var) (var_of l) (in_part_by (λ e. is_true_in t (pos e.var)) f.graph k on) var))
 
@@ -115,13 +111,13 @@ pub ordered_on : (f : Facts) (n : ℕ) (l : ℤ) (ks : List ℕ) (o r : PartWith
 ordered_on f n l ks o r its h put = record {
   size = put.size ∙ h.size;
   part_size = put.part_size ∙ h.part_size;
-  part = λ k. put.grown.each k ∙ ap (λ (b : Bool). b || has ks k) (h.part k) ∙ sym ((sure_gains f n l ks its).each k);
+  part = λ k. put.grown.each k ∙ ap (λ (b : Bool). b || has ks k) (h.part k) ∙ sym ((gains f n l ks its).each k);
   order = put.order h.order;
 }
 
 -- a cycle of the edges before it and some of its own is one of the edges after it
 pub closed_by : (f : Facts) (n : ℕ) (l : ℤ) (ks : List ℕ) (o : PartWithOrder) → AreItsEdges f n l ks → IsOrderedTo f n o → IsGrown o.part (sure_parts f (n + 1)) ks
-closed_by f n l ks o its h = grown_from o.part (sure_parts f n) (sure_parts f (n + 1)) ks h.part (sure_gains f n l ks its)
+closed_by f n l ks o its h = grown_from o.part (sure_parts f n) (sure_parts f (n + 1)) ks h.part (gains f n l ks its)
 
 -- some of its edges have come, and all are out again
 pub ordered_again : (f : Facts) (n i : ℕ) (l : ℤ) (ks : List ℕ) (o m r : PartWithOrder) → AreItsEdges f n l ks → IsOrderedTo f n o → IsPutIn f.graph o m (take i ks) → length r.order ≡ length m.order → length r.part ≡ length m.part
@@ -139,7 +135,7 @@ pub ordered_back : (f : Facts) (n : ℕ) (l : ℤ) (ks : List ℕ) (o r : PartWi
 ordered_back f n l ks o r its h size part_size out order = record {
   size = size ∙ h.size;
   part_size = part_size ∙ h.part_size;
-  part = out_again (sure_parts f n) (sure_parts f (n + 1)) r.part ks ks (sure_gains f n l ks its) (λ j t. t) (sure_apart f n l ks its) (λ k. out k ∙ ap (λ (b : Bool). not (has ks k) && b) (h.part k));
+  part = out_again (sure_parts f n) (sure_parts f (n + 1)) r.part ks ks (gains f n l ks its) (λ j t. t) (sure_apart f n l ks its) (λ k. out k ∙ ap (λ (b : Bool). not (has ks k) && b) (h.part k));
   order = order h.order;
 }
 

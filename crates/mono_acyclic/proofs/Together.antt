@@ -10,7 +10,8 @@ use Rattle.mono_graph.proofs.RisingRanks.{is_order-smaller, is_cycle-larger}
 use Rattle.mono_graph.proofs.Prefixes.{take_has}
 use Rattle.mono_cycles.specs.Kept.{PartWithOrder, IsGrownBy}
 use Rattle.mono_dynamic.specs.Arrivals.{IsGrown}
-use Rattle.mono_acyclic.specs.Together.{IsPutIn}
+use Rattle.mono_cycles.proofs.Ordered.{put_taken}
+use Rattle.mono_acyclic.specs.Together.{HasSameEdges, IsPutIn}
 
 -- ---- one edge
 
@@ -35,7 +36,7 @@ there_grown P place here = record {
 pub same_order : (g : Digraph) (P Q : List Bool) (ns : List ℕ) → ((k : ℕ) → present Q k ≡ present P k) → IsTrue (is_order g P ns) → IsTrue (is_order g Q ns)
 same_order g P Q ns same h = is_order-smaller g Q P (record { keeps = λ k here. sym (same k) ∙ here }) ns h
 
-set_grown : (P : List Bool) (place : ℕ) → place < length P → IsGrownBy P (set P place true) place
+pub set_grown : (P : List Bool) (place : ℕ) → place < length P → IsGrownBy P (set P place true) place
 set_grown P place lt = record {
   each = λ k. elim (cases_eq k place) [
     | inl e ↦ subst (λ (j : ℕ). present (set P place true) j ≡ (present P j || j == place)) (sym e) (get_or-set_same P place true false lt ∙ sym (or_right (present P place) (place == place) (eq-eqb place place refl)))
@@ -137,3 +138,26 @@ out_again P Q R ks js grown within apart out k =
     by false true p w f = absurd (let e = w refl in cc)
     by false false true w f = refl
     by false false false w f = refl
+
+-- ---- an edge that is tried
+
+or_swap : (a b : Bool) → (a || b) ≡ (b || a)
+or_swap true true = refl
+or_swap true false = refl
+or_swap false true = refl
+or_swap false false = refl
+
+-- it came and goes again
+pub grown_taken : (P Q R : List Bool) (place : ℕ) → IsGrownBy P Q place → ((k : ℕ) → present R k ≡ (not (k == place) && present Q k)) → present P place ≡ false → (k : ℕ) → present R k ≡ present P k
+grown_taken P Q R place grown taken absent = put_taken P Q R place (λ k. grown.each k ∙ or_swap (present P k) (k == place)) taken absent
+
+pub same_edges : (g : Digraph) (o : PartWithOrder) → HasSameEdges g o o
+same_edges g o = record { size = refl; part_size = refl; part = λ k. refl; order = λ h. h }
+
+pub same_edges_on : {g : Digraph} {o m r : PartWithOrder} → HasSameEdges g o m → HasSameEdges g m r → HasSameEdges g o r
+same_edges_on a b = record {
+  size = b.size ∙ a.size;
+  part_size = b.part_size ∙ a.part_size;
+  part = λ k. b.part k ∙ a.part k;
+  order = λ h. b.order (a.order h);
+}

@@ -145,6 +145,8 @@ impl Kind for Acyclic {
 
     const MOST_FOLLOWED: u32 = 0;
 
+    const LEAST_FOLLOWED: u32 = 0;
+
     fn with_nodes(alloc: Global, count: u32) -> Result<Self, AllocError> {
         let finder = CycleFinder::new(alloc, count)?;
         let ranks = vec![in alloc; 0; count as usize]?;

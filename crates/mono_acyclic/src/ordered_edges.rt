@@ -6,15 +6,20 @@
 //! and the edges of that literal and of the later ones aren't put in. Each atom asks for the same, so a cycle that closes makes
 //! all of them due. Going back takes out the edges that came since, and leaves the order as it is: it is one of fewer edges
 //! too.
+//!
+//! While an atom has to hold, the open edges that would close a cycle are looked for through each edge that came.
 
 ghost use Rattle.std.specs.Prelude.{◌≡◌, ◌+◌, ◌<◌, ◌≤◌, true, length, int_lt, pos, slice_index_or, IfOk, OnErr};
 ghost use Rattle.mono_acyclic.specs.Orders.{IsKeptTo, IsOrderedTo, ordered_count};
 
 use crate::acyclic::{Acyclic, cycle_evidence};
+use crate::closing_edges::ClosingEdges;
 use crate::ordering::{insert_all, remove_all};
+use crate::threatening::{find_threat, first_true};
 use mono_base::{Lit, Worklist};
 use mono_cycles::OrderedPart;
-use mono_theory::{Bounds, Evidence, Frame, Rows};
+use mono_graph::Part;
+use mono_theory::{Evidence, Frame, Rows, Threat};
 use std::alloc::{AllocError, Global};
 use std::marker::Model;
 
@@ -34,6 +39,10 @@ pub struct OrderedEdges {
     /// The edges of the literals before the one that closed a cycle, or of all.
     ordered: OrderedPart,
     closing: Option<Closing>,
+    /// Edges that would close a cycle, as far as they were looked for.
+    closers: ClosingEdges,
+    /// Through the edges of how many first literals they were looked for.
+    searched: usize,
 }
 
 impl Model for OrderedEdges {
@@ -61,7 +70,7 @@ fn advance(
 {
     let _ = frame.seen();
     let graph = frame.graph();
-    let places = frame.edges_of(lit.var());
+    let places = frame.edges_at(at);
     if insert_all(ordered, graph, places) {
         return Ok(None);
     }
@@ -79,9 +88,9 @@ fn undo_last(frame: &Frame, ordered: &mut OrderedPart, at: usize)
     let _ = frame.seen();
     let lit = frame.literal_at(at);
     // The variable of a literal isn't 0.
-    let var = lit.var();
+    let _ = lit.var();
     if lit.is_positive() {
-        remove_all(ordered, frame.edges_of(var));
+        remove_all(ordered, frame.edges_at(at));
     }
 }
 
@@ -134,22 +143,24 @@ impl Rows<Acyclic> for OrderedEdges {
     fn of_frame(alloc: Global, frame: &Frame) -> Result<Self, AllocError> {
         let graph = frame.graph();
         let ordered = OrderedPart::new(alloc, graph.nodes(), graph.edge_count())?;
+        let closers = ClosingEdges::new(alloc, graph.nodes())?;
         Ok(OrderedEdges {
             alloc,
             ordered,
             closing: None,
+            closers,
+            searched: 0,
         })
     }
 
     fn look_at(
         &mut self,
         frame: &Frame,
-        bounds: &Bounds,
+        part: &Part,
         looked: usize,
         lit: Lit,
         due: &mut Worklist,
     ) -> Result<(), AllocError> {
-        let _ = bounds.under();
         let _ = (frame.seen(), lit.var());
         if self.closing.is_some() {
             return Ok(());
@@ -170,7 +181,7 @@ impl Rows<Acyclic> for OrderedEdges {
         &mut self,
         alloc: Global,
         frame: &Frame,
-        bounds: &Bounds,
+        part: &Part,
         looked: usize,
         due: &mut Worklist,
     ) -> Result<(), AllocError> {
@@ -179,12 +190,39 @@ impl Rows<Acyclic> for OrderedEdges {
     }
 
     fn undo_to(&mut self, frame: &Frame, looked: usize, kept: usize) {
+        self.searched = self.searched.min(kept);
+        self.closers.forget();
         let ordered = self.ordered_count(looked);
         if ordered < kept {
             return;
         }
         self.closing = None;
         undo_edges_to(frame, &mut self.ordered, ordered, kept);
+    }
+
+    fn threat(
+        &mut self,
+        alloc: Global,
+        frame: &Frame,
+        looked: usize,
+    ) -> Result<Option<Threat>, AllocError> {
+        let _ = (frame.seen(), looked);
+        if self.closing.is_some() {
+            return Ok(None);
+        }
+        let Some(atom) = first_true(frame) else {
+            return Ok(None);
+        };
+        let from = self.searched;
+        self.searched = looked;
+        find_threat(
+            alloc,
+            frame,
+            &mut self.ordered,
+            &mut self.closers,
+            atom,
+            from,
+        )
     }
 
     fn shows(&self, frame: &Frame, looked: usize, place: usize) -> bool {

@@ -85,10 +85,11 @@ impl Worklist {
         }
     }
 
-    /// Each place that isn't listed yet joins, the last of them first: the first is then the next to be taken.
+    /// Each place that isn't listed yet joins.
     pub fn fill(&mut self)
         ensures { self.new.listed ≡ replicate (length self.old.listed) true }
     {
+        // The last of them joins first, so that the first is the next to be taken.
         let mut left = self.listed.len();
         'places: while left > 0 {
             left -= 1;

@@ -1,6 +1,6 @@
 -- What satisfies a problem that asks for a bound.
-use Rattle.std.proofs.Common.{◌≡◌, ℕ, ◌+◌, ◌-◌, ◌≤◌, ◌||◌, Bool, true, false, List, [], ◌∷◌, ◌++◌, length, refl, sym, subst, ◌∙◌, arith, ◌↔◌, ℤ, pos, length-append, inl, inr, max, ap, Some}
-use Rattle.std.specs.Prelude.{IsTrue, ◌⊎◌}
+use Rattle.std.proofs.Common.{◌≡◌, ℕ, ◌+◌, ◌-◌, ◌≤◌, ◌||◌, Bool, true, false, List, [], ◌∷◌, ◌++◌, length, refl, sym, subst, ◌∙◌, arith, ◌↔◌, ℤ, pos, length-append, inl, inr, max, ap, None, Some}
+use Rattle.std.specs.Prelude.{IsTrue, Option, ◌⊎◌}
 use Rattle.std.proofs.lemmas.Bool.{and_parts}
 use Rattle.std.proofs.lemmas.List.{get_or_append_left, get_or_push}
 use Rattle.std.proofs.lemmas.List.Folds.{list_all-append}
@@ -18,12 +18,13 @@ use Rattle.mono_problem.specs.Holds.{Holds, HoldsAtom, Agrees, Satisfies}
 use Rattle.mono_problem.proofs.Wider.{IsInstance-wider, IsInstance-atom, IsInstance-clause}
 use Rattle.mono_steps.specs.declared.step.Step.{Step}
 use Rattle.mono_search.specs.Outcomes.{HasModel}
+use Rattle.mono_steps.specs.New.{IsProgress}
 use Rattle.mono_steps.specs.Trimmed.{IsTrimRefutation}
 use Rattle.mono_best.specs.Asking.{asking, asked_atom, predicate_of, HasBoundedAtom, HasRoomToAsk}
-use Rattle.mono_best.specs.Bounds.{has_bound, with_bound, bound_at, beyond, IsBoundOf}
-use Rattle.mono_best.specs.Best.{IsBeyond, IsBest, IsMetBefore}
+use Rattle.mono_best.specs.Bounds.{has_bound, with_bound, bound_at, beyond, weakest, IsBoundOf}
+use Rattle.mono_best.specs.Best.{IsBeyond, IsBest, IsMetBefore, IsNextAfterMet, IsOpen}
 use Rattle.mono_best.specs.Met.{Meets, HasNumber, IsMetFrom}
-use Rattle.mono_best.proofs.Numbers.{last_flows, last_bound, bound_next, bound_between, over_bound}
+use Rattle.mono_best.proofs.Numbers.{last_flows, last_bound, bound_first, bound_in, bound_next, bound_between, over_bound}
 
 -- ---- the problem grows by one atom and one clause
 
@@ -139,3 +140,20 @@ best_before p n k b model steps is met refutes =
       met = met.2;
       refutes = subst (λ (c : ℤ). IsTrimRefutation (asking p n c) steps) (sym next) refutes;
     })
+
+-- ---- the bound on which a budget was spent
+
+pub first_or_next : (p : Instance) (n k : ℕ) (b : ℤ) (o : Option (List Bool)) → b ≡ bound_at (predicate_of p n) k → IsMetBefore p n k o → (b ≡ weakest (predicate_of p n)) ⊎ IsNextAfterMet p n b
+first_or_next p n k b None is none = inl (is ∙ (ap (bound_at (predicate_of p n)) none ∙ bound_first (predicate_of p n)))
+first_or_next p n k b (Some model) is met =
+    let q = predicate_of p n in
+    let next : beyond q (bound_at q (k - 1)) ≡ bound_at q k = bound_next q (k - 1) ∙ ap (bound_at q) (let e : k - 1 + 1 ≡ k = omega (arith, met.0) in e) in
+    inr (record { met_bound = bound_at q (k - 1); model = model; met = met.2; next = is ∙ sym next })
+
+pub spent_on : (p : Instance) (n k budget : ℕ) (b : ℤ) (o : Option (List Bool)) (steps : List Step) → IsTrue (has_bound (predicate_of p n)) → k ≤ MAX_BOUND + 1 → b ≡ bound_at (predicate_of p n) k → IsMetBefore p n k o
+    → IsProgress (asking p n (bound_at (predicate_of p n) k)) budget steps → IsOpen p n budget b steps
+spent_on p n k budget b o steps bounded few is met progress = record {
+  bound = subst (IsBoundOf (predicate_of p n)) (sym is) (bound_in (predicate_of p n) k bounded few);
+  first_or_next = first_or_next p n k b o is met;
+  progress = subst (λ (c : ℤ). IsProgress (asking p n c) budget steps) (sym is) progress;
+}

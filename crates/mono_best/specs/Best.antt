@@ -1,5 +1,5 @@
 -- The best bound of an atom.
-use Rattle.std.specs.Prelude.{◌≡◌, ℕ, ◌+◌, ◌<◌, ◌≤◌, ◌-◌, ℤ, pos, ◌≤ℤ◌, Bool, List, [], length, Option, Some, None, IsTrue}
+use Rattle.std.specs.Prelude.{◌≡◌, ℕ, ◌+◌, ◌<◌, ◌≤◌, ◌-◌, ◌⊎◌, ℤ, pos, ◌≤ℤ◌, Bool, List, [], length, Option, Some, None, IsTrue}
 use Rattle.mono_base.specs.declared.limits.TheConstants.{MAX_BOUND}
 use Rattle.mono_problem.specs.Instance.{Instance}
 use Rattle.mono_steps.specs.declared.step.Step.{Step}
@@ -28,9 +28,17 @@ pub record IsBeyond (p : Instance) (n : ℕ) (model : List Bool) : Type 0 where
   pub flow : IsTrue (is_flow (predicate_of p n))
   pub met : HasModel (asking p n (pos (MAX_BOUND + 1))) model
 
--- the budget was spent on the problem that asks for this bound
+-- a model meets the bound, and this one asks for one more
+pub record IsNextAfterMet (p : Instance) (n : ℕ) (b : ℤ) : Type 0 where
+  pub met_bound : ℤ
+  pub model : List Bool
+  pub met : HasModel (asking p n met_bound) model
+  pub next : b ≡ beyond (predicate_of p n) met_bound
+
+-- the budget was spent on the problem that asks for this bound: the weakest, or the next after one that a model meets
 pub record IsOpen (p : Instance) (n budget : ℕ) (b : ℤ) (steps : List Step) : Type 0 where
   pub bound : IsBoundOf (predicate_of p n) b
+  pub first_or_next : (b ≡ weakest (predicate_of p n)) ⊎ IsNextAfterMet p n b
   pub progress : IsProgress (asking p n b) budget steps
 
 abbrev pub IsOutcome : Instance → ℕ → ℕ → BestOutcome → Type 0

@@ -1,6 +1,6 @@
 //! The best bound: after each model the next better bound is asked for, until there is no model.
 
-ghost use Rattle.std.specs.Prelude.{◌≡◌, ◌≤◌, ◌+◌, ℕ, IfOk};
+ghost use Rattle.std.specs.Prelude.{◌≡◌, ◌≤◌, ◌+◌, ℕ, Bool, List, Option, IfOk};
 ghost use Rattle.mono_theory.specs.Owners.{facts_of};
 ghost use Rattle.mono_search.specs.Solving.{MakesTheories};
 ghost use Rattle.mono_steps.specs.Trimmed.{IsTrimRefutation};
@@ -60,11 +60,12 @@ pub fn best<T: Theory, F: Fn(&Problem) -> Result<Vec<T>, AllocError>>(
     }
 }
 
-/// What is found where the budget was spent on the bound of a number.
+/// What is found where the budget was spent on the bound of a number, the one before which was met by a model, if there is one before.
 fn spent(problem: &Problem, atom: u32, number: u64, steps: Row<Step>) -> BestOutcome
     requires atom { HasBoundedAtom problem.now atom }
     requires number { number ≤ MAX_BOUND + 1 }
-    ensures { (budget : ℕ) → IsProgress (asking problem.now atom (bound_of (predicate_of problem.now atom) number)) budget steps
+    ensures { (budget : ℕ) (met : Option (List Bool)) → IsMetBefore problem.now atom number met
+        → IsProgress (asking problem.now atom (bound_of (predicate_of problem.now atom) number)) budget steps
         → IsOutcome problem.now atom budget result }
 {
     BestOutcome::Unknown {

@@ -3,8 +3,8 @@
 //!
 //! A problem that asks for a bound has the predicate once more, with that bound and a new variable that has to be true. The
 //! weakest bound is asked for first. From each model the predicate's own value is measured by one search in its graph, and
-//! the next question asks for one better, until there is no model. So there are as many searches as improvements, and no
-//! bound is asked for twice.
+//! the next question asks for one better, until there is no model. So each search but the last one finds a model, and no bound
+//! is asked for twice.
 #![tactic(auto)]
 
 /// Problems that ask for a bound.

@@ -17,7 +17,8 @@ pub enum BestOutcome {
     Never(Row<Step>),
     /// Values under which a flow has a value of 2^53 + 1, beyond every bound that a file can write.
     Beyond(Row<bool>),
-    /// The budget was spent on the problem that asks for this bound: all steps.
+    /// The budget was spent on the problem that asks for this bound: all steps. It is the weakest bound, or the next after one that
+    /// some values meet.
     Unknown {
         bound: i64,
         steps: Row<Step>,

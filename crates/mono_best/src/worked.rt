@@ -121,6 +121,8 @@ pub fn outcomes_without_a_best_bound()
     ensures beyond_without_a_model { IsBeyond wide 1 new_one_false → ⊥ }
     ensures weight { IsBeyond (weighed []) 1 both_there → ⊥ }
     ensures spent { IsOutcome (weighed []) 1 0 (outcome.Unknown (pos 5) []) }
+    ensures spent_on_the_weakest { IsOutcome (weighed []) 1 0 (outcome.Unknown (pos MAX_BOUND) []) }
+    ensures not_next_after_one_met { IsOutcome (weighed []) 1 0 (outcome.Unknown (pos 3) []) → ⊥ }
     ensures not_spent { IsOutcome (weighed []) 1 1 (outcome.Unknown (pos 5) []) → ⊥ }
     ensures no_bound { IsOpen (weighed []) 1 0 (pos (MAX_BOUND + 1)) [] → ⊥ }
 {}

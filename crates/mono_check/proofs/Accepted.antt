@@ -27,9 +27,9 @@ use Rattle.mono_check.specs.Lines.{first_fault, last_line}
 use Rattle.mono_check.specs.Values.{model_line_fault, literals_in, has_ended, end_line, model_of, false_clause}
 use Rattle.mono_check.specs.StepLines.{step_line_fault, steps_line_fault, reason_of, clauses_in, steps_in, step_in}
 use Rattle.mono_steps.specs.Journals.{chain_count}
-use Rattle.mono_check.specs.Verdicts.{Outcome, Decided, ValuesIn, IsOutcome, IsVerdict, outcome_of, items_outcome, values_outcome, ended_outcome, model_end, steps_verdict, steps_end, or_rejected}
+use Rattle.mono_check.specs.Verdicts.{Outcome, Decided, ValuesIn, IsVerdictOf, IsVerdict, outcome_of, items_outcome, values_outcome, ended_outcome, model_end, steps_verdict, steps_end, or_rejected}
 use Rattle.mono_check.specs.Migrations.{is_accepted}
-use Rattle.mono_check.specs.Answers.{step_item, HasSteps, HasModel}
+use Rattle.mono_check.specs.Answers.{step_item, HasSteps, SaysModel}
 use Rattle.mono_check.proofs.AllTrue.{none_false}
 use Rattle.mono_check.proofs.ValueRows.{one_each, as_test, enough, no_end}
 use Rattle.mono_check.proofs.ModelText.{to_faultless, from_faultless, to_rows, from_rows}
@@ -96,7 +96,7 @@ lines_without_fault p before ((n, i) ∷ ls) (s ∷ ss) h j =
 abbrev IsAccepted : Verdict → Type 0
 IsAccepted w = (n : ℕ) (r : Reason) → w ≡ verdict.Rejected n r → ⊥
 
-not_rejected : (p : Instance) (o : Option (ℕ × Reason)) (end : Outcome) (w : Verdict) → IsAccepted w → IsOutcome p (or_rejected o end) w → (o ≡ None) × IsOutcome p end w
+not_rejected : (p : Instance) (o : Option (ℕ × Reason)) (end : Outcome) (w : Verdict) → IsAccepted w → IsVerdictOf p (or_rejected o end) w → (o ≡ None) × IsVerdictOf p end w
 not_rejected p None end w ok h = (refl, h)
 not_rejected p (Some (n, r)) end w ok h = absurd (ok n r h)
 
@@ -111,7 +111,7 @@ record IsModelText (p : Instance) (text : List ℕ) (w : Verdict) : Type 0 where
   lines : List (ℕ × Option Item)
   is : items_of (length p.clauses) text ≡ (status, Some (says.Status kind.Model)) ∷ lines
   fault : first_fault (model_line_fault p) [] lines ≡ None
-  end : IsOutcome p (model_end p status lines) w
+  end : IsVerdictOf p (model_end p status lines) w
 
 record AreStepsText (p : Instance) (text : List ℕ) (w : Verdict) : Type 0 where
   refutes : Bool
@@ -124,7 +124,7 @@ record AreStepsText (p : Instance) (text : List ℕ) (w : Verdict) : Type 0 wher
 by_status : (p : Instance) (text : List ℕ) (w : Verdict) → IsAccepted w → IsVerdict p text w → IsModelText p text w ⊎ AreStepsText p text w
 by_status p text w ok h = by_items (items_of (length p.clauses) text) refl h
   where
-    by_items : (ls : List (ℕ × Option Item)) → items_of (length p.clauses) text ≡ ls → IsOutcome p (items_outcome p (first_line_of text) ls) w → IsModelText p text w ⊎ AreStepsText p text w
+    by_items : (ls : List (ℕ × Option Item)) → items_of (length p.clauses) text ≡ ls → IsVerdictOf p (items_outcome p (first_line_of text) ls) w → IsModelText p text w ⊎ AreStepsText p text w
     by_items [] e k = absurd (ok (first_line_of text) reason.NotAnswer k)
     by_items ((n, None) ∷ ls) e k = absurd (ok n reason.NotAnswer k)
     by_items ((n, Some (says.Values zs)) ∷ ls) e k = absurd (ok n reason.NotAnswer k)
@@ -163,7 +163,7 @@ to_steps p text refutes w steps (ls, (n, is), lines) j end =
     let none = lines_without_fault p [] ls steps lines (subst (λ (cs : List (List ℤ)). IsTrue (are_justified_after p cs steps)) (sym (append-nil p.clauses)) j) in
     let e : items_outcome p (first_line_of text) (items_of (length p.clauses) text) ≡ steps_end refutes n ls =
     ap (items_outcome p (first_line_of text)) is ∙ by_kind refutes ∙ ap (λ (o : Option (ℕ × Reason)). or_rejected o (steps_end refutes n ls)) none in
-    subst (λ (o : Outcome). IsOutcome p o w) (sym e) (end n ls (same_steps ls steps lines))
+    subst (λ (o : Outcome). IsVerdictOf p o w) (sym e) (end n ls (same_steps ls steps lines))
   where
     by_kind : (b : Bool) → items_outcome p (first_line_of text) ((n, Some (says.Status (kind_by b))) ∷ ls) ≡ or_rejected (first_fault (steps_line_fault p) [] ls) (steps_end b n ls)
     by_kind true = refl
@@ -175,13 +175,13 @@ record HasEnded (p : Instance) (o : Option ℕ) (values : List Bool) (w : Verdic
   line : ℕ
   is : o ≡ Some line
   clauses : false_clause p values ≡ None
-  atoms : IsOutcome p (ValuesIn line values) w
+  atoms : IsVerdictOf p (ValuesIn line values) w
 
-values_ended : (p : Instance) (k : ℕ) (o : Option ℕ) (values : List Bool) (w : Verdict) → IsAccepted w → IsOutcome p (values_outcome k o values) w → (o ≡ None) × IsOutcome p (ValuesIn k values) w
+values_ended : (p : Instance) (k : ℕ) (o : Option ℕ) (values : List Bool) (w : Verdict) → IsAccepted w → IsVerdictOf p (values_outcome k o values) w → (o ≡ None) × IsVerdictOf p (ValuesIn k values) w
 values_ended p k None values w ok h = (refl, h)
 values_ended p k (Some j) values w ok h = absurd (ok k (reason.ClauseFalse j) h)
 
-has_ended_by : (p : Instance) (o : Option ℕ) (n : ℕ) (values : List Bool) (w : Verdict) → IsAccepted w → IsOutcome p (ended_outcome p o n values) w → HasEnded p o values w
+has_ended_by : (p : Instance) (o : Option ℕ) (n : ℕ) (values : List Bool) (w : Verdict) → IsAccepted w → IsVerdictOf p (ended_outcome p o n values) w → HasEnded p o values w
 has_ended_by p None n values w ok h = absurd (ok n reason.BadLine h)
 has_ended_by p (Some k) n values w ok h = let a = values_ended p k (false_clause p values) values w ok h in record { line = k; is = refl; clauses = a.0; atoms = a.1 }
 
@@ -246,7 +246,7 @@ progress_iff p text m = (λ h. to (by_status p text (verdict.Progress m) (progre
     from (steps, has, j, count) = to_steps p text false (verdict.Progress m) steps has j (λ n ls same. ap (λ (k : ℕ). verdict.Progress k) (count ∙ sym (ap chain_count same)))
 
 -- the values that the lines of an accepted model give
-has_values : (p : Instance) (text : List ℕ) (t : IsModelText p text verdict.Model) → HasEnded p (end_line t.lines) (model_of p (literals_in t.lines)) verdict.Model → HasModel p text (model_of p (literals_in t.lines))
+has_values : (p : Instance) (text : List ℕ) (t : IsModelText p text verdict.Model) → HasEnded p (end_line t.lines) (model_of p (literals_in t.lines)) verdict.Model → SaysModel p text (model_of p (literals_in t.lines))
 has_values p text t e =
     let r = to_rows p [] t.lines (to_faultless p [] t.lines t.fault) (ended_by_line t.lines ∙ ap is_some e.is) in
     record {
@@ -277,10 +277,10 @@ no_model t true e = model_or_steps (ends_empty (steps_in t.lines)) (last_line t.
 no_model t false e = (let end : verdict.Model ≡ steps_verdict false t.status t.lines = subst (λ (b : Bool). verdict.Model ≡ steps_verdict b t.status t.lines) e t.end in cc)
 
 -- they are those that any account of an accepted model gives
-pub model_held : (p : Instance) (text : List ℕ) (end : Option ℕ) (last : ℕ) (values : List Bool) → IsVerdict p text verdict.Model → outcome_of p text ≡ ended_outcome p end last values → HasModel p text values
+pub model_held : (p : Instance) (text : List ℕ) (end : Option ℕ) (last : ℕ) (values : List Bool) → IsVerdict p text verdict.Model → outcome_of p text ≡ ended_outcome p end last values → SaysModel p text values
 model_held p text end last values h is = by_text (by_status p text verdict.Model model_ok h)
   where
-    by_text : IsModelText p text verdict.Model ⊎ AreStepsText p text verdict.Model → HasModel p text values
+    by_text : IsModelText p text verdict.Model ⊎ AreStepsText p text verdict.Model → SaysModel p text values
     by_text (inl t) =
         let e = ended p text verdict.Model model_ok t in
         let a = model_of p (literals_in t.lines) in
@@ -289,7 +289,7 @@ model_held p text end last values h is = by_text (by_status p text verdict.Model
         ∙ ap (λ (o : Option (ℕ × Reason)). or_rejected o (model_end p t.status t.lines)) t.fault
         ∙ ap (λ (o : Option ℕ). ended_outcome p o (last_line t.status t.lines) a) e.is
         ∙ ap (λ (o : Option ℕ). values_outcome e.line o a) e.clauses in
-        subst (λ (b : List Bool). HasModel p text b) (sym (same_values p end last values e.line a (sym is ∙ here))) (has_values p text t e)
+        subst (λ (b : List Bool). SaysModel p text b) (sym (same_values p end last values e.line a (sym is ∙ here))) (has_values p text t e)
     by_text (inr t) = absurd (no_model t t.refutes refl)
 
 -- the steps of a text that has steps
@@ -325,17 +325,17 @@ steps_justified p text w refutes steps ok h has = by_text (by_status p text w (a
         let same : s.steps ≡ steps = sym (steps_are_held (length p.clauses) (kind_by t.refutes) text s.steps s.has) ∙ steps_are_held (length p.clauses) (kind_by refutes) text steps has in
         subst (λ (xs : List Step). IsTrue (are_justified p xs)) same s.justified
 
-pub model_iff : (p : Instance) (text : List ℕ) → IsVerdict p text verdict.Model ↔ ((a : List Bool) × HasModel p text a × Satisfies p (value_in a))
+pub model_iff : (p : Instance) (text : List ℕ) → IsVerdict p text verdict.Model ↔ ((a : List Bool) × SaysModel p text a × Satisfies p (value_in a))
 model_iff p text = (λ h. to (by_status p text verdict.Model model_ok h), from)
   where
-    to : IsModelText p text verdict.Model ⊎ AreStepsText p text verdict.Model → ((a : List Bool) × HasModel p text a × Satisfies p (value_in a))
+    to : IsModelText p text verdict.Model ⊎ AreStepsText p text verdict.Model → ((a : List Bool) × SaysModel p text a × Satisfies p (value_in a))
     to (inl t) =
         let e = ended p text verdict.Model model_ok t in
         let a = model_of p (literals_in t.lines) in
         (a, has_values p text t e, ((none_false (value_in a) p.clauses).0 e.clauses, e.atoms))
     to (inr t) = absurd (no_model t t.refutes refl)
 
-    from : ((a : List Bool) × HasModel p text a × Satisfies p (value_in a)) → IsVerdict p text verdict.Model
+    from : ((a : List Bool) × SaysModel p text a × Satisfies p (value_in a)) → IsVerdict p text verdict.Model
     from (a, has, s) =
         let ls = has.lines in
         let n = has.behind.0 in
@@ -346,11 +346,11 @@ model_iff p text = (λ h. to (by_status p text verdict.Model model_ok h), from)
         let b : List Bool = model_of p (literals_in ls) in
         let t : Satisfies p (value_in b) = subst (λ (c : List Bool). Satisfies p (value_in c)) (has.true_where ∙ ap (model_of p) (sym f.all)) s in
         let e : items_outcome p (first_line_of text) (items_of (length p.clauses) text) ≡ model_end p n ls = ap (items_outcome p (first_line_of text)) is ∙ ap (λ (o : Option (ℕ × Reason)). or_rejected o (model_end p n ls)) none in
-        subst (λ (o : Outcome). IsOutcome p o verdict.Model) (sym e) (by_end (end_line ls) (last_line n ls) b (sym (ended_by_line ls) ∙ done) ((none_false (value_in b) p.clauses).1 t.0) t.1)
+        subst (λ (o : Outcome). IsVerdictOf p o verdict.Model) (sym e) (by_end (end_line ls) (last_line n ls) b (sym (ended_by_line ls) ∙ done) ((none_false (value_in b) p.clauses).1 t.0) t.1)
       where
-        by_end : (o : Option ℕ) (m : ℕ) (b : List Bool) → is_some o ≡ true → false_clause p b ≡ None → Agrees p (value_in b) → IsOutcome p (ended_outcome p o m b) verdict.Model
+        by_end : (o : Option ℕ) (m : ℕ) (b : List Bool) → is_some o ≡ true → false_clause p b ≡ None → Agrees p (value_in b) → IsVerdictOf p (ended_outcome p o m b) verdict.Model
         by_end None m b e f g = absurd cc
-        by_end (Some k) m b e f g = subst (λ (o : Option ℕ). IsOutcome p (values_outcome k o b) verdict.Model) (sym f) g
+        by_end (Some k) m b e f g = subst (λ (o : Option ℕ). IsVerdictOf p (values_outcome k o b) verdict.Model) (sym f) g
 
 pub model_satisfies : (p : Instance) (text : List ℕ) → IsVerdict p text verdict.Model → (a : ℕ → Bool) × Satisfies p a
 model_satisfies p text h = let m = (model_iff p text).0 h in (value_in m.0, m.2)
@@ -360,7 +360,7 @@ refutation_has_no_model p text ok h = let r = (refutation_iff p text).0 h in ref
 
 -- ---- one verdict
 
-same_outcome : (p : Instance) (o : Outcome) (v w : Verdict) → IsOutcome p o v → IsOutcome p o w → v ≡ w
+same_outcome : (p : Instance) (o : Outcome) (v w : Verdict) → IsVerdictOf p o v → IsVerdictOf p o w → v ≡ w
 same_outcome p (Decided u) v w h k = h ∙ sym k
 same_outcome p (ValuesIn n values) verdict.Model verdict.Model h k = refl
 same_outcome p (ValuesIn n values) verdict.Model (verdict.Rejected m (reason.AtomWrong j)) h k = absurd (wrong_disagrees p (value_in values) j k.1 h)

@@ -19,7 +19,7 @@ use Rattle.mono_answer.specs.declared.version.Version.TheVariants as version
 use Rattle.mono_answer.specs.Printed.{literal_of, literals_from, with_zero, answer_text_as}
 use Rattle.mono_answer.proofs.RoundTrip.{version_is_read}
 use Rattle.mono_check.specs.Values.{are_values, model_of}
-use Rattle.mono_check.specs.Answers.{AreValues, HasLines, HasModel, values_item}
+use Rattle.mono_check.specs.Answers.{AreValues, HasLines, SaysModel, values_item}
 use Rattle.mono_check.proofs.ValueRows.{one_each}
 
 -- ---- one literal
@@ -126,7 +126,7 @@ model_is p values len =
 abbrev values_lines : ℕ → List Bool → List (ℕ × Option Item)
 values_lines n values = (n, values_item (with_zero (literals_from 1 values))) ∷ []
 
-model_in : (p : Instance) (values : List Bool) (text : List ℕ) (n : ℕ) → length values ≡ p.vars → HasLines (length p.clauses) kind.Model text (values_lines n values) → HasModel p text values
+model_in : (p : Instance) (values : List Bool) (text : List ℕ) (n : ℕ) → length values ≡ p.vars → HasLines (length p.clauses) kind.Model text (values_lines n values) → SaysModel p text values
 model_in p values text n len behind = record {
   lines = values_lines n values;
   rows = with_zero (literals_from 1 values) ∷ [];
@@ -138,7 +138,7 @@ model_in p values text n len behind = record {
   true_where = sym (model_is p values len);
 }
 
-pub model_stands : (p : Instance) (values : List Bool) (v : Version) → IsInstance p → length values ≡ p.vars → HasModel p (answer_text_as (answer.Model values) v (length p.clauses)) values
+pub model_stands : (p : Instance) (values : List Bool) (v : Version) → IsInstance p → length values ≡ p.vars → SaysModel p (answer_text_as (answer.Model values) v (length p.clauses)) values
 model_stands p values v ok len = by_version v
   where
     c : ℕ
@@ -147,6 +147,6 @@ model_stands p values v ok len = by_version v
     few : IsTrue (nat_le (length values) MAX_VARS)
     few = le-leb (length values) MAX_VARS (omega (arith, len, ok.vars))
 
-    by_version : (w : Version) → HasModel p (answer_text_as (answer.Model values) w c) values
+    by_version : (w : Version) → SaysModel p (answer_text_as (answer.Model values) w c) values
     by_version version.One = model_in p values (answer_text_as (answer.Model values) version.One c) 2 len (1, version_is_read c (answer.Model values) version.One few)
     by_version version.Two = model_in p values (answer_text_as (answer.Model values) version.Two c) 3 len (2, version_is_read c (answer.Model values) version.Two (and_from (nat_le (length values) MAX_VARS) true few refl))

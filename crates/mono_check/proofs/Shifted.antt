@@ -23,7 +23,7 @@ use Rattle.mono_check.specs.declared.verdict.Verdict.TheVariants as verdict
 use Rattle.mono_check.specs.Values.{ends_in, value_fault, false_clause, model_of}
 use Rattle.mono_check.specs.StepLines.{step_line_fault}
 use Rattle.mono_check.specs.SoFar.{ModelSoFar, StepsSoFar, or_fault, model_behind, model_more, steps_behind, steps_more}
-use Rattle.mono_check.specs.Verdicts.{Outcome, Decided, ValuesIn, IsOutcome, IsVerdict, outcome_of, values_outcome, ended_outcome, steps_outcome, items_outcome}
+use Rattle.mono_check.specs.Verdicts.{Outcome, Decided, ValuesIn, IsVerdictOf, IsVerdict, outcome_of, values_outcome, ended_outcome, steps_outcome, items_outcome}
 use Rattle.mono_check.specs.Migrations.{has_literals, FitsMemory, one_line_later}
 use Rattle.mono_check.proofs.BothVersions.{steps_alike}
 use Rattle.mono_check.proofs.Behind.{steps_walked, model_walked}
@@ -183,7 +183,7 @@ same_before (verdict.Rejected n q) (verdict.Rejected m r) e =
     let line : n ≡ m = omega (arith, lines) in
     ap (λ (k : ℕ). verdict.Rejected k q) line ∙ ap (λ (x : Reason). verdict.Rejected m x) reasons
 
-verdict_later : (p : Instance) (o : Outcome) (v : Verdict) → IsOutcome p o v ↔ IsOutcome p (outcome_later o) (one_line_later v)
+verdict_later : (p : Instance) (o : Outcome) (v : Verdict) → IsVerdictOf p o v ↔ IsVerdictOf p (outcome_later o) (one_line_later v)
 verdict_later p (Decided w) v = (λ h. ap one_line_later h, λ h. same_before v w h)
 verdict_later p (ValuesIn n values) verdict.Model = (λ h. h, λ h. h)
 verdict_later p (ValuesIn n values) verdict.Refutation = (λ h. h, λ h. h)
@@ -207,6 +207,6 @@ pub versions_alike : (p : Instance) (a : Answer) (v : Verdict) → FitsMemory (l
 versions_alike p a v fits names =
     let there = answer_later p a fits names in
     let both = verdict_later p (outcome_of p (answer_text_as a version.One (length p.clauses))) v in (
-      λ h. subst (λ (o : Outcome). IsOutcome p o (one_line_later v)) (sym there) (both.0 h),
-      λ h. both.1 (subst (λ (o : Outcome). IsOutcome p o (one_line_later v)) there h),
+      λ h. subst (λ (o : Outcome). IsVerdictOf p o (one_line_later v)) (sym there) (both.0 h),
+      λ h. both.1 (subst (λ (o : Outcome). IsVerdictOf p o (one_line_later v)) there h),
     )

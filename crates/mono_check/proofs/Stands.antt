@@ -17,7 +17,7 @@ use Rattle.mono_answer.specs.Printed.{answer_text_as}
 use Rattle.mono_check.specs.declared.reason.Reason.{Reason}
 use Rattle.mono_check.specs.declared.verdict.Verdict.{Verdict}
 use Rattle.mono_check.specs.declared.verdict.Verdict.TheVariants as verdict
-use Rattle.mono_check.specs.Answers.{HasLines, HasSteps, HasModel, values_item, step_item}
+use Rattle.mono_check.specs.Answers.{HasLines, HasSteps, SaysModel, values_item, step_item}
 use Rattle.mono_check.specs.Values.{model_of}
 use Rattle.mono_check.specs.Verdicts.{IsVerdict}
 use Rattle.mono_check.specs.Migrations.{is_accepted, StandsFor, MigratesTo}
@@ -52,7 +52,7 @@ same_rows (x ∷ xs) (y ∷ ys) h =
 same_lines : (c : ℕ) (text : List ℕ) (j k : Kind) (ls ms : List (ℕ × Option Item)) → HasLines c j text ls → HasLines c k text ms → (j ≡ k) × (ls ≡ ms)
 same_lines c text j k ls ms (n, a) (m, b) = same_parts j k n m ls ms (sym a ∙ b)
 
-models_once : (p : Instance) (text : List ℕ) (u w : List Bool) → HasModel p text u → HasModel p text w → u ≡ w
+models_once : (p : Instance) (text : List ℕ) (u w : List Bool) → SaysModel p text u → SaysModel p text w → u ≡ w
 models_once p text u w a b =
     let lines : a.lines ≡ b.lines = (same_lines (length p.clauses) text kind.Model kind.Model a.lines b.lines a.behind b.behind).1 in
     let rows : a.rows ≡ b.rows = same_rows a.rows b.rows (sym a.alone ∙ ap (map (λ (l : ℕ × Option Item). l.1)) lines ∙ b.alone) in

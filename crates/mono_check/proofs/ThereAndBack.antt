@@ -29,7 +29,7 @@ use Rattle.mono_answer.proofs.RoundTrip.{version_is_read}
 use Rattle.mono_answer.proofs.Within.{IsWithinItem, item_within}
 use Rattle.mono_check.specs.declared.verdict.Verdict.{Verdict}
 use Rattle.mono_check.specs.declared.verdict.Verdict.TheVariants as verdict
-use Rattle.mono_check.specs.Answers.{HasSteps, HasModel}
+use Rattle.mono_check.specs.Answers.{HasSteps, SaysModel}
 use Rattle.mono_check.specs.StepLines.{steps_in}
 use Rattle.mono_check.specs.Verdicts.{IsVerdict}
 use Rattle.mono_check.specs.Migrations.{is_accepted, StandsFor, MigratesTo}
@@ -160,10 +160,10 @@ record IsWritable (c : ℕ) (a : Answer) : Type 0 where
   pub two : IsTrue (is_within_format_as version.Two c a)
 
 -- a model gives a value to each variable
-as_many_values : (p : Instance) (text : List ℕ) (values : List Bool) → HasModel p text values → length values ≡ p.vars
+as_many_values : (p : Instance) (text : List ℕ) (values : List Bool) → SaysModel p text values → length values ≡ p.vars
 as_many_values p text values has = ap length has.true_where ∙ length-map-range_with_len (λ (x : ℕ). has_lit has.lits (pos x)) 1 p.vars
 
-model_writable : (p : Instance) (text : List ℕ) (values : List Bool) → IsInstance p → HasModel p text values → IsWritable (length p.clauses) (answer.Model values)
+model_writable : (p : Instance) (text : List ℕ) (values : List Bool) → IsInstance p → SaysModel p text values → IsWritable (length p.clauses) (answer.Model values)
 model_writable p text values ok has =
     let len = as_many_values p text values has in
     let few : length values ≤ MAX_VARS = omega (arith, len, ok.vars) in

@@ -71,10 +71,10 @@ version_judged p n text ls kept two =
 
 behind_begun : (p : Instance) (s : Said) (ls : List (ℕ × List ℕ)) → IsBegun s → behind p (so_far s) ls ≡ behind_items p (so_far s) (items_in ls)
 behind_begun p said.Nothing ls h = absurd cc
-behind_begun p (said.Version n) ls h = refl
-behind_begun p (said.Values status v) ls h = refl
-behind_begun p (said.Steps v r status s) ls h = refl
-behind_begun p (said.Fault n r) ls h = refl
+behind_begun p (said.OfVersion n) ls h = refl
+behind_begun p (said.OfModel status v) ls h = refl
+behind_begun p (said.OfSteps v r status s) ls h = refl
+behind_begun p (said.AtFault n r) ls h = refl
 
 next_item : (n : ℕ) (text : List ℕ) (ls : List (ℕ × List ℕ)) (i : Option Item) → is_skipped (tokens_of text) ≡ false → item_of (tokens_of text) ≡ i → items_in ((n, text) ∷ ls) ≡ (n, i) ∷ items_in ls
 next_item n text ls i kept says = ap said_in (spoken_kept n text ls kept) ∙ ap (λ (o : Option Item). (n, o) ∷ items_in ls) says
@@ -86,10 +86,10 @@ by_item p said.Nothing n text ls i kept says other =
     ap (λ (xs : List (ℕ × List ℕ)). items_outcome p (version_line xs) (answer_said_in (length p.clauses) xs)) (spoken_kept n text ls kept)
     ∙ ap (λ (b : Bool). items_outcome p (if b then n else 1) (if b then items_by version.Two (length p.clauses + 1) (items_in ls) else said_in ((n, text) ∷ spoken ls))) other
     ∙ ap (λ (o : Option Item). items_outcome p 1 ((n, o) ∷ items_in ls)) says
-by_item p (said.Version m) n text ls i kept says other = ap (behind_items p (OfVersion m)) (next_item n text ls i kept says)
-by_item p (said.Values status v) n text ls i kept says other = ap (behind_items p (so_far (said.Values status v))) (next_item n text ls i kept says)
-by_item p (said.Steps v r status s) n text ls i kept says other = ap (behind_items p (so_far (said.Steps v r status s))) (next_item n text ls i kept says)
-by_item p (said.Fault m r) n text ls i kept says other = refl
+by_item p (said.OfVersion m) n text ls i kept says other = ap (behind_items p (OfVersion m)) (next_item n text ls i kept says)
+by_item p (said.OfModel status v) n text ls i kept says other = ap (behind_items p (so_far (said.OfModel status v))) (next_item n text ls i kept says)
+by_item p (said.OfSteps v r status s) n text ls i kept says other = ap (behind_items p (so_far (said.OfSteps v r status s))) (next_item n text ls i kept says)
+by_item p (said.AtFault m r) n text ls i kept says other = refl
 
 pub line_judged : (p : Instance) (old new : Said) (n : ℕ) (text : List ℕ) (i : Option Item) → is_skipped (tokens_of text) ≡ false → item_of (tokens_of text) ≡ i → (is_nothing old && is_version_two (tokens_of text)) ≡ false → IsBegun new
     → ((is : List (ℕ × Option Item)) → behind_items p (so_far new) is ≡ behind_items p (so_far old) ((n, i) ∷ is))
@@ -132,7 +132,7 @@ model_by p v m s ((n, Some (says.Values zs)) ∷ ls) =
 -- behind a line without a fault
 pub values_next : (p : Instance) (status n : ℕ) (old new : Values) (i : Option Item) → None ≡ value_fault p old.set.members (is_some old.end) i
     → ((k : ℕ) (ls : List (ℕ × Option Item)) → model_behind p (model_kept k new) ls ≡ model_behind p (model_more n i (model_kept k old)) ls)
-    → (ls : List (ℕ × Option Item)) → behind_items p (so_far (said.Values status new)) ls ≡ behind_items p (so_far (said.Values status old)) ((n, i) ∷ ls)
+    → (ls : List (ℕ × Option Item)) → behind_items p (so_far (said.OfModel status new)) ls ≡ behind_items p (so_far (said.OfModel status old)) ((n, i) ∷ ls)
 values_next p status n old new i none more ls = more status ls ∙ ap (λ (o : Option Reason). or_fault n o (model_behind p (model_more n i (model_kept status old)) ls)) none
 
 -- ---- steps

@@ -35,7 +35,7 @@ pub record AreValues (p : Instance) (lits : List ℤ) : Type 0 where
 
 -- The text says that the problem's variables have these values: behind the status line there are `v` lines alone, whose numbers are in
 -- sum a literal over each variable, in any order, and then the ending 0. A variable is true exactly where it is one of the literals.
-pub record HasModel (p : Instance) (text : List ℕ) (values : List Bool) : Type 0 where
+pub record SaysModel (p : Instance) (text : List ℕ) (values : List Bool) : Type 0 where
   pub lines : List (ℕ × Option Item)
   pub rows : List (List ℤ)
   pub lits : List ℤ

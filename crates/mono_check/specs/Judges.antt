@@ -13,10 +13,10 @@ use Rattle.mono_check.specs.Seen.{model_kept, steps_kept, AreValuesKept, AreStep
 
 abbrev pub so_far : Said → SoFar
 so_far said.Nothing = Nothing
-so_far (said.Values status v) = OfModel (model_kept status v)
-so_far (said.Version line) = OfVersion line
-so_far (said.Steps version refutes status s) = OfSteps version refutes (steps_kept status s)
-so_far (said.Fault line r) = AtFault line r
+so_far (said.OfModel status v) = OfModel (model_kept status v)
+so_far (said.OfVersion line) = OfVersion line
+so_far (said.OfSteps version refutes status s) = OfSteps version refutes (steps_kept status s)
+so_far (said.AtFault line r) = AtFault line r
 
 -- no line but blank ones and comments was there
 abbrev pub is_nothing : Said → Bool
@@ -28,8 +28,8 @@ IsBegun s = is_nothing s ≡ false
 
 -- what is kept is what it has to be
 abbrev pub IsSound : Instance → Said → Type 0
-IsSound p (said.Values status v) = AreValuesKept p v
-IsSound p (said.Steps version refutes status s) = AreStepsKept p s
+IsSound p (said.OfModel status v) = AreValuesKept p v
+IsSound p (said.OfSteps version refutes status s) = AreStepsKept p s
 IsSound p s = Unit {0}
 
 -- ---- the judge
@@ -41,7 +41,7 @@ judging j = record { so_far = so_far j.said; lines = j.lines; unfinished = j.unf
 abbrev pub IsOneLine : List ℕ → Type 0
 IsOneLine bytes = All (λ b. is_line_feed b ≡ false) bytes
 
-pub record IsKept (p : Instance) (j : Judge) : Type 0 where
+pub record IsSoundJudge (p : Instance) (j : Judge) : Type 0 where
   pub sound : IsSound p j.said
   pub one_line : IsOneLine j.unfinished.items
 
@@ -52,5 +52,5 @@ size_of j = j.lines + length j.unfinished.items
 -- a checker that found memory keeps what it has to
 pub record IsChecking (p : Instance) (j : Judge) (fed : ℕ) (live : Bool) : Type 0 where
   pub within : fed ≤ 2 ^ 62
-  pub kept : IsTrue live → IsKept p j
+  pub kept : IsTrue live → IsSoundJudge p j
   pub few : IsTrue live → size_of j ≤ fed

@@ -17,7 +17,7 @@ use Rattle.mono_check.specs.declared.migrated.Migrated.{Migrated}
 use Rattle.mono_check.specs.declared.migrated.Migrated.TheVariants as migrated
 use Rattle.mono_check.specs.declared.verdict.Verdict.{Verdict}
 use Rattle.mono_check.specs.declared.verdict.Verdict.TheVariants as verdict
-use Rattle.mono_check.specs.Answers.{HasModel, HasSteps}
+use Rattle.mono_check.specs.Answers.{SaysModel, HasSteps}
 use Rattle.mono_check.specs.StepLines.{steps_in}
 use Rattle.mono_check.specs.Verdicts.{IsVerdict}
 
@@ -27,7 +27,7 @@ is_accepted v = true
 
 -- the text, of either version, is one of this answer: it says these values, or these steps
 abbrev pub StandsFor : Instance → List ℕ → Answer → Type 0
-StandsFor p text (answer.Model values) = HasModel p text values
+StandsFor p text (answer.Model values) = SaysModel p text values
 StandsFor p text (answer.Refutation steps) = HasSteps (length p.clauses) kind.Refutation text steps
 StandsFor p text (answer.Progress steps) = HasSteps (length p.clauses) kind.Progress text steps
 

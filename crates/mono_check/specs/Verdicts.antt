@@ -77,12 +77,12 @@ outcome_of p text = items_outcome p (first_line_of text) (items_of (length p.cla
 -- ---- the verdict
 
 -- values are a model where each predicate's variable agrees with its predicate. Otherwise the first that doesn't is named
-abbrev pub IsOutcome : Instance → Outcome → Verdict → Type 0
-IsOutcome p (Decided w) v = v ≡ w
-IsOutcome p (ValuesIn n values) verdict.Model = Agrees p (value_in values)
-IsOutcome p (ValuesIn n values) (verdict.Rejected m (reason.AtomWrong k)) = (m ≡ n) × IsFirstWrong p (value_in values) k
-IsOutcome p (ValuesIn n values) v = ⊥
+abbrev pub IsVerdictOf : Instance → Outcome → Verdict → Type 0
+IsVerdictOf p (Decided w) v = v ≡ w
+IsVerdictOf p (ValuesIn n values) verdict.Model = Agrees p (value_in values)
+IsVerdictOf p (ValuesIn n values) (verdict.Rejected m (reason.AtomWrong k)) = (m ≡ n) × IsFirstWrong p (value_in values) k
+IsVerdictOf p (ValuesIn n values) v = ⊥
 
 -- the verdict on the text of an answer to the problem
 abbrev pub IsVerdict : Instance → List ℕ → Verdict → Type 0
-IsVerdict p text v = IsOutcome p (outcome_of p text) v
+IsVerdict p text v = IsVerdictOf p (outcome_of p text) v

@@ -2,7 +2,7 @@
 
 ghost use Rattle.std.specs.Prelude.{◌≡◌, ◌≤◌, ◌+◌, ◌^◌, ◌++◌, [], ℕ, List, IsTrue, IsFalse, IfOk, OnOk, OnErr, length};
 ghost use Rattle.mono_check.specs.Checking.{later};
-ghost use Rattle.mono_check.specs.Verdicts.{IsOutcome, outcome_of};
+ghost use Rattle.mono_check.specs.Verdicts.{IsVerdictOf, outcome_of};
 
 use crate::Verdict;
 use crate::judge::Judge;
@@ -67,7 +67,7 @@ impl<'a> Checker<'a> {
     }
 
     /// Takes the next bytes of the answer, and judges each line that ends among them. Where no memory is found, the checker
-    /// isn't live any more, and no call but `is_live` and `fed` may follow.
+    /// isn't live any more, and no call but `is_live` may follow.
     ///
     /// Whatever bytes follow, the answer comes to what it came to before where `piece` and then those bytes followed.
     pub fn feed(&mut self, piece: &[u8]) -> Result<(), AllocError>
@@ -87,13 +87,6 @@ impl<'a> Checker<'a> {
         Ok(())
     }
 
-    /// How many bytes were fed.
-    pub fn fed(&self) -> u64
-        ensures { result ≡ self.now.fed }
-    {
-        self.fed
-    }
-
     /// Whether memory was found for all that was fed: `false` exactly after a `feed` that found none.
     pub fn is_live(&self) -> bool
         ensures { result ≡ self.now.is_live }
@@ -104,7 +97,7 @@ impl<'a> Checker<'a> {
     /// The verdict on the answer, where no bytes follow those that were fed.
     pub fn finish(self) -> Result<Verdict, AllocError>
         requires { IsTrue self.is_live }
-        ensures { IfOk result (IsOutcome self.entry.problem (later self.entry [])) }
+        ensures { IfOk result (IsVerdictOf self.entry.problem (later self.entry [])) }
     {
         self.judge.finish(self.problem)
     }

@@ -43,7 +43,7 @@ impl EnabledPart {
         requires place { place < length problem.now.graphs }
         ensures { IfOk result (IsPartAt problem.now (value_in model.now) place) }
     {
-        let _ = problem.vars();
+        problem.known();
         let graph = problem.graph(place);
         let nodes = graph.nodes();
         // The greatest last, since each is dropped where a later one finds no memory.

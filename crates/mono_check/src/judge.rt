@@ -8,9 +8,9 @@ ghost use Rattle.mono_text.specs.Text.{is_skipped, tokens_of};
 ghost use Rattle.mono_answer.specs.Items.{item_of};
 ghost use Rattle.mono_problem.specs.Instance.{Instance};
 ghost use Rattle.mono_check.specs.Checking.{later_by};
-ghost use Rattle.mono_check.specs.Judges.{IsKept, IsOneLine, IsSound, judging, size_of, so_far};
+ghost use Rattle.mono_check.specs.Judges.{IsSoundJudge, IsOneLine, IsSound, judging, size_of, so_far};
 ghost use Rattle.mono_check.specs.SoFar.{behind};
-ghost use Rattle.mono_check.specs.Verdicts.{IsOutcome, IsVerdict, ended_outcome, outcome_of};
+ghost use Rattle.mono_check.specs.Verdicts.{IsVerdictOf, IsVerdict, ended_outcome, outcome_of};
 
 use crate::Verdict;
 use crate::said::Said;
@@ -109,7 +109,7 @@ fn judge_other(
         → behind problem.now (so_far said.new) ls ≡ behind problem.now (so_far said.old) ((line.entry.number, line.entry.text.now) ∷ ls)) }
 {
     if said.is_nothing() && is_version_line(&line) {
-        *said = Said::Version { line: line.number };
+        *said = Said::OfVersion { line: line.number };
         return Ok(());
     }
     said.add(alloc, reader, problem, line.number, None)
@@ -118,7 +118,7 @@ fn judge_other(
 impl Judge {
     /// A judge that was fed nothing.
     pub(crate) fn new(alloc: Global) -> Judge
-        ensures kept { (p : Instance) → IsKept p result }
+        ensures kept { (p : Instance) → IsSoundJudge p result }
         ensures size { size_of result ≡ 0 }
         ensures later { (p : Instance) (rest : List ℕ) → later_by p (judging result) rest ≡ outcome_of p rest }
     {
@@ -134,10 +134,10 @@ impl Judge {
     /// Takes the last bytes of a line, which a line feed follows, and judges it. A line of which nothing came before is
     /// judged where it lies.
     fn end_line(&mut self, problem: &Problem, end: &[u8]) -> Result<(), AllocError>
-        requires kept { IsKept problem.now self.old }
+        requires kept { IsSoundJudge problem.now self.old }
         requires few { size_of self.old + length end.now + 1 < 2 ^ 63 }
         requires one_line { IsOneLine end.now }
-        ensures kept { OnOk result (IsKept problem.now self.new) }
+        ensures kept { OnOk result (IsSoundJudge problem.now self.new) }
         ensures size { OnOk result (size_of self.new ≤ size_of self.old + length end.now + 1) }
         ensures later { OnOk result ((rest : List ℕ)
             → later_by problem.now (judging self.new) rest ≡ later_by problem.now (judging self.old) (end.now ++ 10 ∷ rest)) }
@@ -161,9 +161,9 @@ impl Judge {
 
     /// Takes the next bytes, and judges each line that ends among them. Behind a line at fault it passes over them.
     pub(crate) fn feed(&mut self, problem: &Problem, piece: &[u8]) -> Result<(), AllocError>
-        requires kept { IsKept problem.now self.old }
+        requires kept { IsSoundJudge problem.now self.old }
         requires few { size_of self.old + length piece.now < 2 ^ 63 }
-        ensures kept { OnOk result (IsKept problem.now self.new) }
+        ensures kept { OnOk result (IsSoundJudge problem.now self.new) }
         ensures size { OnOk result (size_of self.new ≤ size_of self.old + length piece.now) }
         ensures later { OnOk result ((rest : List ℕ)
             → later_by problem.now (judging self.new) rest ≡ later_by problem.now (judging self.old) (piece.now ++ rest)) }
@@ -185,7 +185,7 @@ impl Judge {
 
     /// Judges the last line, where it has bytes and no line feed.
     fn end_text(&mut self, problem: &Problem) -> Result<(), AllocError>
-        requires kept { IsKept problem.now self.old }
+        requires kept { IsSoundJudge problem.now self.old }
         requires few { size_of self.old < 2 ^ 63 }
         ensures sound { OnOk result (IsSound problem.now self.new.said) }
         ensures end { OnOk result (behind problem.now (so_far self.new.said) [] ≡ later_by problem.now (judging self.old) []) }
@@ -203,9 +203,9 @@ impl Judge {
 
     /// The verdict where no bytes follow.
     pub(crate) fn finish(mut self, problem: &Problem) -> Result<Verdict, AllocError>
-        requires kept { IsKept problem.now self }
+        requires kept { IsSoundJudge problem.now self }
         requires few { size_of self < 2 ^ 63 }
-        ensures { IfOk result (IsOutcome problem.now (later_by problem.now (judging self) [])) }
+        ensures { IfOk result (IsVerdictOf problem.now (later_by problem.now (judging self) [])) }
     {
         self.end_text(problem)?;
         self.said.verdict(self.alloc, problem)
@@ -213,9 +213,9 @@ impl Judge {
 
     /// Ends the text and says the verdict, with the values that a model gives to the variables, in their order.
     fn end_with_values(&mut self, problem: &Problem) -> Result<(Verdict, Vec<bool>), AllocError>
-        requires kept { IsKept problem.now self.old }
+        requires kept { IsSoundJudge problem.now self.old }
         requires few { size_of self.old < 2 ^ 63 }
-        ensures verdict { IfOk result (λ found. IsOutcome problem.now (later_by problem.now (judging self.old) []) found.0) }
+        ensures verdict { IfOk result (λ found. IsVerdictOf problem.now (later_by problem.now (judging self.old) []) found.0) }
         ensures values { IfOk result (λ found. found.0 ≡ Verdict.Model
             → (end : Option ℕ) × (last : ℕ) × (later_by problem.now (judging self.old) [] ≡ ended_outcome problem.now end last found.1.items)) }
     {

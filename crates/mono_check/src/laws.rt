@@ -1,19 +1,31 @@
-//! What verdicts show.
+//! What verdicts show, and what searches of graphs show of predicates.
 
-ghost use Rattle.std.specs.Prelude.{◌≡◌, ◌↔◌, ◌<◌, ◌^◌, ℕ, Bool, List, IsTrue, length};
+ghost use Rattle.std.specs.Prelude.{◌≡◌, ◌↔◌, ◌<◌, ◌^◌, ℕ, ℤ, Bool, List, IsTrue, length, not};
 ghost use Rattle.mono_base.specs.Literal.{value_in};
+ghost use Rattle.mono_cycles.specs.Found.{IsCycleOrOrder, is_cycle_found};
+ghost use Rattle.mono_cycles.specs.declared.finder.CycleOrOrder.{CycleOrOrder};
+ghost use Rattle.mono_flows.specs.Answers.{Passes as PassesFlow, is_flow_found};
+ghost use Rattle.mono_flows.specs.declared.found.FlowOrCut.{FlowOrCut};
+ghost use Rattle.mono_graph.specs.Digraph.{Digraph, HasEnds};
+ghost use Rattle.mono_graph.specs.declared.limit.Limit.TheVariants as limit;
+ghost use Rattle.mono_paths.specs.Found.{HasBound, IsPathOrCut, IsPathOrLabels, is_light_found, is_path_found};
+ghost use Rattle.mono_paths.specs.declared.find.PathOrCut.{PathOrCut};
+ghost use Rattle.mono_paths.specs.declared.find.PathOrLabels.{PathOrLabels};
+ghost use Rattle.mono_problem.specs.declared.atom.Predicate.TheVariants as predicate;
 ghost use Rattle.mono_problem.specs.Instance.{Instance};
 ghost use Rattle.mono_problem.specs.WellFormed.{IsInstance};
-ghost use Rattle.mono_problem.specs.Holds.{HasNoModel, Satisfies};
+ghost use Rattle.mono_problem.specs.Holds.{HasNoModel, Holds, Satisfies};
 ghost use Rattle.mono_steps.specs.Steps.{are_justified, is_refutation};
 ghost use Rattle.mono_steps.specs.declared.step.Step.{Step};
+ghost use Rattle.mono_trees.specs.Found.{Passes as PassesTree, is_tree_found};
+ghost use Rattle.mono_trees.specs.declared.finder.TreeFound.{TreeFound};
 ghost use Rattle.mono_answer.specs.declared.kind.Kind.TheVariants as kind;
 ghost use Rattle.mono_answer.specs.declared.answer.Answer.{Answer};
 ghost use Rattle.mono_answer.specs.declared.version.Version.{Version};
 ghost use Rattle.mono_answer.specs.declared.version.Version.TheVariants as version;
 ghost use Rattle.mono_answer.specs.Versions.{answer_names_earlier};
 ghost use Rattle.mono_answer.specs.Printed.{answer_text_as};
-ghost use Rattle.mono_check.specs.Answers.{HasModel, HasSteps};
+ghost use Rattle.mono_check.specs.Answers.{SaysModel, HasSteps};
 ghost use Rattle.mono_check.specs.Migrations.{FitsMemory, MigratesTo, StandsFor, one_line_later};
 ghost use Rattle.mono_steps.specs.Journals.{chain_count};
 ghost use Rattle.mono_check.specs.Verdicts.{IsVerdict};
@@ -40,7 +52,7 @@ pub fn accepted_progress()
 
 /// The verdict is a model exactly where the text gives values to the variables, and they satisfy the problem.
 pub fn accepted_models()
-    ensures { (p : Instance) (text : List ℕ) → IsVerdict p text verdict.Model ↔ ((a : List Bool) × HasModel p text a × Satisfies p (value_in a)) }
+    ensures { (p : Instance) (text : List ℕ) → IsVerdict p text verdict.Model ↔ ((a : List Bool) × SaysModel p text a × Satisfies p (value_in a)) }
 {}
 
 /// Where a model is accepted, some assignment satisfies the problem.
@@ -82,4 +94,21 @@ pub fn migrated_there_and_back()
         → MigratesTo p text version.Two there → MigratesTo p there version.One back → back ≡ text }
     ensures comes_back { (p : Instance) (text there : List ℕ) → IsInstance p → length text < 2 ^ 63 → MigratesTo p text version.One text
         → MigratesTo p text version.Two there → MigratesTo p there version.One text }
+{}
+
+/// What a search of a graph finds decides the predicate: it is a walk, a flow or a tree exactly where the predicate holds, and an
+/// order exactly where no cycle is there.
+pub fn what_is_found_decides_predicates()
+    ensures reach { (g : Digraph) (P : List Bool) (u v : ℕ) (found : PathOrCut) → IsPathOrCut g P u v found
+        → IsTrue (is_path_found found) ↔ Holds g P (predicate.Reach u v) }
+    ensures steps { (g : Digraph) (P : List Bool) (u v : ℕ) (most : ℤ) (found : PathOrLabels) → HasBound (limit.Steps most)
+        → IsPathOrLabels g P u v (limit.Steps most) found → IsTrue (is_light_found found) ↔ Holds g P (predicate.Steps u v most) }
+    ensures distance { (g : Digraph) (P : List Bool) (u v : ℕ) (most : ℤ) (found : PathOrLabels) → HasBound (limit.Weight most)
+        → IsPathOrLabels g P u v (limit.Weight most) found → IsTrue (is_light_found found) ↔ Holds g P (predicate.Distance u v most) }
+    ensures flow { (g : Digraph) (P : List Bool) (s t : ℕ) (least : ℤ) (found : FlowOrCut) → HasEnds g → s < g.nodes
+        → PassesFlow g P s t least found → IsTrue (is_flow_found found) ↔ Holds g P (predicate.Flow s t least) }
+    ensures tree { (g : Digraph) (P : List Bool) (most : ℤ) (found : TreeFound) → PassesTree g P most found
+        → IsTrue (is_tree_found found) ↔ Holds g P (predicate.Tree most) }
+    ensures acyclic { (g : Digraph) (P : List Bool) (found : CycleOrOrder) → IsCycleOrOrder g P found
+        → IsTrue (not (is_cycle_found found)) ↔ Holds g P predicate.Acyclic }
 {}

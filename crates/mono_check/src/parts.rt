@@ -90,7 +90,7 @@ impl EnabledParts {
         if questions.len() < 2 {
             return Ok(());
         }
-        let _ = problem.vars();
+        problem.known();
         let first = questions[0];
         let graph = problem.graph(first.graph);
         let targets = targets_of(alloc, questions)?;
@@ -121,7 +121,7 @@ impl EnabledParts {
         if let Some(holds) = known {
             return Ok(holds);
         }
-        let _ = problem.vars();
+        problem.known();
         let mut part = self.take(alloc, problem, model, atom.graph)?;
         let holds = part.holds(alloc, problem.graph(atom.graph), atom.predicate)?;
         self.put(part);
@@ -145,7 +145,7 @@ impl EnabledParts {
         ensures right { IfOk result (IsJudged problem.now (value_in model.now) (atom_numbered problem.now number)) }
         ensures parts { OnOk result (AreEnabled problem.now (value_in model.now) self.new.parts.items) }
     {
-        let _ = problem.vars();
+        problem.known();
         let atom = problem.atom(number);
         let holds = self.truth(alloc, problem, model, atom, known)?;
         if value_of(model, atom.var) {

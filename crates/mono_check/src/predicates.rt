@@ -79,7 +79,7 @@ pub(crate) fn carries(
     ensures holds { IfOk result (λ yes. IsTrue yes ↔ Holds graph.now part.now (Predicate.Flow source sink least)) }
     ensures finder { finder.new ≡ finder.old }
 {
-    let _ = graph.nodes();
+    graph.known();
     match finder.find_flow(alloc, graph, part, source, sink, least)? {
         FlowOrCut::Flow(_) => Ok(true),
         FlowOrCut::Cut(_) => Ok(false),

@@ -50,7 +50,7 @@ fn add_question(
     ensures { IfOk result (λ _. All (IsQuestion problem.now) questions.old.items → All (IsQuestion problem.now) questions.new.items) }
 {
     // Each predicate is over its graph.
-    let _ = problem.vars();
+    problem.known();
     if let Some(question) = question_of(problem.atom(place + 1), place) {
         questions.push(question)?;
     }

@@ -7,7 +7,7 @@ ghost use Rattle.mono_answer.specs.declared.item.Item.TheVariants as says;
 ghost use Rattle.mono_answer.specs.Versions.{items_by};
 ghost use Rattle.mono_check.specs.Judges.{IsBegun, IsSound, is_nothing, so_far};
 ghost use Rattle.mono_check.specs.SoFar.{behind, behind_items};
-ghost use Rattle.mono_check.specs.Verdicts.{IsOutcome, ended_outcome, steps_outcome, items_outcome};
+ghost use Rattle.mono_check.specs.Verdicts.{IsVerdictOf, ended_outcome, steps_outcome, items_outcome};
 ghost use Rattle.mono_check.specs.declared.verdict.Verdict.TheVariants as verdict;
 
 use crate::step_lines::StepLines;
@@ -23,23 +23,23 @@ pub(crate) enum Said {
     /// There was no such line.
     Nothing,
     /// The version line of version 2, by its number.
-    Version {
+    OfVersion {
         line: u64,
     },
     /// The status line of a model, by its number, and values.
-    Values {
+    OfModel {
         status: u64,
         values: Values,
     },
     /// The version, the status line of steps, which says whether they are to be a refutation, and steps.
-    Steps {
+    OfSteps {
         version: Version,
         refutes: bool,
         status: u64,
         steps: StepLines,
     },
     /// The first line at fault. No line behind it changes the verdict.
-    Fault {
+    AtFault {
         line: u64,
         reason: Reason,
     },
@@ -59,7 +59,7 @@ fn begin_steps(
         ≡ steps_outcome problem.now refutes number (items_by version (length problem.now.clauses + 1) ls)) }
     ensures begun { IfOk result IsBegun }
 {
-    Ok(Said::Steps {
+    Ok(Said::OfSteps {
         version,
         refutes,
         status: number,
@@ -82,7 +82,7 @@ fn begin(
     ensures begun { IfOk result IsBegun }
 {
     match kind {
-        Kind::Model => Ok(Said::Values {
+        Kind::Model => Ok(Said::OfModel {
             status: number,
             values: Values::new(alloc, problem)?,
         }),
@@ -107,7 +107,7 @@ fn first_line(
 {
     match item {
         Some(Item::Status(kind)) => begin(alloc, problem, version, number, kind),
-        _ => Ok(Said::Fault {
+        _ => Ok(Said::AtFault {
             line: number,
             reason: Reason::NotAnswer,
         }),
@@ -121,7 +121,7 @@ impl Said {
             → behind p (so_far self.now) ls ≡ behind p (so_far self.now) ks }
     {
         match self {
-            Said::Fault { line: _, reason: _ } => true,
+            Said::AtFault { line: _, reason: _ } => true,
             _ => false,
         }
     }
@@ -157,21 +157,21 @@ impl Said {
                 *self = first_line(alloc, problem, Version::One, number, item)?;
                 return Ok(());
             }
-            Said::Version { line: _ } => {
+            Said::OfVersion { line: _ } => {
                 *self = first_line(alloc, problem, Version::Two, number, item)?;
                 return Ok(());
             }
-            Said::Values { status: _, values } => values.add(reader, problem, number, item),
-            Said::Steps {
+            Said::OfModel { status: _, values } => values.add(reader, problem, number, item),
+            Said::OfSteps {
                 version,
                 refutes: _,
                 status: _,
                 steps,
             } => steps.add(reader, problem, *version, number, item)?,
-            Said::Fault { line: _, reason: _ } => return Ok(()),
+            Said::AtFault { line: _, reason: _ } => return Ok(()),
         };
         if let Some(reason) = fault {
-            *self = Said::Fault {
+            *self = Said::AtFault {
                 line: number,
                 reason,
             };
@@ -182,25 +182,25 @@ impl Said {
     /// The verdict where no line follows.
     pub(crate) fn verdict(&self, alloc: Global, problem: &Problem) -> Result<Verdict, AllocError>
         requires { IsSound problem.now self.now }
-        ensures { IfOk result (IsOutcome problem.now (behind problem.now (so_far self.now) [])) }
+        ensures { IfOk result (IsVerdictOf problem.now (behind problem.now (so_far self.now) [])) }
     {
         match self {
             Said::Nothing => Ok(Verdict::Rejected {
                 line: 1,
                 reason: Reason::NotAnswer,
             }),
-            Said::Version { line } => Ok(Verdict::Rejected {
+            Said::OfVersion { line } => Ok(Verdict::Rejected {
                 line: *line,
                 reason: Reason::NotAnswer,
             }),
-            Said::Values { status, values } => values.verdict(alloc, problem, *status),
-            Said::Steps {
+            Said::OfModel { status, values } => values.verdict(alloc, problem, *status),
+            Said::OfSteps {
                 version: _,
                 refutes,
                 status,
                 steps,
             } => Ok(steps.verdict(*refutes, *status)),
-            Said::Fault { line, reason } => Ok(Verdict::Rejected {
+            Said::AtFault { line, reason } => Ok(Verdict::Rejected {
                 line: *line,
                 reason: *reason,
             }),
@@ -210,11 +210,11 @@ impl Said {
     /// The values that a model's lines give to the variables, in their order; none where they are no model's.
     pub(crate) fn values(&self, alloc: Global, problem: &Problem) -> Result<Vec<bool>, AllocError>
         requires { IsSound problem.now self.now }
-        ensures { IfOk result (λ values. IsOutcome problem.now (behind problem.now (so_far self.now) []) verdict.Model
+        ensures { IfOk result (λ values. IsVerdictOf problem.now (behind problem.now (so_far self.now) []) verdict.Model
             → (end : Option ℕ) × (last : ℕ) × (behind problem.now (so_far self.now) [] ≡ ended_outcome problem.now end last values.items)) }
     {
         match self {
-            Said::Values { status: _, values } => values.model(alloc, problem),
+            Said::OfModel { status: _, values } => values.model(alloc, problem),
             _ => Ok(Vec::new(alloc)),
         }
     }

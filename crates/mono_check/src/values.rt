@@ -12,7 +12,7 @@ ghost use Rattle.mono_answer.specs.declared.item.Item.TheVariants as says;
 ghost use Rattle.mono_check.specs.Values.{are_values, literals_among, has_end, goes_on, is_end, passes_end, value_fault, model_of};
 ghost use Rattle.mono_check.specs.Seen.{AreMembers, AreValuesKept, AreValuesAfter, fits, is_new, model_kept};
 ghost use Rattle.mono_check.specs.SoFar.{model_behind, model_more, no_values};
-ghost use Rattle.mono_check.specs.Verdicts.{IsOutcome, ended_outcome};
+ghost use Rattle.mono_check.specs.Verdicts.{IsVerdictOf, ended_outcome};
 
 use crate::atoms::first_wrong_atom;
 use crate::{Reason, Verdict};
@@ -78,7 +78,7 @@ fn add_number(set: &mut LitSet, problem: &Problem, number: i32) -> bool
     if number == 0 {
         return true;
     }
-    let _ = problem.vars();
+    problem.known();
     let Some(lit) = Lit::new(number) else {
         return false;
     };
@@ -205,7 +205,7 @@ impl Values {
         status: u64,
     ) -> Result<Verdict, AllocError>
         requires { self.now.set.vars ≡ problem.now.vars }
-        ensures { IfOk result (IsOutcome problem.now
+        ensures { IfOk result (IsVerdictOf problem.now
             (ended_outcome problem.now self.now.end (unwrap_or self.now.last status) (model_of problem.now self.now.set.members))) }
     {
         let Some(line) = self.end else {

@@ -1,9 +1,9 @@
 -- The pool of chunks: a place is taken on top of a stack, or given up.
 use Rattle.std.proofs.Common.{◌≡◌, ◌≢◌, ℕ, suc, ◌+◌, ◌-◌, ◌*◌, ◌/◌, ◌%◌, ◌<◌, ◌≤◌, Bool, true, false, List, [], ◌∷◌, ◌++◌, length, get_or, set, arith, refl, sym, ◌∙◌, ap, subst, cond, eqb, eq-eqb, length-append, get_or-set_other, get_or-set_same, ◌⊎◌, inl, inr}
 use Rattle.std.proofs.lemmas.List.{length-set}
-use Rattle.mono_clauses.proofs.ChunkStacks.{one_same, one_other, tells, below_bottom, below_inner, stack_set, stack_append, stack_bottoms, stack_above, sum_set, sum_at, sum_less, sum_bottoms, times-append}
+use Rattle.mono_clauses.proofs.ChunkStacks.{one_same, one_other, tells, below_bottom, below_inner, stack_set, stack_append, stack_bottoms, stack_above, sum_set, sum_at, sum_less, sum_bottoms, sum_bottoms_most, times-append}
 use Rattle.mono_clauses.specs.Lists.{times, list_at}
-use Rattle.mono_clauses.specs.Stacks.{below, IsStack, sum_of, bottoms, IsPool, Higher, Fresh, Climbed, freed, one}
+use Rattle.mono_clauses.specs.Stacks.{below, IsStack, sum_of, bottoms, HasRoom, IsPool, Higher, Fresh, Climbed, freed, one}
 
 -- the top place of a stack
 pub top_within : (links : List ℕ) (h : ℕ) (xs : List ℕ) → IsStack links h xs → h % 8 ≢ 7 → h < 8 * length links
@@ -211,10 +211,22 @@ pool_remove slots links free_chunks heads lists c x xs i lt e =
     by_test_chunks (inr n) = let f = one_other (x % 8) 0 n in omega (arith, sums bottoms, f, i.chunks, ap (λ (ys : List ℕ). length ys) (not_free n))
 
 -- there is a spare chunk while there is room for a watcher more
-pub some_free : (slots : ℕ) (links free_chunks heads : List ℕ) (lists : List (List ℕ)) → IsPool slots links free_chunks heads lists → sum_of length lists + 7 * slots < 8 * length links → 0 < length free_chunks
-some_free slots links free_chunks heads lists i lt =
-    let b = sum_bottoms lists (λ k lk. let q = stack_bottoms links (get_or heads k 4294967295) (list_at lists k) (i.stacks k (omega (arith, lk, i.as_many))) in omega (arith, q)) in
-    omega (arith, b, lt, i.chunks, i.as_many)
+pub some_free : (slots : ℕ) (links free_chunks heads : List ℕ) (lists : List (List ℕ)) (watchers : ℕ) → IsPool slots links free_chunks heads lists → sum_of length lists < watchers → HasRoom watchers slots (length links) → 0 < length free_chunks
+some_free slots links free_chunks heads lists watchers i fewer room = by_case room
+  where
+    by_case : (watchers ≤ length links) ⊎ (watchers + 7 * slots ≤ 8 * length links) → 0 < length free_chunks
+    by_case (inl each) = omega (arith, sum_bottoms_most lists, fewer, each, i.chunks)
+    by_case (inr cells) =
+        let b = sum_bottoms lists (λ k lk. let q = stack_bottoms links (get_or heads k 4294967295) (list_at lists k) (i.stacks k (omega (arith, lk, i.as_many))) in omega (arith, q)) in
+        omega (arith, b, fewer, cells, i.chunks, i.as_many)
+
+-- fewer watchers find room, and more chunks have it
+pub room_more : (watchers fewer slots chunks more : ℕ) → fewer ≤ watchers → chunks ≤ more → HasRoom watchers slots chunks → HasRoom fewer slots more
+room_more watchers fewer slots chunks more w c room = by_case room
+  where
+    by_case : (watchers ≤ chunks) ⊎ (watchers + 7 * slots ≤ 8 * chunks) → (fewer ≤ more) ⊎ (fewer + 7 * slots ≤ 8 * more)
+    by_case (inl each) = inl (omega (arith, each, w, c))
+    by_case (inr cells) = inr (omega (arith, cells, w, c))
 
 -- a chunk more
 pub pool_more : (slots : ℕ) (links free_chunks heads : List ℕ) (lists : List (List ℕ)) (v : ℕ) → IsPool slots links free_chunks heads lists → 8 * (length links + 1) ≤ 4294967295 → IsPool slots (links ++ v ∷ []) (free_chunks ++ (8 * length links) ∷ []) heads lists

@@ -131,6 +131,19 @@ pub sum_bottoms : (ls : List (List ℕ)) → ((k : ℕ) → k < length ls → 8 
 sum_bottoms [] h = omega arith
 sum_bottoms (xs ∷ ls) h = omega (arith, h 0 (omega arith), sum_bottoms ls (λ k lt. h (suc k) (omega (arith, lt))))
 
+-- a stack has no more chunks than watchers
+one_most : (b : Bool) → one b ≤ 1
+one_most true = omega arith
+one_most false = omega arith
+
+bottoms_most : (xs : List ℕ) → bottoms xs ≤ length xs
+bottoms_most [] = omega arith
+bottoms_most (x ∷ xs) = omega (arith, one_most (eqb (x % 8) 0), bottoms_most xs)
+
+pub sum_bottoms_most : (ls : List (List ℕ)) → sum_of bottoms ls ≤ sum_of length ls
+sum_bottoms_most [] = omega arith
+sum_bottoms_most (xs ∷ ls) = omega (arith, bottoms_most xs, sum_bottoms_most ls)
+
 pub times-append : (k : ℕ) (xs ys : List ℕ) → times k (xs ++ ys) ≡ times k xs + times k ys
 times-append k [] ys = omega arith
 times-append k (x ∷ xs) ys = omega (arith, times-append k xs ys)

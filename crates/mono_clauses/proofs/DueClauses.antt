@@ -7,12 +7,12 @@ use Rattle.std.proofs.Math.Seq.{get_or-append_seam}
 use Rattle.mono_base.specs.Partial.{value_by}
 use Rattle.mono_base.specs.declared.value.Value.TheVariants.{Yes}
 use Rattle.mono_clauses.proofs.Growth.{Grows-then, HasTrue-grows, Grows-vars}
-use Rattle.mono_clauses.proofs.Literals.{stands_yes, false_clause}
+use Rattle.mono_clauses.proofs.Literals.{IsUnit, stands_yes, false_clause}
 use Rattle.mono_clauses.proofs.OneWatcher.{unit_of}
 use Rattle.mono_clauses.proofs.Times.{times_same, times_other}
 use Rattle.mono_clauses.proofs.AllWatchers.{NoneBefore-same, NoneBefore-then}
 use Rattle.mono_clauses.proofs.WatchGuards.{other_even, other_odd, other_other, half_even, half_odd, unfalse_guards, implied_guarded}
-use Rattle.mono_clauses.specs.ClauseValues.{HasTrue, IsUnfalse, IsAnotherUnfalse, IsUnit, AllFalse}
+use Rattle.mono_clauses.specs.ClauseValues.{HasTrue, IsUnfalse, IsAnotherUnfalse, AllFalse}
 use Rattle.mono_clauses.specs.Lists.{Stands, times}
 use Rattle.mono_clauses.specs.Propagation.{Grows, same, implies}
 use Rattle.mono_clauses.specs.Store.{Held, clause_at, watch_at, other, IsTrueBy, Guards}

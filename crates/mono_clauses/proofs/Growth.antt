@@ -5,8 +5,8 @@ use Rattle.mono_base.specs.Partial.{value_by}
 use Rattle.mono_base.specs.declared.value.Value.{Value}
 use Rattle.mono_base.specs.declared.value.Value.TheVariants.{Yes, No, Unset}
 use Rattle.mono_trail.specs.TrailView.{TrailView}
-use Rattle.mono_clauses.proofs.Literals.{yes_stays}
-use Rattle.mono_clauses.specs.ClauseValues.{HasTrue, IsQuiet}
+use Rattle.mono_clauses.proofs.Literals.{IsQuiet, yes_stays}
+use Rattle.mono_clauses.specs.ClauseValues.{HasTrue}
 use Rattle.mono_clauses.specs.Lists.{Stands}
 use Rattle.mono_clauses.specs.Propagation.{Grows, same, implies, gives}
 use Rattle.mono_clauses.specs.Store.{Held}

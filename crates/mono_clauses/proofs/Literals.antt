@@ -8,10 +8,29 @@ use Rattle.std.proofs.lemmas.Bool.Decides.{Decides-int_eq}
 use Rattle.std.proofs.lemmas.List.Folds.{list_any-append}
 use Rattle.mono_base.specs.Literal.{has_lit}
 use Rattle.mono_base.specs.Partial.{is_partial, is_true_in, is_false_in, is_open_in, is_false_clause, others_false, has_two, is_quiet, value_by}
-use Rattle.mono_base.specs.declared.value.Value.TheVariants.{Yes, No}
+use Rattle.mono_base.specs.declared.value.Value.TheVariants.{Yes, No, Unset}
 use Rattle.mono_base.proofs.Partials.{true_from_yes, false_from_no, open_from_unset, yes_from_true, no_from_false}
-use Rattle.mono_clauses.specs.ClauseValues.{IsQuiet, AllFalse, FalseBut}
+use Rattle.mono_clauses.specs.ClauseValues.{HasTrue, AllFalse, FalseBut}
 use Rattle.mono_clauses.specs.Lists.{Stands}
+
+-- two different literals of the clause are open
+pub record HasTwoOpen (t c : List ℤ) : Type 0 where
+  pub one : ℤ
+  pub two : ℤ
+  pub has_one : Stands c one
+  pub has_two : Stands c two
+  pub one_open : value_by t one ≡ Unset
+  pub two_open : value_by t two ≡ Unset
+  pub differ : one ≢ two
+
+pub record IsQuiet (t c : List ℤ) : Type 0 where
+  pub why : HasTrue t c ⊎ HasTwoOpen t c
+
+-- x is the one open literal of the clause, and the others are false
+pub record IsUnit (t c : List ℤ) (x : ℤ) : Type 0 where
+  pub has : Stands c x
+  pub is_open : value_by t x ≡ Unset
+  pub others : FalseBut t c x
 
 -- ---- standing in a list
 

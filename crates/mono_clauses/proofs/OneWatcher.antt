@@ -9,10 +9,10 @@ use Rattle.mono_base.specs.Partial.{value_by}
 use Rattle.mono_base.specs.declared.value.Value.{Value}
 use Rattle.mono_base.specs.declared.value.Value.TheVariants.{Yes, No}
 use Rattle.mono_base.proofs.Partials.{neg-neg, open_from_unset}
-use Rattle.mono_clauses.proofs.Literals.{stands_yes, stands_no, stands_has, no_stays, int_tells, false_clause, others_are_false}
+use Rattle.mono_clauses.proofs.Literals.{IsUnit, stands_yes, stands_no, stands_has, no_stays, int_tells, false_clause, others_are_false}
 use Rattle.mono_clauses.proofs.Times.{times_same, times_other}
 use Rattle.mono_clauses.proofs.WatchGuards.{other_half, keep_guarded, implied_guarded, move_guarded, move_paired, move_none, guards_gave, guards_passed}
-use Rattle.mono_clauses.specs.ClauseValues.{AllFalse, FalseBut, IsUnit, IsAnotherUnfalse, AllVars}
+use Rattle.mono_clauses.specs.ClauseValues.{AllFalse, FalseBut, IsAnotherUnfalse, AllVars}
 use Rattle.mono_clauses.specs.Lists.{Stands, times, first_of}
 use Rattle.mono_clauses.specs.Propagation.{IsUnitOf, same, implies}
 use Rattle.mono_clauses.specs.Store.{Held, clause_at, watch_at, other, Guards}

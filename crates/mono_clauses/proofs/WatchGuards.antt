@@ -10,9 +10,8 @@ use Rattle.mono_base.specs.declared.value.Value.TheVariants.{Yes, No, Unset}
 use Rattle.mono_clauses.proofs.Growth.{quiet_by_two, quiet_by_true}
 use Rattle.mono_clauses.proofs.FollowsKept.{guards_joined, true_joined}
 use Rattle.mono_trail.proofs.Levels.{at_most}
-use Rattle.mono_clauses.proofs.Literals.{no_stands, stands_yes, stands_no, int_tells}
+use Rattle.mono_clauses.proofs.Literals.{IsQuiet, no_stands, stands_yes, stands_no, int_tells}
 use Rattle.mono_clauses.proofs.Times.{times_other}
-use Rattle.mono_clauses.specs.ClauseValues.{IsQuiet}
 use Rattle.mono_clauses.specs.Lists.{Stands, times}
 use Rattle.mono_clauses.specs.Store.{Held, clause_at, watch_at, other, IsTrueBy, Guards}
 use Rattle.mono_clauses.specs.Visits.{Guarded, Pair, Paired, NoneBefore}

@@ -4,12 +4,12 @@ use Rattle.std.specs.Prelude.{ℤ, Option, Some, None, replicate}
 use Rattle.std.proofs.lemmas.Bool.Decides.{eqb_tells}
 use Rattle.std.proofs.lemmas.List.{length-set, get_or_append_left, append_assoc, length-replicate, length-map, map-append, map-set}
 use Rattle.mono_base.specs.Literal.{slot}
-use Rattle.mono_clauses.proofs.ChunkPool.{free_place, absent_at, pool_put, pool_remove, some_free, pool_more}
+use Rattle.mono_clauses.proofs.ChunkPool.{free_place, absent_at, pool_put, pool_remove, some_free, pool_more, room_more}
 use Rattle.mono_clauses.proofs.ChunkStacks.{one_same, one_other, tells, stack_set, sum_set, sum_at, sum_two, times-append, watchers_absent, watchers_swap, at_watchers, all_absent}
 use Rattle.mono_clauses.proofs.Times.{times_same, none_more, joins_other}
 use Rattle.mono_base.proofs.Sparse.{slot_injective}
 use Rattle.mono_clauses.specs.Lists.{times, list_at, IsFree}
-use Rattle.mono_clauses.specs.Stacks.{below, IsStack, watcher_at, watchers_at, all_watchers, sum_of, bottoms, one, busy, IsPool, IsThere, IsBeingVisited, IsChunked, IsLoose, Higher, Fresh, Climbed, Put, Removed}
+use Rattle.mono_clauses.specs.Stacks.{below, IsStack, watcher_at, watchers_at, all_watchers, sum_of, bottoms, one, busy, HasRoom, IsPool, IsThere, IsBeingVisited, IsChunked, IsLoose, Higher, Fresh, Climbed, Put, Removed}
 use Rattle.mono_clauses.specs.Store.{watch_at}
 use Rattle.mono_clauses.specs.Watching.{is_watching}
 
@@ -126,7 +126,7 @@ loose_joins {vars = vars} {links = links} {cells = cells} {free_chunks = free_ch
       lists = set lists c (q.place ∷ list_at lists c);
       pool = subst (λ (hs : List ℕ). IsPool (2 * vars + 2) links' free_chunks' hs (set lists c (q.place ∷ list_at lists c))) (sym q.headed) (pool_put (2 * vars + 2) links free_chunks heads lists c links' free_chunks' q.place i.pool lt q.climbed);
       size = omega (arith, ap (λ (ys : List ℕ). length ys) q.written, length-set cells q.place w, i.size, len);
-      room = omega (arith, length-set watched w (Some l), i.room, len);
+      room = room_more (length watched) (length (set watched w (Some l))) (2 * vars + 2) (length links) (length links') (omega (arith, length-set watched w (Some l))) (omega (arith, len)) i.room;
       entries = (let s = sum_set length lists c (q.place ∷ list_at lists c) (omega (arith, lt, i.pool.as_many)) in omega (arith, s, i.entries l));
       there = λ v. subst (λ (ls : List (List ℕ)). IsThere (watch_at (set watched w (Some l)) v) ls v) (sym watchers)
           (there_joins watched (all_watchers cells lists) c w l i.free i.there e (omega (arith, lt, i.pool.as_many, length-map lists (watchers_at cells))) i.within v);
@@ -135,7 +135,7 @@ loose_joins {vars = vars} {links = links} {cells = cells} {free_chunks = free_ch
 
 pub loose_free : {vars : ℕ} {links cells free_chunks heads : List ℕ} {watched : List (Option ℤ)} {w : ℕ} {lists : List (List ℕ)} (l : ℤ) → IsLoose vars links cells free_chunks heads watched w lists → 0 < length free_chunks
 loose_free {vars = vars} {links = links} {free_chunks = free_chunks} {heads = heads} {watched = watched} {w = w} {lists = lists} l i =
-    some_free (2 * vars + 2) links free_chunks heads lists i.pool (omega (arith, i.entries l, busy_le (set watched w (Some l)), length-set watched w (Some l), i.room))
+    some_free (2 * vars + 2) links free_chunks heads lists (length watched) i.pool (omega (arith, i.entries l, busy_le (set watched w (Some l)), length-set watched w (Some l))) i.room
 
 -- a watcher that watches nothing is loose
 pub loose_idle : {vars : ℕ} {links cells free_chunks heads : List ℕ} {watched : List (Option ℤ)} {list : ℕ} {ahead : List ℕ} (w : ℕ) → (i : IsChunked vars links cells free_chunks heads watched list ahead) → watch_at watched w ≡ None → w < length watched → IsLoose vars links cells free_chunks heads watched w i.lists
@@ -368,12 +368,12 @@ chunk_shift {vars = vars} {links = links} {cells = cells} {free_chunks = free_ch
         omega (arith, all, times-append q.place f.first.1.kept_now rest)
 
 -- two watchers more
-pub chunk_grow : {vars : ℕ} {links cells free_chunks heads : List ℕ} {watched : List (Option ℤ)} {list : ℕ} {ahead : List ℕ} → IsChunked vars links cells free_chunks heads watched list ahead → length watched + 2 + 7 * (2 * vars + 2) ≤ 8 * length links → IsChunked vars links cells free_chunks heads ((watched ++ None ∷ []) ++ None ∷ []) list ahead
-chunk_grow {cells = cells} {watched = watched} i room = record {
+pub chunk_grow : {vars : ℕ} {links cells free_chunks heads : List ℕ} {watched : List (Option ℤ)} {list : ℕ} {ahead : List ℕ} → IsChunked vars links cells free_chunks heads watched list ahead → HasRoom (length watched + 2) (2 * vars + 2) (length links) → IsChunked vars links cells free_chunks heads ((watched ++ None ∷ []) ++ None ∷ []) list ahead
+chunk_grow {vars = vars} {links = links} {cells = cells} {watched = watched} i room = record {
   lists = i.lists;
   pool = i.pool;
   size = i.size;
-  room = omega (arith, room, length-append (watched ++ None ∷ []) (None ∷ []), length-append watched (None ∷ []));
+  room = room_more (length watched + 2) (length ((watched ++ None ∷ []) ++ None ∷ [])) (2 * vars + 2) (length links) (length links) (omega (arith, length-append (watched ++ None ∷ []) (None ∷ []), length-append watched (None ∷ []))) (omega arith) room;
   entries = i.entries ∙ sym (busy_more (watched ++ None ∷ []) ∙ busy_more watched);
   there = λ w. subst (λ (o : Option ℤ). IsThere o (all_watchers cells i.lists) w) (sym (none_more (watched ++ None ∷ []) w ∙ none_more watched w)) (i.there w);
   being_visited = i.being_visited;
@@ -399,7 +399,7 @@ chunk_more {vars = vars} {links = links} {cells = cells} {free_chunks = free_chu
   lists = i.lists;
   pool = pool_more (2 * vars + 2) links free_chunks heads i.lists v i.pool few;
   size = omega (arith, i.size, m, length-append cells more, length-append links (v ∷ []));
-  room = omega (arith, i.room, length-append links (v ∷ []));
+  room = room_more (length watched) (length watched) (2 * vars + 2) (length links) (length (links ++ v ∷ [])) (omega arith) (omega (arith, length-append links (v ∷ []))) i.room;
   entries = i.entries;
   there = λ w. subst (λ (ls : List (List ℕ)). IsThere (watch_at watched w) ls w) (sym (all_append links cells more (λ k. get_or heads k 4294967295) i.lists (λ k lt. i.pool.stacks k (omega (arith, lt, i.pool.as_many))) i.size)) (i.there w);
   being_visited = i.being_visited;
@@ -420,7 +420,7 @@ sum_empty : (f : List ℕ → ℕ) (n : ℕ) → f [] ≡ 0 → sum_of f (replic
 sum_empty f zero z = refl
 sum_empty f (suc n) z = omega (arith, z, sum_empty f n z)
 
-pub pool_none : (n : ℕ) → IsPool n [] [] (replicate n 4294967295) (replicate n [])
+pool_none : (n : ℕ) → IsPool n [] [] (replicate n 4294967295) (replicate n [])
 pool_none n = record {
   few = omega arith;
   many = length-replicate n 4294967295;
@@ -431,14 +431,14 @@ pool_none n = record {
   chunks = omega (arith, sum_empty bottoms n refl);
 }
 
-pub chunk_none : (vars n : ℕ) (links cells free_chunks : List ℕ) → n ≡ 2 * vars + 2 → IsPool n links free_chunks (replicate n 4294967295) (replicate n []) → length cells ≡ 8 * length links → n ≤ length links → IsChunked vars links cells free_chunks (replicate n 4294967295) [] 0 []
-chunk_none vars n links cells free_chunks e p s lt = record {
+pub chunk_none : (vars n : ℕ) → n ≡ 2 * vars + 2 → IsChunked vars [] [] [] (replicate n 4294967295) [] 0 []
+chunk_none vars n e = record {
   lists = replicate n [];
-  pool = subst (λ (m : ℕ). IsPool m links free_chunks (replicate n 4294967295) (replicate n [])) e p;
-  size = s;
-  room = omega (arith, e, lt);
+  pool = subst (λ (m : ℕ). IsPool m [] [] (replicate n 4294967295) (replicate n [])) e (pool_none n);
+  size = omega arith;
+  room = inl (omega arith);
   entries = sum_empty length n refl;
-  there = λ w. record { at = λ k. ap (times w) (at_watchers cells (replicate n []) k) ∙ ap (λ (xs : List ℕ). times w (watchers_at cells xs)) (empty_at n k) };
+  there = λ w. record { at = λ k. ap (times w) (at_watchers [] (replicate n []) k) ∙ ap (λ (xs : List ℕ). times w (watchers_at [] xs)) (empty_at n k) };
   being_visited = λ z. absurd (omega (arith, z));
 }
 

@@ -9,13 +9,13 @@ use Rattle.mono_trail.specs.TrailView.{TrailView, IsSound}
 use Rattle.mono_clauses.proofs.DueClauses.{times_place}
 use Rattle.mono_clauses.proofs.FollowsKept.{below_of}
 use Rattle.mono_clauses.proofs.Growth.{Grows-vars, HasTrue-grows}
-use Rattle.mono_clauses.proofs.Literals.{quiet_clause}
+use Rattle.mono_clauses.proofs.Literals.{IsQuiet, quiet_clause}
 use Rattle.mono_clauses.proofs.OneWatcher.{some_within}
 use Rattle.mono_clauses.proofs.OldAndNew.{old_or_new}
 use Rattle.mono_clauses.proofs.Times.{none_more, times_same, times_other}
 use Rattle.mono_clauses.proofs.WatchGuards.{half_even, other_half, other_other, quiet_watched}
 use Rattle.mono_clauses.specs.ClauseList.{ClausesView, with_clause}
-use Rattle.mono_clauses.specs.ClauseValues.{IsQuiet, HasTrue}
+use Rattle.mono_clauses.specs.ClauseValues.{HasTrue}
 use Rattle.mono_clauses.specs.Lists.{Stands, times}
 use Rattle.mono_clauses.specs.Propagation.{QuietFound, FalseFound}
 use Rattle.mono_clauses.specs.Store.{Held, no_clause, clause_at, lists_of, StoreView, watch_at, other, Guards, Follows}

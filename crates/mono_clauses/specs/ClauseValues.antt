@@ -1,8 +1,8 @@
 -- What a trail's literals say of a clause, place by place.
-use Rattle.std.specs.Prelude.{◌≡◌, ◌≢◌, ℕ, ◌<◌, ℤ, List, length, ◌⊎◌}
+use Rattle.std.specs.Prelude.{◌≡◌, ◌≢◌, ℕ, ◌<◌, ℤ, List, length}
 use Rattle.mono_base.specs.Literal.{IsLitWithin, lit_at}
 use Rattle.mono_base.specs.Partial.{value_by}
-use Rattle.mono_base.specs.declared.value.Value.TheVariants.{Yes, No, Unset}
+use Rattle.mono_base.specs.declared.value.Value.TheVariants.{Yes, No}
 use Rattle.mono_clauses.specs.Lists.{Stands}
 
 -- the literals are over the variables from 1 to `vars`
@@ -14,19 +14,6 @@ pub record HasTrue (t c : List ℤ) : Type 0 where
   pub lit : ℤ
   pub has : Stands c lit
   pub holds : value_by t lit ≡ Yes
-
--- two different literals of the clause are open
-pub record HasTwoOpen (t c : List ℤ) : Type 0 where
-  pub one : ℤ
-  pub two : ℤ
-  pub has_one : Stands c one
-  pub has_two : Stands c two
-  pub one_open : value_by t one ≡ Unset
-  pub two_open : value_by t two ≡ Unset
-  pub differ : one ≢ two
-
-pub record IsQuiet (t c : List ℤ) : Type 0 where
-  pub why : HasTrue t c ⊎ HasTwoOpen t c
 
 -- the clause is false
 pub record AllFalse (t c : List ℤ) : Type 0 where
@@ -46,9 +33,3 @@ pub record IsAnotherUnfalse (t c : List ℤ) (skip x : ℤ) : Type 0 where
   pub has : Stands c x
   pub unfalse : value_by t x ≢ No
   pub other : x ≢ skip
-
--- x is the one open literal of the clause, and the others are false
-pub record IsUnit (t c : List ℤ) (x : ℤ) : Type 0 where
-  pub has : Stands c x
-  pub is_open : value_by t x ≡ Unset
-  pub others : FalseBut t c x

@@ -116,12 +116,16 @@ pub record IsBeingVisited (lists : List (List ℕ)) (list : ℕ) (ahead : List �
   pub kept : List ℕ
   pub split : list_at lists list ≡ kept ++ ahead
 
--- the chunks have room for each watcher, though the top chunk of each stack may lack seven
+-- chunks have room for so many watchers in so many stacks: there is one for each, or a cell for each though the top chunk of each stack lacks seven
+abbrev pub HasRoom : ℕ → ℕ → ℕ → Type 0
+HasRoom watchers slots chunks = (watchers ≤ chunks) ⊎ (watchers + 7 * slots ≤ 8 * chunks)
+
+-- the chunks have room for each watcher
 pub record IsChunked (vars : ℕ) (links cells free_chunks heads : List ℕ) (watched : List (Option ℤ)) (list : ℕ) (ahead : List ℕ) : Type 0 where
   pub lists : List (List ℕ)
   pub pool : IsPool (2 * vars + 2) links free_chunks heads lists
   pub size : length cells ≡ 8 * length links
-  pub room : length watched + 7 * (2 * vars + 2) ≤ 8 * length links
+  pub room : HasRoom (length watched) (2 * vars + 2) (length links)
   pub entries : sum_of length lists ≡ busy watched
   pub there : (w : ℕ) → IsThere (watch_at watched w) (all_watchers cells lists) w
   pub being_visited : 0 < length ahead → IsBeingVisited lists list ahead
@@ -163,26 +167,27 @@ pub record Removed (cells links free_chunks heads : List ℕ) (slot place : ℕ)
 pub record IsLoose (vars : ℕ) (links cells free_chunks heads : List ℕ) (watched : List (Option ℤ)) (w : ℕ) (lists : List (List ℕ)) : Type 0 where
   pub pool : IsPool (2 * vars + 2) links free_chunks heads lists
   pub size : length cells ≡ 8 * length links
-  pub room : length watched + 7 * (2 * vars + 2) ≤ 8 * length links
+  pub room : HasRoom (length watched) (2 * vars + 2) (length links)
   pub within : w < length watched
   pub entries : (l : ℤ) → sum_of length lists + 1 ≡ busy (set watched w (Some l))
   pub free : IsFree (all_watchers cells lists) w
   pub there : (v : ℕ) → v ≢ w → IsThere (watch_at watched v) (all_watchers cells lists) v
 
--- there are as many cells as were asked for
-pub record Enough (cells links free_chunks : List ℕ) (least : ℕ) (cells' links' free_chunks' : List ℕ) : Type 0 where
-  pub many : least ≤ length cells
+-- there are as many chunks, or as many cells, as were asked for
+pub record Enough (cells links free_chunks : List ℕ) (most least : ℕ) (cells' links' free_chunks' : List ℕ) : Type 0 where
+  pub many : (most ≤ length links) ⊎ (least ≤ length cells)
   pub same_cells : cells' ≡ cells
   pub same_links : links' ≡ links
   pub same_free : free_chunks' ≡ free_chunks
 
--- there were fewer, and a free chunk came
-pub record OneMore (cells links free_chunks : List ℕ) (least : ℕ) (cells' links' free_chunks' : List ℕ) : Type 0 where
+-- there were fewer, and two free chunks came
+pub record TwoMore (cells links free_chunks : List ℕ) (most least : ℕ) (cells' links' free_chunks' : List ℕ) : Type 0 where
+  pub few : length links < most
   pub fewer : length cells < least
-  pub more_cells : cells' ≡ cells ++ replicate 8 0
-  pub more_links : links' ≡ links ++ 4294967295 ∷ []
-  pub more_free : free_chunks' ≡ free_chunks ++ (8 * length links) ∷ []
+  pub more_cells : cells' ≡ (cells ++ replicate 8 0) ++ replicate 8 0
+  pub more_links : links' ≡ (links ++ 4294967295 ∷ []) ++ 4294967295 ∷ []
+  pub more_free : free_chunks' ≡ (free_chunks ++ (8 * length links) ∷ []) ++ (8 * length (links ++ 4294967295 ∷ [])) ∷ []
 
--- a chunk more where the cells were fewer than asked for
-pub record Widened (cells links free_chunks : List ℕ) (least : ℕ) (cells' links' free_chunks' : List ℕ) : Type 0 where
-  pub is : Enough cells links free_chunks least cells' links' free_chunks' ⊎ OneMore cells links free_chunks least cells' links' free_chunks'
+-- two chunks more where the chunks and the cells were fewer than asked for
+pub record Widened (cells links free_chunks : List ℕ) (most least : ℕ) (cells' links' free_chunks' : List ℕ) : Type 0 where
+  pub is : Enough cells links free_chunks most least cells' links' free_chunks' ⊎ TwoMore cells links free_chunks most least cells' links' free_chunks'

@@ -7,7 +7,7 @@
 
 ghost use Rattle.std.specs.Prelude.{◌≡◌, ◌≢◌, ℕ, ◌+◌, ◌*◌, ◌%◌, ◌<◌, ◌≤◌, ◌++◌, ◌∷◌, [], length, slice_index_or, replicate, OnOk, vec_len, vec_capacity};
 ghost use Rattle.mono_clauses.specs.Lists.{times};
-ghost use Rattle.mono_clauses.specs.Stacks.{below, Climbed, Put, Removed, Widened, IsPool};
+ghost use Rattle.mono_clauses.specs.Stacks.{below, Climbed, Put, Removed, Widened};
 
 use std::alloc::AllocError;
 
@@ -101,19 +101,19 @@ impl Chunks {
         heads[slot] = place;
     }
 
-    /// Room for a chunk more.
+    /// Room for two chunks more.
     pub fn reserve(&mut self) -> Result<(), AllocError>
         requires { length self.old.free.items ≤ length self.old.links.items }
         ensures cells { self.new.cells.items ≡ self.old.cells.items }
         ensures links { self.new.links.items ≡ self.old.links.items }
         ensures free_chunks { self.new.free.items ≡ self.old.free.items }
-        ensures room { OnOk result ((vec_len self.new.cells + 8 ≤ vec_capacity self.new.cells) × (vec_len self.new.links < vec_capacity self.new.links)
-            × (vec_len self.new.links < vec_capacity self.new.free)) }
+        ensures room { OnOk result ((vec_len self.new.cells + 16 ≤ vec_capacity self.new.cells) × (vec_len self.new.links + 2 ≤ vec_capacity self.new.links)
+            × (vec_len self.new.links + 2 ≤ vec_capacity self.new.free)) }
         ensures capacity { vec_capacity self.old.free ≤ vec_capacity self.new.free }
     {
-        self.cells.reserve(8)?;
-        self.links.reserve(1)?;
-        self.free.reserve(self.links.len() - self.free.len() + 1)?;
+        self.cells.reserve(16)?;
+        self.links.reserve(2)?;
+        self.free.reserve(self.links.len() - self.free.len() + 2)?;
         Ok(())
     }
 
@@ -126,7 +126,8 @@ impl Chunks {
         ensures cells { self.new.cells.items ≡ self.old.cells.items ++ replicate 8 0 }
         ensures links { self.new.links.items ≡ self.old.links.items ++ 4294967295 ∷ [] }
         ensures free_chunks { self.new.free.items ≡ self.old.free.items ++ (8 * length self.old.links.items) ∷ [] }
-        ensures capacity { vec_capacity self.old.free ≤ vec_capacity self.new.free }
+        ensures capacity { (vec_capacity self.old.cells ≤ vec_capacity self.new.cells) × (vec_capacity self.old.links ≤ vec_capacity self.new.links)
+            × (vec_capacity self.old.free ≤ vec_capacity self.new.free) }
     {
         let place = 8 * self.links.len() as u32;
         match self.cells.extend_from_slice(&[0; 8]) {
@@ -137,34 +138,23 @@ impl Chunks {
         self.free.push_reserved(place);
     }
 
-    /// One chunk more where there are fewer cells than needed.
-    pub fn widen(&mut self, least: usize)
-        requires cells { vec_len self.old.cells + 8 ≤ vec_capacity self.old.cells }
-        requires links { vec_len self.old.links < vec_capacity self.old.links }
-        requires free_chunks { vec_len self.old.free < vec_capacity self.old.free }
-        requires few { length self.old.links.items ≤ 536870896 }
-        ensures is { Widened self.old.cells.items self.old.links.items self.old.free.items least
+    /// Two chunks more where there are fewer than `most`, and fewer cells than `least`.
+    pub fn widen(&mut self, most: usize, least: usize)
+        requires cells { vec_len self.old.cells + 16 ≤ vec_capacity self.old.cells }
+        requires links { vec_len self.old.links + 2 ≤ vec_capacity self.old.links }
+        requires free_chunks { vec_len self.old.free + 2 ≤ vec_capacity self.old.free }
+        requires few { length self.old.links.items < 536870896 }
+        ensures is { Widened self.old.cells.items self.old.links.items self.old.free.items most least
             self.new.cells.items self.new.links.items self.new.free.items }
         ensures capacity { vec_capacity self.old.free ≤ vec_capacity self.new.free }
     {
-        if least > self.cells.len() {
-            self.add();
+        if self.links.len() >= most {
+            return;
         }
-    }
-
-    /// So many chunks, which are free, where there are none.
-    pub fn add_all(&mut self, count: usize) -> Result<(), AllocError>
-        requires few { count ≤ 2000002 }
-        requires empty { (self.old.cells.items ≡ []) × (self.old.links.items ≡ []) × (self.old.free.items ≡ []) }
-        ensures pool { OnOk result (IsPool count self.new.links.items self.new.free.items (replicate count 4294967295) (replicate count [])) }
-        ensures size { OnOk result (length self.new.cells.items ≡ 8 * length self.new.links.items) }
-        ensures count { OnOk result (length self.new.links.items ≡ count) }
-        ensures capacity { length self.new.links.items ≤ vec_capacity self.new.free }
-    {
-        'chunks: while self.links.len() < count {
-            self.reserve()?;
-            self.add();
+        if self.cells.len() >= least {
+            return;
         }
-        Ok(())
+        self.add();
+        self.add();
     }
 }

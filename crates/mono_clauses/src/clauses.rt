@@ -62,12 +62,11 @@ impl Clauses {
         }
     }
 
-    /// How many variables there are.
-    pub fn vars(&self) -> u32
-        ensures value { result ≡ self.now.vars }
+    /// What holds of all clauses that are held. Nothing is computed: it is there for the clause.
+    pub fn known(&self)
         ensures ranged { (k : ℕ) → k < length self.now.list → AllVars self.now.vars (clause_at self.now.list k).lits }
     {
-        self.vars
+        let _ = &self.vars;
     }
 
     /// How many clauses are held.

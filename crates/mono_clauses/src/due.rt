@@ -30,8 +30,8 @@ pub fn try_watch(clauses: &Clauses, watches: &mut Watches, trail: &Trail, place:
     ensures yes { OnTrue result (Watched clauses.now.list watches.old watches.new trail.now place) }
     ensures no { OnFalse result (watches.new ≡ watches.old) }
 {
-    let _ = trail.level();
-    let _ = watches.len();
+    trail.known();
+    watches.known();
     let clause = clauses.literals(place);
     let Some(first) = first_unfalse(clause, trail) else {
         return false;
@@ -52,8 +52,8 @@ fn try_due(clauses: &Clauses, watches: &mut Watches, trail: &mut Trail, place: u
     ensures none { IfNone result (Tried clauses.now.list watches.old watches.new trail.old trail.new place) }
     ensures some { IfSome result (Failed clauses.now.list watches.old watches.new trail.old trail.new) }
 {
-    let _ = trail.level();
-    let _ = watches.len();
+    trail.known();
+    watches.known();
     if let Some(_) = watches.watch_of(2 * place) {
         return None;
     }
@@ -73,7 +73,7 @@ fn try_due(clauses: &Clauses, watches: &mut Watches, trail: &mut Trail, place: u
         Value::No => unreachable!(),
         Value::Unset => {
             trail.imply(first, Reason::Clause(clauses.number(place)));
-            let _ = trail.level();
+            trail.known();
             watch_late(clauses, watches, trail, place, first);
             return None;
         }
@@ -85,7 +85,7 @@ fn fell(trail: &Trail, lit: Lit, level: u32) -> bool
     requires { IsLitWithin trail.now.vars lit }
     ensures { OnTrue result (FellAt trail.now level lit) }
 {
-    let _ = trail.level();
+    trail.known();
     match trail.level_of(lit.var()) {
         Some(own) => own >= level,
         None => false,
@@ -116,8 +116,8 @@ fn watch_late(clauses: &Clauses, watches: &mut Watches, trail: &Trail, place: us
     requires holds { value_by trail.now.lits first ≡ Yes }
     ensures { Tried clauses.now.list watches.old watches.new trail.now trail.now place }
 {
-    let _ = trail.level();
-    let _ = watches.len();
+    trail.known();
+    watches.known();
     let clause = clauses.literals(place);
     let Some(level) = trail.level_of(first.var()) else {
         return;
@@ -171,7 +171,7 @@ fn drop_watched(
     requires count { 2 * length clauses.now.list ≡ length watches.now.watched }
     ensures { WatchedDropped clauses.now.list watches.now due.old.items due.new.items next result }
 {
-    let _ = watches.len();
+    watches.known();
     if let Some(_) = watches.watch_of(2 * place) {
         let _ = due.swap_remove(next);
         return next;

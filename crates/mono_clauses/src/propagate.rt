@@ -35,8 +35,8 @@ fn visit_clause(
     ensures some { IfSome result (FoundFalse clauses.old.list watches.old watches.new trail.old trail.new) }
     ensures same { clauses.new ≡ clauses.old }
 {
-    let _ = trail.level();
-    let _ = clauses.vars();
+    trail.known();
+    clauses.known();
     let mate = watches.watch(other_watcher(watcher));
     if let Value::Yes = trail.value(mate) {
         watches.keep();
@@ -55,7 +55,7 @@ fn visit_clause(
         Value::No => return Some(clauses.number(watcher / 2)),
         Value::Unset => {
             trail.imply(mate, Reason::Clause(clauses.number(watcher / 2)));
-            let _ = trail.level();
+            trail.known();
             watches.keep();
             return None;
         }
@@ -95,7 +95,7 @@ pub fn follow(clauses: &mut Clauses, watches: &mut Watches, trail: &mut Trail) -
     ensures same { clauses.new ≡ clauses.old }
 {
     'queue: while let Some(lit) = trail.next_due() {
-        let _ = trail.level();
+        trail.known();
         if let Some(number) = visit_watchers(clauses, watches, trail, lit.negated()) {
             return Some(number);
         }

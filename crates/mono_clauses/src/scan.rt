@@ -65,7 +65,7 @@ pub fn next_watch(
     ensures none { IfNone result (FalseBut trail.now.lits (clause_at clauses.now.list place).lits mate) }
     ensures some { IfSome result (IsAnotherUnfalse trail.now.lits (clause_at clauses.now.list place).lits mate) }
 {
-    let _ = clauses.vars();
+    clauses.known();
     let head = clauses.head(place);
     if head.len == 2 {
         return None;

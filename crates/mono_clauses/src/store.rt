@@ -105,7 +105,7 @@ impl ClauseStore {
         if let Some(number) = follow(&mut self.clauses, &mut self.watches, trail) {
             return Found::False(number);
         }
-        let _ = trail.level();
+        trail.known();
         Found::Quiet
     }
 }

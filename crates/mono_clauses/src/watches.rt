@@ -4,10 +4,10 @@
 //! nowhere else. While the watchers of one list are visited from its top down, the watchers still to come are those ahead; those passed stay
 //! in it. One that leaves is replaced by the top one, which is itself or was passed, so no watcher ahead moves.
 //!
-//! The room that the lists can need is made with the watchers: a cell for each watcher, and seven for each list, whose top
-//! chunk may lack as many. So no visit takes memory.
+//! The room that the lists can need is made with the watchers: a chunk for each watcher, or where that is less, a cell for each
+//! watcher and seven for each list, whose top chunk may lack as many. So no visit takes memory.
 
-ghost use Rattle.std.specs.Prelude.{◌≡◌, ◌≢◌, ℕ, ◌+◌, ◌*◌, ◌<◌, ◌≤◌, ◌++◌, ◌∷◌, [], length, slice_index_or, replicate, Some, None, IfOk, OnOk, OnErr, vec_len, vec_capacity, pos, false};
+ghost use Rattle.std.specs.Prelude.{◌≡◌, ◌≢◌, ℕ, ◌+◌, ◌*◌, ◌^◌, ◌<◌, ◌≤◌, ◌++◌, ◌∷◌, [], length, slice_index_or, replicate, Some, None, IfOk, OnOk, OnErr, vec_len, vec_capacity, pos, false};
 ghost use Rattle.mono_base.specs.declared.limits.TheConstants.{MAX_VARS};
 ghost use Rattle.mono_base.specs.Literal.{IsLitWithin};
 ghost use Rattle.mono_clauses.specs.Stacks.{Rest, Rest-prop};
@@ -46,7 +46,7 @@ impl Model for Watches {
 
     ghost invariant = { λ s. IsChunked s.vars s.chunks.links.items s.chunks.cells.items s.chunks.free.items s.heads.items
         (watched_of s.busy.items s.lits.items) s.list s.rest.places × (length s.chunks.links.items ≤ vec_capacity s.chunks.free)
-        × (length s.busy.items ≡ length s.lits.items) × (8 * length s.chunks.links.items ≤ length s.lits.items + 8 * (2 * s.vars + 2) + 7) };
+        × (length s.busy.items ≡ length s.lits.items) × (8 * length s.chunks.links.items ≤ length s.lits.items + 7 * (2 * s.vars + 2) + 16) };
 }
 
 impl Watches {
@@ -63,8 +63,7 @@ impl Watches {
         let cells = Vec::new(alloc);
         let links = Vec::new(alloc);
         let free = Vec::new(alloc);
-        let mut chunks = Chunks { cells, links, free };
-        chunks.add_all(count)?;
+        let chunks = Chunks { cells, links, free };
         Ok(Watches {
             vars,
             busy: Vec::new(alloc),
@@ -83,14 +82,14 @@ impl Watches {
         ensures err { OnErr result (self.new ≡ self.old) }
     {
         // A place has to be less than the end of stacks.
-        if self.chunks.links.len() > 0x1fff_fff0 {
+        if self.chunks.links.len() >= 0x1fff_fff0 {
             return Err(AllocError);
         }
         reserve_watchers(&mut self.busy, &mut self.lits, &mut self.chunks)?;
         self.here = END;
         let count = 2 * self.vars as usize + 2;
-        let least = self.lits.len() + 2 + 7 * count;
-        self.chunks.widen(least);
+        let watchers = self.lits.len() + 2;
+        self.chunks.widen(watchers, watchers + 7 * count);
         add_idle(&mut self.busy, &mut self.lits);
         add_idle(&mut self.busy, &mut self.lits);
         Ok(())
@@ -101,6 +100,13 @@ impl Watches {
         ensures { result ≡ length self.now.watched }
     {
         self.lits.len()
+    }
+
+    /// What holds of every such table. Nothing is computed: it is there for the clause.
+    pub fn known(&self)
+        ensures few { length self.now.watched < 2 ^ 64 }
+    {
+        let _ = self.len();
     }
 
     /// What a watcher watches.
@@ -134,7 +140,7 @@ impl Watches {
         requires empty { self.old.ahead ≡ [] }
         ensures { self.new ≡ attached (attached self.old (2 * place) first) (2 * place + 1) second }
     {
-        let _ = self.len();
+        self.known();
         self.attach(2 * place, first);
         self.attach(2 * place + 1, second);
     }
@@ -227,8 +233,8 @@ fn reserve_watchers(
     ensures links { chunks.new.links.items ≡ chunks.old.links.items }
     ensures free_chunks { chunks.new.free.items ≡ chunks.old.free.items }
     ensures room { OnOk result ((vec_len busy.new + 2 ≤ vec_capacity busy.new) × (vec_len lits.new + 2 ≤ vec_capacity lits.new)
-        × (vec_len chunks.new.cells + 8 ≤ vec_capacity chunks.new.cells) × (vec_len chunks.new.links < vec_capacity chunks.new.links)
-        × (vec_len chunks.new.links < vec_capacity chunks.new.free)) }
+        × (vec_len chunks.new.cells + 16 ≤ vec_capacity chunks.new.cells) × (vec_len chunks.new.links + 2 ≤ vec_capacity chunks.new.links)
+        × (vec_len chunks.new.links + 2 ≤ vec_capacity chunks.new.free)) }
     ensures capacity { vec_capacity chunks.old.free ≤ vec_capacity chunks.new.free }
 {
     busy.reserve(2)?;

@@ -7,6 +7,7 @@ mod ExitNumbers
 mod Exited
 mod Format
 mod Judgments
+mod Lines
 mod Literals
 mod Migrations
 mod Narrows

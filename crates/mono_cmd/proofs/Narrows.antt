@@ -21,7 +21,7 @@ use Rattle.mono_cmd.specs.declared.ending.Ending.TheVariants as ending
 use Rattle.mono_cmd.specs.CoreTexts.{outcome_text}
 use Rattle.mono_cmd.specs.Endings.{status_of, outcome_status}
 use Rattle.mono_cmd.specs.Solved.{IsNarrowing}
-use Rattle.mono_cmd.specs.Runs.{IsBeyond, IsNarrowed, ComesTo, Runs, Narrows, IsCoreBy}
+use Rattle.mono_cmd.specs.Runs.{HasNoRoom, IsNarrowed, ComesTo, Runs, Narrows, IsCoreBy}
 use Rattle.mono_cmd.proofs.Cores.{core_excludes}
 use Rattle.mono_cmd.proofs.Replies.{is_reply, not_both, end_behind, shown, said}
 
@@ -29,7 +29,7 @@ use Rattle.mono_cmd.proofs.Replies.{is_reply, not_both, end_behind, shown, said}
 abbrev IsFound : Instance → List ℤ → CoreOutcome → Type 0
 IsFound p lits o = HasRoom p lits × IsNarrowing p DEFAULT_BUDGET lits o
 
-narrowed_as : (p : Instance) (lits : List ℤ) (e : Ending) → IsBeyond p lits e ⊎ IsNarrowed p lits e → is_reply (status_of e) ≡ true → (o : CoreOutcome) × (e ≡ ending.Narrowed o) × IsFound p lits o
+narrowed_as : (p : Instance) (lits : List ℤ) (e : Ending) → HasNoRoom p lits e ⊎ IsNarrowed p lits e → is_reply (status_of e) ≡ true → (o : CoreOutcome) × (e ≡ ending.Narrowed o) × IsFound p lits o
 narrowed_as p lits e (inl beyond) reply = absurd (not_both (status_of e) status.Refused (ap status_of beyond.1) reply refl)
 narrowed_as p lits (ending.Narrowed o) (inr found) reply = (o, refl, found)
 narrowed_as p lits e (inr found) reply = absurd found
@@ -59,7 +59,7 @@ module _ (found : Option Command) (old new : ShelfView) (s : Status) (before now
   came : (e : Ending) → ComesTo found old new e → is_reply (status_of e) ≡ true → (o : CoreOutcome) × (e ≡ ending.Narrowed o) × IsFound p lits o
   came e comes reply =
       let over : ComesTo (Some (command.Core narrows.file lits)) old new e = subst (λ (c : Option Command). ComesTo c old new e) narrows.is comes in
-      narrowed_as p lits e (end_behind narrows.file narrows.text old new e p (λ q. IsBeyond q lits e ⊎ IsNarrowed q lits e) narrows.told narrows.stands reply over) reply
+      narrowed_as p lits e (end_behind narrows.file narrows.text old new e p (λ q. HasNoRoom q lits e ⊎ IsNarrowed q lits e) narrows.told narrows.stands reply over) reply
 
   shows : (t : Status) → is_reply t ≡ true → s ≡ t → Shows p lits t
   shows =

@@ -15,7 +15,7 @@ use Rattle.mono_answer.specs.Items.{item_of, items_in, items_of, spoken, said_in
 use Rattle.mono_answer.specs.Versions.{is_version_two, item_by, number_behind, items_by}
 use Rattle.mono_answer.specs.Printed.{numbers_text, with_zero, literals_from, answer_lines}
 use Rattle.mono_problem.specs.Instance.{Instance}
-use Rattle.mono_check.specs.Answers.{step_item, HasModel, HasSteps}
+use Rattle.mono_check.specs.Answers.{step_item, SaysModel, HasSteps}
 use Rattle.mono_answer.proofs.Tokens.{numbers_tokens, steps_tokens, status_are_tokens}
 use Rattle.mono_core.specs.declared.outcome.Need.{Need}
 use Rattle.mono_core.specs.declared.outcome.Need.TheVariants as need
@@ -120,11 +120,11 @@ keeps_notes [] h = keeps_none
 keeps_notes (l ∷ ls) h = keeps_both (note l) (flat_map note ls) (keeps_note l h.0) (keeps_notes ls h.1)
 
 -- a text whose lines say the same has the same model
-same_model : (p : Instance) (text other : List ℕ) (values : List Bool) → said (items_of (length p.clauses) other) ≡ said (items_of (length p.clauses) text) → HasModel p text values → HasModel p other values
+same_model : (p : Instance) (text other : List ℕ) (values : List Bool) → said (items_of (length p.clauses) other) ≡ said (items_of (length p.clauses) text) → SaysModel p text values → SaysModel p other values
 same_model p text other values same h =
     with_lines p text other values h (items_of (length p.clauses) other) refl (same ∙ ap said h.behind.1)
   where
-    with_lines : (q : Instance) (old new : List ℕ) (vs : List Bool) (m : HasModel q old vs) (xs : List (ℕ × Option Item)) → items_of (length q.clauses) new ≡ xs → said xs ≡ Some (says.Status kind.Model) ∷ said m.lines → HasModel q new vs
+    with_lines : (q : Instance) (old new : List ℕ) (vs : List Bool) (m : SaysModel q old vs) (xs : List (ℕ × Option Item)) → items_of (length q.clauses) new ≡ xs → said xs ≡ Some (says.Status kind.Model) ∷ said m.lines → SaysModel q new vs
     with_lines q old new vs m [] e says_so = absurd cc
     with_lines q old new vs m ((n, i) ∷ xs) e says_so =
         let head : i ≡ Some (says.Status kind.Model) = cc in
@@ -140,7 +140,7 @@ same_model p text other values same h =
           true_where = m.true_where;
         }
 
-pub keeps_model : (ts : List (List ℕ)) → AreTokens ts → (p : Instance) (rest : List ℕ) (values : List Bool) → HasModel p rest values → HasModel p (note ts ++ rest) values
+pub keeps_model : (ts : List (List ℕ)) → AreTokens ts → (p : Instance) (rest : List ℕ) (values : List Bool) → SaysModel p rest values → SaysModel p (note ts ++ rest) values
 keeps_model ts h p rest values = same_model p rest (note ts ++ rest) values (skipped_line (length p.clauses) (codes "c" ∷ ts) rest ((refl, refl, tt), h) refl)
 
 -- ---- the lines of a core

@@ -34,7 +34,7 @@ use Rattle.mono_cmd.specs.declared.command.TheConstants.{DEFAULT_BUDGET, MAX_MIG
 use Rattle.mono_cmd.specs.declared.ending.Ending.{Ending}
 use Rattle.mono_cmd.specs.declared.ending.Ending.TheVariants as ending
 use Rattle.mono_cmd.specs.Endings.{status_of}
-use Rattle.mono_cmd.specs.Runs.{EndsAtText, EndsAtFile, WithText, WithProblem, HasProblem, IsJudged, IsMigration, IsSolved, IsBeyond, IsNarrowed, IsJudgedWith, IsUnasked, IsBounded, IsAsked, ComesTo, Ends, AreConsistent, AreConsistentOutcomes, AreConsistentBounds, AreAlike, IsGenerated, IsSolving}
+use Rattle.mono_cmd.specs.Runs.{EndsAtText, EndsAtFile, WithText, WithProblem, HasProblem, IsJudged, IsMigration, IsSolved, HasNoRoom, IsNarrowed, IsJudgedWith, IsUnasked, IsBounded, IsAsked, ComesTo, Ends, AreConsistent, AreConsistentOutcomes, AreConsistentBounds, AreAlike, IsGenerated, IsSolving}
 use Rattle.mono_cmd.specs.Solved.{IsAnswer}
 use Rattle.mono_cmd.specs.Teams.{IsTeamed, IsTeamAnswer}
 use Rattle.mono_cmd.specs.declared.asking.AskRefusal.{AskRefusal}
@@ -145,7 +145,7 @@ both_narrowed p lits (ending.Narrowed o) (ending.Narrowed o') ok a b = consisten
 both_narrowed p lits (ending.Narrowed o) e' ok a b = absurd b
 both_narrowed p lits e e' ok a b = absurd a
 
-one_narrowed : (p : Instance) (lits : List ℤ) (e e' : Ending) → IsInstance p → (IsBeyond p lits e ⊎ IsNarrowed p lits e) → (IsBeyond p lits e' ⊎ IsNarrowed p lits e') → AreAlike e e'
+one_narrowed : (p : Instance) (lits : List ℤ) (e e' : Ending) → IsInstance p → (HasNoRoom p lits e ⊎ IsNarrowed p lits e) → (HasNoRoom p lits e' ⊎ IsNarrowed p lits e') → AreAlike e e'
 one_narrowed p lits e e' ok (inl a) (inl b) = same_alike e e' (a.1 ∙ sym b.1)
 one_narrowed p lits e e' ok (inl a) (inr b) = absurd (a.0 (narrowed_room p lits e' b))
 one_narrowed p lits e e' ok (inr a) (inl b) = absurd (b.0 (narrowed_room p lits e a))
@@ -192,8 +192,8 @@ one_asked p n c e e' a b = absurd a
 -- ---- answers of `team`
 
 consistent_teams : (p : Instance) (workers rounds : ℕ) (a b : Answer) → IsInstance p → IsTeamAnswer p workers rounds a → IsTeamAnswer p workers rounds b → AreConsistent a b
-consistent_teams p workers rounds (answer.Model values) (answer.Refutation steps) ok x y = refutation_excludes p steps ok y.refutes (value_in values) x.satisfies
-consistent_teams p workers rounds (answer.Refutation steps) (answer.Model values) ok x y = refutation_excludes p steps ok x.refutes (value_in values) y.satisfies
+consistent_teams p workers rounds (answer.Model values) (answer.Refutation steps) ok x y = refutation_excludes p steps ok y.2.trim.refutes (value_in values) x.1.model.satisfies
+consistent_teams p workers rounds (answer.Refutation steps) (answer.Model values) ok x y = refutation_excludes p steps ok x.2.trim.refutes (value_in values) y.1.model.satisfies
 consistent_teams p workers rounds a b ok x y = tt
 
 one_teamed : (p : Instance) (workers rounds : ℕ) (e e' : Ending) → IsInstance p → IsTeamed p workers rounds e → IsTeamed p workers rounds e' → AreAlike e e'
@@ -376,7 +376,7 @@ module _ (held : Texts) where
 
   -- with assumptions it may end between the two, for want of room
   with_once : (answer : List ℕ) (lits : List ℤ) (p : Instance) (read new read' new' : ShelfView) (e e' : Ending) → e ≢ ending.Memory → e' ≢ ending.Memory → IsOver read e → IsOver read' e'
-      → (IsBeyond p lits e × (new ≡ read)) ⊎ IsJudgedWith p lits answer read new e → (IsBeyond p lits e' × (new' ≡ read')) ⊎ IsJudgedWith p lits answer read' new' e' → e ≡ e'
+      → (HasNoRoom p lits e × (new ≡ read)) ⊎ IsJudgedWith p lits answer read new e → (HasNoRoom p lits e' × (new' ≡ read')) ⊎ IsJudgedWith p lits answer read' new' e' → e ≡ e'
   with_once answer lits p read new read' new' e e' else else' over over' (inl a) (inl b) = a.0.1 ∙ sym b.0.1
   with_once answer lits p read new read' new' e e' else else' over over' (inl a) (inr b) = absurd (a.0.0 b.1)
   with_once answer lits p read new read' new' e e' else else' over over' (inr a) (inl b) = absurd (b.0.0 a.1)
@@ -394,7 +394,7 @@ module _ (held : Texts) where
   comes_once (Some (command.Team file workers rounds)) old new old' new' e e' else else' over over' a b =
       file_once file old new old' new' e e' (λ p d. IsTeamed p workers rounds d) else else' over over' (λ p ok x y. one_teamed p workers rounds e e' ok x y) a b
   comes_once (Some (command.Core file lits)) old new old' new' e e' else else' over over' a b =
-      file_once file old new old' new' e e' (λ p d. IsBeyond p lits d ⊎ IsNarrowed p lits d) else else' over over' (λ p ok x y. one_narrowed p lits e e' ok x y) a b
+      file_once file old new old' new' e e' (λ p d. HasNoRoom p lits d ⊎ IsNarrowed p lits d) else else' over over' (λ p ok x y. one_narrowed p lits e e' ok x y) a b
   comes_once (Some (command.Best file n)) old new old' new' e e' else else' over over' a b =
       file_once file old new old' new' e e' (λ p d. IsBounded p n d) else else' over over' (λ p ok x y. one_bounded p n e e' ok x y) a b
   comes_once (Some (command.Ask file n c)) old new old' new' e e' else else' over over' a b =
@@ -404,7 +404,7 @@ module _ (held : Texts) where
   comes_once (Some (command.Migrate file answer v)) old new old' new' e e' else else' over over' a b =
       both_once file answer MAX_MIGRATED_BYTES old new old' new' e e' (λ p text d. IsMigration p text v d) else else' over over' (λ p text x y. one_migrated p text v e e' x y) a b
   comes_once (Some (command.CheckWith file answer lits)) old new old' new' e e' else else' over over' a b =
-      problem_once file old new old' new' e e' (λ p read. (IsBeyond p lits e × (new ≡ read)) ⊎ IsJudgedWith p lits answer read new e) (λ p read. (IsBeyond p lits e' × (new' ≡ read)) ⊎ IsJudgedWith p lits answer read new' e')
+      problem_once file old new old' new' e e' (λ p read. (HasNoRoom p lits e × (new ≡ read)) ⊎ IsJudgedWith p lits answer read new e) (λ p read. (HasNoRoom p lits e' × (new' ≡ read)) ⊎ IsJudgedWith p lits answer read new' e')
       else else' over over' (λ p read read' ok over over' x y. same_alike e e' (with_once answer lits p read new read' new' e e' else else' over over' x y)) a b
 
   pub alike : (found : Option Command) (old new old' new' : ShelfView) (e e' : Ending) → old.texts ≡ Some held → old'.texts ≡ Some held

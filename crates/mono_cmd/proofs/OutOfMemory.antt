@@ -33,7 +33,7 @@ text_given_up file limit old new ending.TooLong takes ends = absurd takes
 text_given_up file limit old new e takes ends = absurd ends
 
 file_given_up : (file : List ℕ) (old new : ShelfView) (e : Ending) → TakesMemory e → EndsAtFile file old new e → IsGivenUp MAX_INPUT_BYTES old new
-file_given_up file old new (ending.Refused line fault) takes ends = read_given_up file MAX_INPUT_BYTES old new ends.text ends.read
+file_given_up file old new (ending.Refused line fault) takes ends = absurd takes
 file_given_up file old new ending.Memory takes ends = ends
 file_given_up file old new ending.ReadFault takes ends = absurd takes
 file_given_up file old new ending.TooLong takes ends = absurd takes

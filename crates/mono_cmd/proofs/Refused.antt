@@ -19,7 +19,7 @@ use Rattle.mono_cmd.specs.declared.ending.Ending.TheVariants as ending
 use Rattle.mono_cmd.specs.Commands.{files_of}
 use Rattle.mono_cmd.specs.Endings.{answer_status, best_status, outcome_status, status_of, text_of, verdict_status}
 use Rattle.mono_cmd.specs.Refusals.{IsRefusal, IsUnaskedBy}
-use Rattle.mono_cmd.specs.Runs.{ComesTo, EndsAtFile, EndsAtText, HasProblem, IsAsked, IsBeyond, IsBounded, IsJudged, IsMigration, IsNarrowed, IsSolved, Runs, Writes}
+use Rattle.mono_cmd.specs.Runs.{ComesTo, EndsAtFile, EndsAtText, HasProblem, IsAsked, HasNoRoom, IsBounded, IsJudged, IsMigration, IsNarrowed, IsSolved, Runs, Writes}
 use Rattle.mono_cmd.specs.Teams.{IsTeamed}
 use Rattle.mono_cmd.proofs.Replies.{answer_reply, appended, best_reply, not_both, outcome_reply, same_text, verdict_reply}
 use Rattle.mono_cmd.proofs.Stages.{ends_else}
@@ -74,7 +74,7 @@ module _ (old : ShelfView) (file text : List ℕ) (told : told_text old.texts fi
       let same : has.text ≡ text = same_text old.texts name text has.text (named_there name named) has.read.whole in
       inr (record { problem = p; stands = subst (λ (t : List ℕ). Stands t p) same has.stands; unasked = unasked })
 
-  core_refusal : (name : List ℕ) (lits : List ℤ) (read : ShelfView) (e : Ending) (p : Instance) → Some name ≡ Some file → HasProblem name old read p → IsBeyond p lits e ⊎ IsNarrowed p lits e
+  core_refusal : (name : List ℕ) (lits : List ℤ) (read : ShelfView) (e : Ending) (p : Instance) → Some name ≡ Some file → HasProblem name old read p → HasNoRoom p lits e ⊎ IsNarrowed p lits e
       → IsStopped e → IsRefusal (Some (command.Core name lits)) text (text_of e)
   core_refusal name lits read e p named has (inl beyond) is = behind_file (Some (command.Core name lits)) name read p (text_of e) named has (beyond.0, ap text_of beyond.1)
   core_refusal name lits read (ending.Narrowed o) p named has (inr found) is = absurd (not_both (outcome_status o) status.Refused (sym is) (outcome_reply o) refl)

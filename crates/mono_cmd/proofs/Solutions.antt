@@ -15,11 +15,11 @@ use Rattle.mono_answer.specs.declared.answer.Answer.TheVariants as answer
 use Rattle.mono_answer.specs.declared.version.Version.TheVariants as version
 use Rattle.mono_answer.specs.Printed.{answer_text, answer_items, in_lines, is_within_format}
 use Rattle.mono_answer.proofs.RoundTrip.{printed_is_read}
-use Rattle.mono_check.specs.Answers.{HasSteps, HasModel}
+use Rattle.mono_check.specs.Answers.{HasSteps, SaysModel}
 use Rattle.mono_check.proofs.Accepted.{refutation_iff, progress_iff, model_iff}
 use Rattle.mono_check.proofs.PrintedValues.{model_stands}
 use Rattle.mono_check.proofs.Stands.{has_steps}
-use Rattle.mono_search.specs.Outcomes.{HasModel as HasModelOf}
+use Rattle.mono_search.specs.Outcomes.{HasModel}
 use Rattle.mono_steps.specs.Trimmed.{IsTrimRefutation}
 use Rattle.mono_steps.specs.New.{IsProgress}
 use Rattle.mono_cmd.specs.Solved.{IsSolution}
@@ -27,10 +27,10 @@ use Rattle.mono_cmd.proofs.Format.{steps_within}
 
 -- ---- models
 
-pub printed_model : (p : Instance) (values : List Bool) → IsInstance p → length values ≡ p.vars → HasModel p (answer_text (answer.Model values)) values
+pub printed_model : (p : Instance) (values : List Bool) → IsInstance p → length values ≡ p.vars → SaysModel p (answer_text (answer.Model values)) values
 printed_model p values ok len = model_stands p values version.One ok len
 
-pub model_solves : (p : Instance) (budget : ℕ) (values : List Bool) → IsInstance p → HasModelOf p values → IsSolution p budget (answer.Model values)
+pub model_solves : (p : Instance) (budget : ℕ) (values : List Bool) → IsInstance p → HasModel p values → IsSolution p budget (answer.Model values)
 model_solves p budget values ok h = record {
   right = h;
   accepted = (model_iff p (answer_text (answer.Model values))).1 (values, printed_model p values ok h.len, h.satisfies);

@@ -20,7 +20,7 @@ use Rattle.mono_cmd.specs.declared.ending.Ending.{Ending}
 use Rattle.mono_cmd.specs.declared.ending.Ending.TheVariants as ending
 use Rattle.mono_cmd.specs.Commands.{files_of}
 use Rattle.mono_cmd.specs.Teams.{IsTeamed}
-use Rattle.mono_cmd.specs.Runs.{EndsAtText, EndsAtFile, WithText, WithProblem, HasProblem, IsJudged, IsMigration, IsSolved, IsBeyond, IsNarrowed, IsBounded, IsAsked, IsGenerated, ComesTo, Ends, IsOutOfMemory, begun_for}
+use Rattle.mono_cmd.specs.Runs.{EndsAtText, EndsAtFile, WithText, WithProblem, HasProblem, IsJudged, IsMigration, IsSolved, HasNoRoom, IsNarrowed, IsBounded, IsAsked, IsGenerated, ComesTo, Ends, IsOutOfMemory, begun_for}
 
 -- memory was wanting, or the run came to this by its command
 pub ends_cases : (found : Option Command) (old new : ShelfView) (e : Ending) → Ends found old new e → IsOutOfMemory found old new ⊎ ComesTo found old new e
@@ -110,7 +110,7 @@ own_generated : (k : GenKind) (size seed : ℕ) (solve : Bool) (e : Ending) → 
 own_generated k size seed false e h = own_as (Some (command.Gen k size seed false)) e (ending.Printed (generated k size seed)) h tt
 own_generated k size seed true e h = own_as (Some (command.Gen k size seed true)) e (ending.Summed h.summary) h.is tt
 
-own_narrowed : (p : Instance) (lits : List ℤ) (e : Ending) (file : List ℕ) → IsBeyond p lits e ⊎ IsNarrowed p lits e → IsOwn e (Some (command.Core file lits))
+own_narrowed : (p : Instance) (lits : List ℤ) (e : Ending) (file : List ℕ) → HasNoRoom p lits e ⊎ IsNarrowed p lits e → IsOwn e (Some (command.Core file lits))
 own_narrowed p lits e file (inl beyond) = own_as (Some (command.Core file lits)) e (ending.Refused 0 fault.TooMany) beyond.1 tt
 own_narrowed p lits (ending.Narrowed o) file (inr found) = tt
 own_narrowed p lits e file (inr found) = absurd found
@@ -166,7 +166,7 @@ stage_of (Some (command.Team file workers rounds)) old new e comes =
     one_stage (Some (command.Team file workers rounds)) old new e (λ p. IsTeamed p workers rounds e) tt
     (λ p h. own_as (Some (command.Team file workers rounds)) e (ending.Solved h.answer) h.is tt) comes
 stage_of (Some (command.Core file lits)) old new e comes =
-    one_stage (Some (command.Core file lits)) old new e (λ p. IsBeyond p lits e ⊎ IsNarrowed p lits e) tt (λ p h. own_narrowed p lits e file h) comes
+    one_stage (Some (command.Core file lits)) old new e (λ p. HasNoRoom p lits e ⊎ IsNarrowed p lits e) tt (λ p h. own_narrowed p lits e file h) comes
 stage_of (Some (command.Best file n)) old new e comes =
     one_stage (Some (command.Best file n)) old new e (λ p. IsBounded p n e) tt (λ p h. own_bounded p n e file h) comes
 stage_of (Some (command.Ask file n b)) old new e comes =

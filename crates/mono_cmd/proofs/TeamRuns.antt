@@ -31,14 +31,14 @@ Shows p workers rounds status.Unknown = (board : List Step) × IsBoardOfRounds p
 Shows p workers rounds s = Unit {0}
 
 team_shows : (p : Instance) (workers rounds : ℕ) (a : Answer) → IsInstance p → IsTeamSolution p workers rounds a → Shows p workers rounds (answer_status a)
-team_shows p workers rounds (answer.Model values) ok h = (value_in values, h.right.satisfies)
-team_shows p workers rounds (answer.Refutation steps) ok h = refutation_excludes p steps ok h.right.refutes
+team_shows p workers rounds (answer.Model values) ok h = (value_in values, h.right.1.model.satisfies)
+team_shows p workers rounds (answer.Refutation steps) ok h = refutation_excludes p steps ok h.right.2.trim.refutes
 team_shows p workers rounds (answer.Progress board) ok h = (board, h.right)
 
--- the verdict on its text
+-- its text, and the verdict on it
 its_text : (p : Instance) (workers rounds : ℕ) (a : Answer) → IsTeamSolution p workers rounds a → IsTeamTextBy (answer_status a) p workers rounds (answer_text a)
-its_text p workers rounds (answer.Model values) h = h.accepted
-its_text p workers rounds (answer.Refutation steps) h = h.accepted
+its_text p workers rounds (answer.Model values) h = (values, h.right, refl, h.accepted)
+its_text p workers rounds (answer.Refutation steps) h = (steps, h.right, refl, h.accepted)
 its_text p workers rounds (answer.Progress board) h = (board, h.right, refl, h.accepted)
 
 -- ---- as clauses of a run

@@ -8,18 +8,19 @@ use Rattle.mono_answer.specs.declared.kind.Kind.TheVariants as kind
 use Rattle.mono_answer.specs.declared.answer.Answer.TheVariants as answer
 use Rattle.mono_answer.specs.Printed.{answer_text}
 use Rattle.mono_check.proofs.Accepted.{progress_iff}
-use Rattle.mono_search.specs.Outcomes.{HasModel}
-use Rattle.mono_steps.specs.Trimmed.{IsTrimRefutation}
+use Rattle.mono_steps.specs.Trimmed.{IsTrimmed}
+use Rattle.mono_portfolio.specs.Ends.{IsModelOfTurn, IsRefutationOfTurn}
 use Rattle.mono_portfolio.specs.Outcomes.{IsBoardOfRounds}
 use Rattle.mono_cmd.specs.Teams.{IsTeamSolution}
 use Rattle.mono_cmd.proofs.Format.{steps_within}
 use Rattle.mono_cmd.proofs.Solutions.{model_solves, refutation_solves, printed_steps, few_steps}
 
-pub team_model_solves : (p : Instance) (workers rounds : ℕ) (values : List Bool) → IsInstance p → HasModel p values → IsTeamSolution p workers rounds (answer.Model values)
-team_model_solves p workers rounds values ok h = record { right = h; accepted = (model_solves p 1 values ok h).accepted }
+pub team_model_solves : (p : Instance) (workers rounds : ℕ) (values : List Bool) (board : List Step) → IsInstance p → IsModelOfTurn p workers rounds values board → IsTeamSolution p workers rounds (answer.Model values)
+team_model_solves p workers rounds values board ok h = record { right = (board, h); accepted = (model_solves p 1 values ok h.model).accepted }
 
-pub team_refutation_solves : (p : Instance) (workers rounds : ℕ) (steps : List Step) → IsInstance p → length steps < 2 ^ 63 → IsTrimRefutation p steps → IsTeamSolution p workers rounds (answer.Refutation steps)
-team_refutation_solves p workers rounds steps ok few h = record { right = h; accepted = (refutation_solves p 1 steps ok few h).accepted }
+pub team_refutation_solves : (p : Instance) (workers rounds : ℕ) (board steps : List Step) → IsInstance p → length steps < 2 ^ 63 → IsRefutationOfTurn p workers rounds board → IsTrimmed p board steps
+    → IsTeamSolution p workers rounds (answer.Refutation steps)
+team_refutation_solves p workers rounds board steps ok few h trimmed = record { right = (board, h, trimmed); accepted = (refutation_solves p 1 steps ok few trimmed.trim).accepted }
 
 pub team_board_solves : (p : Instance) (workers rounds : ℕ) (board : List Step) → IsInstance p → length board < 2 ^ 63 → IsBoardOfRounds p workers rounds board → IsTeamSolution p workers rounds (answer.Progress board)
 team_board_solves p workers rounds board ok few h =

@@ -120,16 +120,16 @@ text_of (ending.Narrowed o) = outcome_text o
 text_of (ending.Bounded o) = best_text o
 text_of (ending.Unasked r) = refusal_text r
 
--- Memory may be wanting for the text of this ending, or was wanting on the way to it. A text of constants takes none, and
--- neither does one that is there already.
+-- Memory may be wanting for the text of this ending, or was wanting on the way to it. A text of constants takes none, nor does one of a
+-- single line, nor one that is there already.
 abbrev pub TakesMemory : Ending → Type 0
 TakesMemory ending.Words = ⊥
 TakesMemory ending.ReadFault = ⊥
 TakesMemory ending.TooLong = ⊥
+TakesMemory (ending.Refused line fault) = ⊥
+TakesMemory (ending.Judged v) = ⊥
 TakesMemory (ending.Printed text) = ⊥
 TakesMemory (ending.Unasked r) = ⊥
-TakesMemory (ending.Judged verdict.Model) = ⊥
-TakesMemory (ending.Judged verdict.Refutation) = ⊥
 TakesMemory e = Unit {0}
 
 -- ---- the ending where a step of the run ends it

@@ -6,6 +6,7 @@ pub mod Solved
 pub mod Told
 pub mod Teams
 pub mod Endings
+pub mod Texts
 pub mod Runs
 pub mod Refusals
 pub mod Promises

@@ -111,8 +111,8 @@ pub record Asking (run : RunView) : Type 0 where
   pub stands : (p : Instance) (n : ℕ) (b : ℤ) (written : List ℕ) → Asks run.command run.old.texts p n b
       → run.status ≡ status.Printed → Wrote run written → Stands written (asking p n b)
 
--- `team`: an assignment satisfies the problem that FILE stands for; none does; all rounds were played. What was written, and the verdict
--- that `check` gives it.
+-- `team`: an assignment satisfies the problem that FILE stands for; none does; all rounds were played. What was written, of which turn it
+-- is, and the verdict that `check` gives it.
 pub record Teaming (run : RunView) : Type 0 where
   pub satisfiable : (p : Instance) (workers rounds : ℕ) → PlaysTeam run.command run.old.texts p workers rounds
       → run.status ≡ status.Satisfiable → (a : ℕ → Bool) × Satisfies p a

@@ -44,7 +44,7 @@ use Rattle.mono_best.specs.declared.outcome.BestOutcome.{BestOutcome}
 use Rattle.mono_best.specs.declared.outcome.BestOutcome.TheVariants as bounded
 use Rattle.mono_best.specs.Asking.{asking, predicate_of, HasBoundedAtom, HasRoomToAsk}
 use Rattle.mono_best.specs.Bounds.{beyond, weakest, IsBoundOf}
-use Rattle.mono_best.specs.Best.{IsBest, IsOpen, IsBeyond as IsBeyondBounds}
+use Rattle.mono_best.specs.Best.{IsBest, IsOpen, IsBeyond}
 use Rattle.mono_best.specs.Optimum.{IsOptimum, IsNeverMet}
 use Rattle.mono_cmd.specs.declared.asking.AskRefusal.{AskRefusal}
 use Rattle.mono_cmd.specs.declared.asking.AskRefusal.TheVariants as refusal
@@ -124,8 +124,8 @@ IsGenerated k size seed true e = SumsUp k size seed e
 -- ---- assumptions
 
 -- there is no room for one more clause of each assumption
-abbrev pub IsBeyond : Instance → List ℤ → Ending → Type 0
-IsBeyond p lits e = (¬ HasRoom p lits) × (e ≡ ending.Refused 0 fault.TooMany)
+abbrev pub HasNoRoom : Instance → List ℤ → Ending → Type 0
+HasNoRoom p lits e = (¬ HasRoom p lits) × (e ≡ ending.Refused 0 fault.TooMany)
 
 -- what was found of FILE's problem under the assumptions
 abbrev pub IsNarrowed : Instance → List ℤ → Ending → Type 0
@@ -176,13 +176,13 @@ ComesTo (Some (command.Migrate file answer v)) old new e =
     WithProblem file old new e (λ p read.
     WithText answer MAX_MIGRATED_BYTES read new e (λ text shelf. IsMigration p text v e × (new ≡ shelf)))
 ComesTo (Some (command.Core file lits)) old new e =
-    WithProblem file old new e (λ p shelf. (IsBeyond p lits e ⊎ IsNarrowed p lits e) × (new ≡ shelf))
+    WithProblem file old new e (λ p shelf. (HasNoRoom p lits e ⊎ IsNarrowed p lits e) × (new ≡ shelf))
 ComesTo (Some (command.Best file n)) old new e =
     WithProblem file old new e (λ p shelf. IsBounded p n e × (new ≡ shelf))
 ComesTo (Some (command.Ask file n b)) old new e =
     WithProblem file old new e (λ p shelf. IsAsked p n b e × (new ≡ shelf))
 ComesTo (Some (command.CheckWith file answer lits)) old new e =
-    WithProblem file old new e (λ p read. (IsBeyond p lits e × (new ≡ read)) ⊎ IsJudgedWith p lits answer read new e)
+    WithProblem file old new e (λ p read. (HasNoRoom p lits e × (new ≡ read)) ⊎ IsJudgedWith p lits answer read new e)
 ComesTo (Some (command.Team file workers rounds)) old new e =
     WithProblem file old new e (λ p shelf. IsTeamed p workers rounds e × (new ≡ shelf))
 
@@ -263,7 +263,7 @@ abbrev pub IsBestBy : Status → Instance → ℕ → List ℕ → Type 0
 IsBestBy status.Satisfiable p n text =
     ((b : ℤ) × (model : List Bool) × (steps : List Step) × IsBest p n b model steps × IsOptimum p n b
     × (text ≡ best_text (bounded.Best b model steps)) × IsVerdict (asking p n (beyond (predicate_of p n) b)) text verdict.Refutation)
-    ⊎ ((model : List Bool) × IsBeyondBounds p n model
+    ⊎ ((model : List Bool) × IsBeyond p n model
     × (text ≡ best_text (bounded.Beyond model)) × IsVerdict (asking p n (pos (MAX_BOUND + 1))) text verdict.Model)
 IsBestBy status.Unsatisfiable p n text =
     (steps : List Step) × IsNeverMet p n

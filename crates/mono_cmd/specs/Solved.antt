@@ -16,7 +16,7 @@ use Rattle.mono_check.specs.Verdicts.{IsVerdict}
 use Rattle.mono_problem.specs.Assuming.{assuming}
 use Rattle.mono_core.specs.declared.outcome.CoreOutcome.{CoreOutcome}
 use Rattle.mono_core.specs.declared.outcome.CoreOutcome.TheVariants as outcome
-use Rattle.mono_core.specs.Cores.{IsOutcome}
+use Rattle.mono_core.specs.Cores.{IsCoreOutcome}
 use Rattle.mono_base.specs.declared.limits.TheConstants.{MAX_BOUND}
 use Rattle.mono_best.specs.declared.outcome.BestOutcome.{BestOutcome}
 use Rattle.mono_best.specs.declared.outcome.BestOutcome.TheVariants as bounded
@@ -58,7 +58,7 @@ outcome_verdict (outcome.Unknown steps) = verdict.Progress (chain_count steps)
 -- what was found of a problem under assumptions, which are literals, and whose printed text `check-with` accepts
 pub record IsNarrowing (p : Instance) (budget : ℕ) (assumed : List ℤ) (o : CoreOutcome) : Type 0 where
   pub literals : All (IsLitWithin MAX_VARS) assumed
-  pub right : IsOutcome p budget assumed o
+  pub right : IsCoreOutcome p budget assumed o
   pub accepted : IsVerdict (assuming p (judged_under assumed o)) (outcome_text o) (outcome_verdict o)
 
 -- what was found of the bound of a predicate, whose printed text `check` accepts of the problem that asks for this bound

@@ -2,27 +2,26 @@
 //!
 //! It is also the error of each step that may end a run, so that `?` ends it there.
 
-ghost use Rattle.std.specs.Prelude.{◌≡◌, ◌≢◌, ◌∷◌, [], IfOk, OnErr, OnOk, codes, decimal};
-ghost use Rattle.std.specs.Cow.{cow_slice_items};
-ghost use Rattle.mono_text.specs.Text.{spaced};
-ghost use Rattle.mono_check.specs.Names.{reason_name};
+ghost use Rattle.std.specs.Prelude.{◌≡◌, ◌≢◌, IfOk, OnErr, OnOk};
 ghost use Rattle.mono_cmd.specs.Endings.{status_of, text_of, TakesMemory, unread_ending, unjudged_ending, refused_ending, answer_status as status_of_answer, best_status as status_of_best, outcome_status as status_of_outcome, verdict_status as status_of_verdict, verdict_text as text_of_verdict};
+ghost use Rattle.mono_cmd.specs.Texts.{bytes_of};
 ghost use Rattle.mono_cmd.specs.declared.ending.Ending.TheVariants.{Memory};
 
 use crate::asking::AskRefusal;
 use crate::best_text::print_best;
 use crate::core_text::print_outcome;
+use crate::line::{progress_line, refused_line, rejected_line};
 use crate::status::Status;
 use crate::summary::Summary;
+use crate::text::Text;
 use mono_answer::{Answer, print_answer};
 use mono_base::Row;
 use mono_best::BestOutcome;
-use mono_check::{CheckRefusal, Reason, Verdict};
+use mono_check::{CheckRefusal, Verdict};
 use mono_core::CoreOutcome;
 use mono_gnf::{GnfFault, GnfRefusal};
 use mono_io::ReadRefusal;
 use std::alloc::{AllocError, Global};
-use std::borrow::CowSlice;
 
 /// The one line that names all commands.
 const USAGE: &[u8] =
@@ -121,36 +120,28 @@ impl Ending {
         }
     }
 
-    /// The text that is due, unless no memory was found: then none is. One of constants takes no memory, so that none is said to be
-    /// wanting in its place.
-    pub fn into_text(self, alloc: Global) -> Result<CowSlice<'static, u8>, AllocError>
-        ensures ok { IfOk result (λ text. cow_slice_items text ≡ text_of self) }
+    /// The text that is due, unless no memory was found: then none is. No memory is wanting for a text of constants or of one line, nor
+    /// for one that is there already.
+    pub fn into_text(self, alloc: Global) -> Result<Text, AllocError>
+        ensures ok { IfOk result (λ text. bytes_of text ≡ text_of self) }
         ensures err { OnErr result (TakesMemory self) }
         ensures found { OnOk result (self ≢ Ending.Memory) }
     {
-        let text = match self {
-            Ending::Words => return Ok(fixed(USAGE)),
-            Ending::ReadFault => return Ok(fixed(b"read fault\n")),
-            Ending::Memory => return Err(AllocError),
-            Ending::TooLong => return Ok(fixed(b"too long\n")),
-            Ending::Refused { line, fault } => refused_text(alloc, line, fault)?,
-            Ending::Solved(answer) => print_answer(alloc, &answer)?,
-            Ending::Judged(verdict) => return Ok(verdict_text(alloc, verdict)?),
-            Ending::Summed(summary) => summary.text(alloc)?,
-            Ending::Printed(text) => text.into_vec(),
-            Ending::Narrowed(outcome) => print_outcome(alloc, &outcome)?,
-            Ending::Bounded(outcome) => print_best(alloc, &outcome)?,
-            Ending::Unasked(refusal) => return Ok(fixed(refusal.text())),
-        };
-        Ok(CowSlice::Owned(text))
+        match self {
+            Ending::Words => Ok(Text::Fixed(USAGE)),
+            Ending::ReadFault => Ok(Text::Fixed(b"read fault\n")),
+            Ending::Memory => Err(AllocError),
+            Ending::TooLong => Ok(Text::Fixed(b"too long\n")),
+            Ending::Refused { line, fault } => Ok(Text::Line(refused_line(line, fault))),
+            Ending::Solved(answer) => Ok(Text::Owned(print_answer(alloc, &answer)?)),
+            Ending::Judged(verdict) => Ok(verdict_text(verdict)),
+            Ending::Summed(summary) => Ok(Text::Owned(summary.text(alloc)?)),
+            Ending::Printed(text) => Ok(Text::Owned(text.into_vec())),
+            Ending::Narrowed(outcome) => Ok(Text::Owned(print_outcome(alloc, &outcome)?)),
+            Ending::Bounded(outcome) => Ok(Text::Owned(print_best(alloc, &outcome)?)),
+            Ending::Unasked(refusal) => Ok(Text::Fixed(refusal.text())),
+        }
     }
-}
-
-/// A text of constants, as it is.
-fn fixed(text: &'static [u8]) -> CowSlice<'static, u8>
-    ensures { cow_slice_items result ≡ text.now }
-{
-    CowSlice::Borrowed(text)
 }
 
 /// How a run ends that comes to this answer.
@@ -205,59 +196,14 @@ fn verdict_status(verdict: Verdict) -> Status
     }
 }
 
-/// The line of the input's fault.
-fn refused_text(alloc: Global, line: u64, fault: GnfFault) -> Result<Vec<u8>, AllocError>
-    ensures { IfOk result (λ text. text.items ≡ text_of (Ending.Refused line fault)) }
+/// The line of a verdict.
+pub(crate) fn verdict_text(verdict: Verdict) -> Text
+    ensures { bytes_of result ≡ text_of_verdict verdict }
 {
-    let name = fault.name();
-    Ok(format!(in alloc; "refused {line} {name}\n")?.into_bytes())
-}
-
-/// The line of a verdict. That of a model or of a refutation takes no memory.
-pub(crate) fn verdict_text(
-    alloc: Global,
-    verdict: Verdict,
-) -> Result<CowSlice<'static, u8>, AllocError>
-    ensures ok { IfOk result (λ text. cow_slice_items text ≡ text_of_verdict verdict) }
-    ensures err { OnErr result (TakesMemory (Ending.Judged verdict)) }
-{
-    let text = match verdict {
-        Verdict::Model => return Ok(fixed(b"accepted model\n")),
-        Verdict::Refutation => return Ok(fixed(b"accepted refutation\n")),
-        Verdict::Progress(count) => progress_text(alloc, count)?,
-        Verdict::Rejected { line, reason } => rejected_text(alloc, line, reason)?,
-    };
-    Ok(CowSlice::Owned(text))
-}
-
-/// The line of accepted progress of so many learned clauses.
-fn progress_text(alloc: Global, count: u64) -> Result<Vec<u8>, AllocError>
-    ensures { IfOk result (λ text. text.items ≡ text_of_verdict (Verdict.Progress count)) }
-{
-    Ok(format!(in alloc; "accepted progress {count}\n")?.into_bytes())
-}
-
-/// The line of a rejection whose reason carries a number.
-fn numbered_text(
-    alloc: Global,
-    line: u64,
-    reason: Reason,
-    number: u32,
-) -> Result<Vec<u8>, AllocError>
-    ensures { IfOk result (λ text. text.items ≡ spaced (codes "rejected" ∷ decimal line ∷ reason_name reason ∷ decimal number ∷ [])) }
-{
-    let name = reason.name();
-    Ok(format!(in alloc; "rejected {line} {name} {number}\n")?.into_bytes())
-}
-
-/// The line of a rejection.
-fn rejected_text(alloc: Global, line: u64, reason: Reason) -> Result<Vec<u8>, AllocError>
-    ensures { IfOk result (λ text. text.items ≡ text_of_verdict (Verdict.Rejected line reason)) }
-{
-    let name = reason.name();
-    match reason {
-        Reason::ClauseFalse(number) => numbered_text(alloc, line, reason, number),
-        Reason::AtomWrong(number) => numbered_text(alloc, line, reason, number),
-        _ => Ok(format!(in alloc; "rejected {line} {name}\n")?.into_bytes()),
+    match verdict {
+        Verdict::Model => Text::Fixed(b"accepted model\n"),
+        Verdict::Refutation => Text::Fixed(b"accepted refutation\n"),
+        Verdict::Progress(count) => Text::Line(progress_line(count)),
+        Verdict::Rejected { line, reason } => Text::Line(rejected_line(line, reason)),
     }
 }

@@ -18,6 +18,8 @@ pub mod exit;
 pub mod given;
 /// What holds of the definitions alone.
 pub mod laws;
+/// Lines that take no memory.
+pub mod line;
 /// The whole program.
 pub mod run;
 /// Answers to problems.
@@ -30,6 +32,8 @@ pub mod summary;
 pub mod teaming;
 #[cfg(test)]
 mod tests;
+/// The text that a run writes.
+pub mod text;
 /// The words of a command line.
 pub mod words;
 /// Rows that were worked by hand, as the definitions compute them.
@@ -44,6 +48,8 @@ pub mod worked_cores;
 pub mod worked_judged;
 /// What is written with a status, worked by hand.
 pub mod worked_runs;
+/// What `team` answers and writes, worked by hand.
+pub mod worked_teams;
 
 use exit::{Exit, run_over};
 use given::SystemWords;

@@ -7,7 +7,7 @@ ghost use Rattle.mono_problem.specs.Instance.{Instance};
 ghost use Rattle.mono_problem.specs.WellFormed.{IsInstance};
 ghost use Rattle.mono_search.specs.Solving.{IsSolved};
 ghost use Rattle.mono_problem.specs.Assuming.{HasRoom};
-ghost use Rattle.mono_core.specs.Cores.{IsOutcome};
+ghost use Rattle.mono_core.specs.Cores.{IsCoreOutcome};
 ghost use Rattle.mono_cmd.specs.declared.command.TheConstants.{DEFAULT_BUDGET};
 ghost use Rattle.mono_cmd.specs.Solved.{IsSolution, IsNarrowing};
 
@@ -68,7 +68,7 @@ fn narrowed(problem: &Problem, assumed: &[Lit], outcome: CoreOutcome) -> CoreOut
     requires problem { IsInstance problem.now }
     requires literals { All (IsLitWithin MAX_VARS) assumed.now }
     requires room { HasRoom problem.now assumed.now }
-    requires outcome { IsOutcome problem.now DEFAULT_BUDGET assumed.now outcome }
+    requires outcome { IsCoreOutcome problem.now DEFAULT_BUDGET assumed.now outcome }
     ensures { IsNarrowing problem.now DEFAULT_BUDGET assumed.now result }
 {
     match outcome {

@@ -73,7 +73,7 @@ impl Summary {
         out.extend_from_slice(b"result ")?;
         out.extend_from_slice(result_word(&self.answer))?;
         out.extend_from_slice(b"\nverdict ")?;
-        out.extend_from_slice(verdict_text(alloc, self.verdict)?.as_slice())?;
+        out.extend_from_slice(verdict_text(self.verdict).as_slice())?;
         out.extend_from_slice(self.progress.as_slice())?;
         Ok(out)
     }

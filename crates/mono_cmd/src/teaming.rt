@@ -3,6 +3,7 @@
 ghost use Rattle.std.specs.Prelude.{◌≤◌, ℕ, IfOk, IsTrue};
 ghost use Rattle.mono_problem.specs.WellFormed.{IsInstance};
 ghost use Rattle.mono_steps.specs.Steps.{is_refutation};
+ghost use Rattle.mono_portfolio.specs.Ends.{IsRefutationOfTurn};
 ghost use Rattle.mono_portfolio.specs.Outcomes.{IsTeamOutcome};
 ghost use Rattle.mono_cmd.specs.declared.command.TheConstants.{MAX_WORKERS};
 ghost use Rattle.mono_cmd.specs.Teams.{IsTeamSolution};
@@ -34,7 +35,7 @@ pub fn team_answer(
     answer_of(alloc, problem, workers, rounds, outcome)
 }
 
-/// The outcome as an answer. A refutation is trimmed, and so is written as `solve` writes one; a board is as it is.
+/// The outcome as an answer. A refutation is trimmed, and so is written as `solve` writes one; the board of all rounds is as it is.
 fn answer_of(
     alloc: Global,
     problem: &Problem,
@@ -47,7 +48,7 @@ fn answer_of(
     ensures { IfOk result (IsTeamSolution problem.now workers rounds) }
 {
     match outcome {
-        TeamOutcome::Model(values) => Ok(Answer::Model(values)),
+        TeamOutcome::Model { values, board: _ } => Ok(Answer::Model(values)),
         TeamOutcome::Refutation(steps) => refutation(alloc, problem, steps.as_slice()),
         TeamOutcome::Board(board) => Ok(Answer::Progress(few_steps(board))),
     }
@@ -57,7 +58,8 @@ fn answer_of(
 fn refutation(alloc: Global, problem: &Problem, steps: &[Step]) -> Result<Answer, AllocError>
     requires problem { IsInstance problem.now }
     requires refutes { IsTrue (is_refutation problem.now steps.now) }
-    ensures { (workers rounds : ℕ) → IfOk result (IsTeamSolution problem.now workers rounds) }
+    ensures { (workers rounds : ℕ) → IsRefutationOfTurn problem.now workers rounds steps.now
+        → IfOk result (IsTeamSolution problem.now workers rounds) }
 {
     let steps = trimmed(alloc, problem, steps)?;
     Ok(Answer::Refutation(Row::from_vec(steps)))

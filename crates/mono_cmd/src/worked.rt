@@ -223,17 +223,18 @@ pub fn worked_writes()
     ensures other_text { ¬ Writes ending.TooLong status.TooLong (Some (codes "x")) (Some (codes "xread fault\n")) }
     ensures lost { ¬ Writes ending.TooLong status.TooLong (Some (codes "x")) (Some (codes "x")) }
     ensures prefix { Writes ending.TooLong status.WriteFault (Some (codes "x")) (Some (codes "xtoo")) }
-    ensures no_memory { Writes (ending.Refused 3 fault.UnknownWord) status.Memory (Some (codes "x")) (Some (codes "x")) }
+    ensures no_memory { Writes (ending.Solved (answer.Model [])) status.Memory (Some (codes "x")) (Some (codes "x")) }
     ensures no_memory_on_the_way { Writes ending.Memory status.Memory (Some (codes "x")) (Some (codes "x")) }
-    ensures written_without_memory { ¬ Writes (ending.Refused 3 fault.UnknownWord) status.Memory (Some (codes "x")) (Some (codes "xr")) }
+    ensures written_without_memory { ¬ Writes (ending.Solved (answer.Model [])) status.Memory (Some (codes "x")) (Some (codes "xs")) }
     ensures words_hidden { ¬ Writes ending.Words status.Memory (Some (codes "x")) (Some (codes "x")) }
     ensures read_fault_hidden { ¬ Writes ending.ReadFault status.Memory (Some (codes "x")) (Some (codes "x")) }
     ensures too_long_hidden { ¬ Writes ending.TooLong status.Memory (Some (codes "x")) (Some (codes "x")) }
     ensures model_hidden { ¬ Writes (ending.Judged verdict.Model) status.Memory (Some (codes "x")) (Some (codes "x")) }
     ensures refutation_hidden { ¬ Writes (ending.Judged verdict.Refutation) status.Memory (Some (codes "x")) (Some (codes "x")) }
     ensures print_hidden { ¬ Writes (ending.Printed []) status.Memory (Some (codes "x")) (Some (codes "x")) }
-    ensures verdict_with_a_number { Writes (ending.Judged (verdict.Progress 3)) status.Memory (Some (codes "x")) (Some (codes "x")) }
-    ensures other_verdict { Writes (ending.Judged (verdict.Rejected 2 reason.BadLine)) status.Memory (Some (codes "x")) (Some (codes "x")) }
+    ensures refusal_hidden { ¬ Writes (ending.Refused 3 fault.UnknownWord) status.Memory (Some (codes "x")) (Some (codes "x")) }
+    ensures progress_hidden { ¬ Writes (ending.Judged (verdict.Progress 3)) status.Memory (Some (codes "x")) (Some (codes "x")) }
+    ensures rejection_hidden { ¬ Writes (ending.Judged (verdict.Rejected 2 reason.BadLine)) status.Memory (Some (codes "x")) (Some (codes "x")) }
 
     ensures wrote { CheckWrote (Some (command.Check (codes "f") (codes "a"))) (Some ((codes "f", codes "") ∷ [])) (Some (codes "x"))
         (Some (codes "xaccepted model\n")) empty_problem (codes "accepted model\n") }

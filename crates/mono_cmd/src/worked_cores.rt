@@ -25,7 +25,7 @@ ghost use Rattle.mono_cmd.specs.Commands.{IsWithinRange, assumptions_of, command
 ghost use Rattle.mono_cmd.specs.CoreTexts.{core_line, need_text, needs_text, outcome_text};
 ghost use Rattle.mono_cmd.specs.Endings.{TakesMemory, status_of, text_of};
 ghost use Rattle.mono_cmd.specs.Solved.{IsNarrowing, judged_under, outcome_verdict};
-ghost use Rattle.mono_cmd.specs.Runs.{AreAlike, CheckWithWrote, EachReached, HasNoFaultWith, IsBeyond, IsCarriedOut, IsCoreBy, IsHeld, IsNarrowed, IsSolving, Narrows};
+ghost use Rattle.mono_cmd.specs.Runs.{AreAlike, CheckWithWrote, EachReached, HasNoFaultWith, HasNoRoom, IsCarriedOut, IsCoreBy, IsHeld, IsNarrowed, IsSolving, Narrows};
 ghost use Rattle.mono_cmd.specs.Worked.{empty_problem};
 
 /// Words that are assumptions.
@@ -98,11 +98,11 @@ pub fn worked_findings()
     ensures half_of_the_budget { IsNarrowing two_clauses 2 (pos 3 ∷ []) (outcome.Unknown first_learned) → ⊥ }
     ensures no_literal { IsNarrowing one_clause 1 (pos 0 ∷ []) (outcome.Model (true ∷ [])) → ⊥ }
 
-    ensures beyond_clauses { (p : Instance) → length p.clauses ≡ MAX_CLAUSES → IsBeyond p (pos 1 ∷ []) (ending.Refused 0 fault.TooMany) }
-    ensures beyond_literals { (p : Instance) → literals_total p ≡ MAX_LITERALS → IsBeyond p (pos 1 ∷ []) (ending.Refused 0 fault.TooMany) }
-    ensures room { IsBeyond empty_problem (pos 1 ∷ []) (ending.Refused 0 fault.TooMany) → ⊥ }
-    ensures line_is_named { (p : Instance) → IsBeyond p (pos 1 ∷ []) (ending.Refused 1 fault.TooMany) → ⊥ }
-    ensures other_fault { (p : Instance) → IsBeyond p (pos 1 ∷ []) (ending.Refused 0 fault.UnknownWord) → ⊥ }
+    ensures no_room_for_clauses { (p : Instance) → length p.clauses ≡ MAX_CLAUSES → HasNoRoom p (pos 1 ∷ []) (ending.Refused 0 fault.TooMany) }
+    ensures no_room_for_literals { (p : Instance) → literals_total p ≡ MAX_LITERALS → HasNoRoom p (pos 1 ∷ []) (ending.Refused 0 fault.TooMany) }
+    ensures room { HasNoRoom empty_problem (pos 1 ∷ []) (ending.Refused 0 fault.TooMany) → ⊥ }
+    ensures line_is_named { (p : Instance) → HasNoRoom p (pos 1 ∷ []) (ending.Refused 1 fault.TooMany) → ⊥ }
+    ensures other_fault { (p : Instance) → HasNoRoom p (pos 1 ∷ []) (ending.Refused 0 fault.UnknownWord) → ⊥ }
     ensures found_beyond { (p : Instance) → length p.clauses ≡ MAX_CLAUSES → IsNarrowed p (pos 1 ∷ []) (ending.Narrowed (outcome.Model [])) → ⊥ }
     ensures solved_alone { IsNarrowed one_clause (pos 1 ∷ []) (ending.Solved (answer.Model (true ∷ []))) → ⊥ }
 

@@ -4,12 +4,14 @@ ghost use Rattle.std.specs.Prelude.{◌≡◌, ℕ, ℤ, Bool, true, false, List
 ghost use Rattle.mono_io.specs.Worked.{steady_shelf, two_texts};
 ghost use Rattle.mono_problem.specs.Instance.{Instance};
 ghost use Rattle.mono_gnf.specs.Stands.{Stands};
+ghost use Rattle.mono_gnf.specs.declared.fault.GnfFault.TheVariants as fault;
 ghost use Rattle.mono_gen.specs.Generated.{generated};
 ghost use Rattle.mono_gen.specs.declared.kind.GenKind.TheVariants as kind;
 ghost use Rattle.mono_steps.specs.declared.step.Step.{Step};
 ghost use Rattle.mono_answer.specs.declared.answer.Answer.TheVariants as answer;
 ghost use Rattle.mono_answer.specs.declared.version.Version.TheVariants as version;
 ghost use Rattle.mono_check.specs.Verdicts.{IsVerdict};
+ghost use Rattle.mono_check.specs.declared.reason.Reason.TheVariants as reason;
 ghost use Rattle.mono_check.specs.declared.verdict.Verdict.TheVariants as verdict;
 ghost use Rattle.mono_best.specs.Asking.{asking, predicate_of};
 ghost use Rattle.mono_best.specs.Best.{IsBest};
@@ -22,19 +24,27 @@ ghost use Rattle.mono_cmd.specs.declared.asking.AskRefusal.TheVariants as refusa
 ghost use Rattle.mono_cmd.specs.declared.command.Command.TheVariants as command;
 ghost use Rattle.mono_cmd.specs.declared.ending.Ending.TheVariants as ending;
 ghost use Rattle.mono_cmd.specs.declared.status.Status.TheVariants as status;
+ghost use Rattle.mono_cmd.specs.declared.summary.Summary.{Summary};
+ghost use Rattle.mono_cmd.specs.declared.text.Text.TheVariants as text;
 ghost use Rattle.mono_cmd.specs.BestTexts.{best_text};
 ghost use Rattle.mono_cmd.specs.Endings.{TakesMemory};
 ghost use Rattle.mono_cmd.specs.Machines.{HasRun, Machine};
 ghost use Rattle.mono_cmd.specs.Promises.{RunView, Wrote};
 ghost use Rattle.mono_cmd.specs.Runs.{EachReached, IsBestBy, IsCarriedOut, IsHeld, IsJudgmentBy, IsOutOfMemory, SolvesGenerated};
 ghost use Rattle.mono_cmd.specs.Teams.{IsTeamTextBy};
+ghost use Rattle.mono_cmd.specs.Texts.{bytes_of};
 
-/// Memory isn't wanting for a text that is there already, nor for one of constants.
+/// Memory isn't wanting for a text that is there already, nor for one of constants or of one line.
 pub fn worked_memory()
     ensures printed { TakesMemory (ending.Printed (codes "p gnf 0 0\n")) → ⊥ }
     ensures bad_atom { TakesMemory (ending.Unasked refusal.BadAtom) → ⊥ }
     ensures bad_bound { TakesMemory (ending.Unasked refusal.BadBound) → ⊥ }
+    ensures refused { TakesMemory (ending.Refused 3 fault.UnknownWord) → ⊥ }
+    ensures progress { TakesMemory (ending.Judged (verdict.Progress 3)) → ⊥ }
+    ensures rejected { TakesMemory (ending.Judged (verdict.Rejected 2 (reason.ClauseFalse 5))) → ⊥ }
     ensures answer { TakesMemory (ending.Solved (answer.Model [])) }
+    ensures summary { (s : Summary) → TakesMemory (ending.Summed s) }
+    ensures memory { TakesMemory ending.Memory }
 
     ensures no_command { IsOutOfMemory None (steady_shelf two_texts [] None 0 0) (steady_shelf two_texts [] None 0 0) → ⊥ }
     ensures generated { IsOutOfMemory (Some (command.Gen kind.Grid 2 7 false)) (steady_shelf two_texts [] None 0 0) (steady_shelf two_texts [] None 0 0) }
@@ -42,6 +52,12 @@ pub fn worked_memory()
         (steady_shelf two_texts (codes "f") (Some 0) 1 0) → ⊥ }
     ensures answer_begun { IsOutOfMemory (Some (command.Check (codes "f") (codes "g"))) (steady_shelf ((codes "f", codes "x") ∷ []) [] None 0 0)
         (steady_shelf ((codes "f", codes "x") ∷ []) (codes "g") (Some 0) 2 0) → ⊥ }
+{}
+
+/// The bytes of a line are those before its room.
+pub fn worked_lines()
+    ensures line { bytes_of (text.Line (record { bytes = codes "x\n"; spare = codes "y" })) ≡ codes "x\n" }
+    ensures room { bytes_of (text.Line (record { bytes = codes "x\n"; spare = codes "y" })) ≡ codes "x\ny" → ⊥ }
 {}
 
 /// What is written with a status, and nothing before it.

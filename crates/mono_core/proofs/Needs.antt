@@ -14,7 +14,7 @@ use Rattle.mono_steps.proofs.Ranks.{length_pick, rank_le}
 use Rattle.mono_search.specs.Outcomes.{HasModel}
 use Rattle.mono_steps.specs.New.{IsProgress}
 use Rattle.mono_problem.specs.Assuming.{assuming, HasRoom}
-use Rattle.mono_core.specs.Cores.{AreNeeds, AreAmong, AreFound, IsFoundAt, IsTried, IsKeptNeed, IsRefuted, IsWideModel, others_of}
+use Rattle.mono_core.specs.Cores.{AreNeeds, AreAmong, AreFound, IsFoundAt, IsTried, IsRefuted, IsWideModel, others_of}
 use Rattle.mono_core.proofs.Fewer.{wide_fewer}
 
 -- ---- one need more
@@ -36,12 +36,12 @@ needs_skip N j (true ∷ kept) (m ∷ ns) h = (h.0, needs_skip N (suc j) kept ns
 flag_at : (kept : List Bool) (k : ℕ) (b : Bool) → k < length kept → is_set kept k ≡ b → take (k + 1) kept ≡ take k kept ++ b ∷ []
 flag_at kept k b lt is = take_more kept k false lt ∙ ap (λ (c : Bool). take k kept ++ c ∷ []) is
 
-pub need_more : (N : ℕ → Need → Type 0) (kept : List Bool) (k : ℕ) (ns : List Need) (n : Need) → k < length kept → AreNeeds N 0 (take k kept) ns → IsKeptNeed N kept k (Some n) → AreNeeds N 0 (take (k + 1) kept) (ns ++ n ∷ [])
-need_more N kept k ns n lt h one =
+pub need_more : (N : ℕ → Need → Type 0) (kept : List Bool) (k : ℕ) (ns : List Need) (n : Need) → k < length kept → AreNeeds N 0 (take k kept) ns → is_set kept k ≡ true → N k n → AreNeeds N 0 (take (k + 1) kept) (ns ++ n ∷ [])
+need_more N kept k ns n lt h set one =
     let len : k ≡ 0 + length (take k kept) = simp length-take (omega (arith, lt)) in
-    subst (λ (ks : List Bool). AreNeeds N 0 ks (ns ++ n ∷ [])) (sym (flag_at kept k true lt one.0)) (needs_push N 0 (take k kept) ns n h (subst (λ (i : ℕ). N i n) len one.1))
+    subst (λ (ks : List Bool). AreNeeds N 0 ks (ns ++ n ∷ [])) (sym (flag_at kept k true lt set)) (needs_push N 0 (take k kept) ns n h (subst (λ (i : ℕ). N i n) len one))
 
-pub need_none : (N : ℕ → Need → Type 0) (kept : List Bool) (k : ℕ) (ns : List Need) → k < length kept → AreNeeds N 0 (take k kept) ns → IsKeptNeed N kept k None → AreNeeds N 0 (take (k + 1) kept) ns
+pub need_none : (N : ℕ → Need → Type 0) (kept : List Bool) (k : ℕ) (ns : List Need) → k < length kept → AreNeeds N 0 (take k kept) ns → is_set kept k ≡ false → AreNeeds N 0 (take (k + 1) kept) ns
 need_none N kept k ns lt h off = subst (λ (ks : List Bool). AreNeeds N 0 ks ns) (sym (flag_at kept k false lt off)) (needs_skip N 0 (take k kept) ns h)
 
 -- ---- fewer flags

@@ -53,10 +53,10 @@ pub record IsCore (p : Instance) (budget : ℕ) (assumed lits : List ℤ) (steps
   pub refutes : IsTrimRefutation (assuming p lits) steps
   pub needed : AreNeeds (IsNeed p budget assumed kept) 0 kept needs
 
-abbrev pub IsOutcome : Instance → ℕ → List ℤ → CoreOutcome → Type 0
-IsOutcome p budget assumed (outcome.Model values) = HasModel (assuming p assumed) values
-IsOutcome p budget assumed (outcome.Core lits steps needs) = IsCore p budget assumed lits steps needs
-IsOutcome p budget assumed (outcome.Unknown steps) = IsProgress (assuming p assumed) budget steps
+abbrev pub IsCoreOutcome : Instance → ℕ → List ℤ → CoreOutcome → Type 0
+IsCoreOutcome p budget assumed (outcome.Model values) = HasModel (assuming p assumed) values
+IsCoreOutcome p budget assumed (outcome.Core lits steps needs) = IsCore p budget assumed lits steps needs
+IsCoreOutcome p budget assumed (outcome.Unknown steps) = IsProgress (assuming p assumed) budget steps
 
 -- ---- on the way
 
@@ -76,19 +76,11 @@ pub record IsWideModel (p : Instance) (values : List Bool) : Type 0 where
   pub satisfies : Satisfies p (value_in values)
 
 -- what was found of the assumption at j: it isn't kept, or there is a need, perhaps of a core from which more was dropped since
-abbrev pub IsEarlyNeed : Instance → ℕ → List ℤ → List Bool → ℕ → Need → Type 0
-IsEarlyNeed p budget assumed kept j (need.Model values) = IsWideModel (assuming p (others_of assumed kept j)) values
-IsEarlyNeed p budget assumed kept j (need.Tried tried steps) = IsTried p budget assumed kept j tried steps
-
 abbrev pub IsFoundAt : Instance → ℕ → List ℤ → List Bool → ℕ → Option Need → Type 0
 IsFoundAt p budget assumed kept j None = is_set kept j ≡ false
-IsFoundAt p budget assumed kept j (Some n) = IsEarlyNeed p budget assumed kept j n
+IsFoundAt p budget assumed kept j (Some (need.Model values)) = IsWideModel (assuming p (others_of assumed kept j)) values
+IsFoundAt p budget assumed kept j (Some (need.Tried tried steps)) = IsTried p budget assumed kept j tried steps
 
 -- what was found of the last assumptions, the last one first
 pub record AreFound (p : Instance) (budget : ℕ) (assumed : List ℤ) (kept : List Bool) (found : List (Option Need)) : Type 0 where
   pub at : (i : ℕ) (o : Option Need) → i < length found → IsFoundAt p budget assumed kept (length assumed - 1 - i) (slice_index_or found i o)
-
--- the need of the assumption at j, where it is kept
-abbrev pub IsKeptNeed : (ℕ → Need → Type 0) → List Bool → ℕ → Option Need → Type 0
-IsKeptNeed N kept j None = is_set kept j ≡ false
-IsKeptNeed N kept j (Some n) = (is_set kept j ≡ true) × N j n

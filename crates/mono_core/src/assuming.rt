@@ -13,7 +13,7 @@ use std::alloc::AllocError;
 pub fn has_room(problem: &Problem, lits: &[Lit]) -> bool
     ensures { IsTrue result ↔ HasRoom problem.now lits.now }
 {
-    let _ = problem.vars();
+    problem.known();
     lits.len() <= (MAX_CLAUSES - problem.clause_count()) as usize
         && lits.len() <= (MAX_LITERALS - problem.literal_count()) as usize
 }

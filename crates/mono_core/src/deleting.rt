@@ -7,7 +7,7 @@ ghost use Rattle.mono_theory.specs.Owners.{facts_of};
 ghost use Rattle.mono_steps.specs.Trimmed.{IsTrimRefutation};
 ghost use Rattle.mono_search.specs.Solving.{MakesTheories};
 ghost use Rattle.mono_problem.specs.Assuming.{assuming, HasRoom};
-ghost use Rattle.mono_core.specs.Cores.{IsRefuted, AreAmong, IsFoundAt, IsOutcome, AreFound};
+ghost use Rattle.mono_core.specs.Cores.{IsRefuted, AreAmong, IsFoundAt, IsCoreOutcome, AreFound};
 
 use crate::needing::needs_of;
 use crate::outcome::{CoreOutcome, Need};
@@ -45,7 +45,7 @@ pub fn core<T: Theory, F: Fn(&Problem) -> Result<Vec<T>, AllocError>>(
     requires makes { MakesTheories (F.post make.now) (λ ts. facts_of T.graph T.atoms T.seen ts.items) }
     requires room { HasRoom problem.now assumed.now }
     requires budget { 1 ≤ budget }
-    ensures { IfOk result (IsOutcome problem.now budget assumed.now) }
+    ensures { IfOk result (IsCoreOutcome problem.now budget assumed.now) }
 {
     match solve_under(alloc, problem, make, assumed, &[], budget)? {
         Solved::Model(values) => Ok(CoreOutcome::Model(values)),
@@ -68,7 +68,7 @@ fn delete_each<T: Theory, F: Fn(&Problem) -> Result<Vec<T>, AllocError>>(
     requires room { HasRoom problem.now assumed.now }
     requires budget { 1 ≤ budget }
     requires refutes { IsTrimRefutation (assuming problem.now assumed.now) steps }
-    ensures { IfOk result (IsOutcome problem.now budget assumed.now) }
+    ensures { IfOk result (IsCoreOutcome problem.now budget assumed.now) }
 {
     let all = vec![in alloc; true; assumed.len()]?;
     let refuted = shrunk(alloc, problem, assumed, all, steps)?;
@@ -146,7 +146,7 @@ fn with_needs(
 ) -> Result<CoreOutcome, AllocError>
     requires refuted { IsRefuted problem.now assumed.now refuted.kept.items refuted.steps }
     requires all { length found.items ≡ length assumed.now }
-    ensures { (budget : ℕ) → AreFound problem.now budget assumed.now refuted.kept.items found.items → IfOk result (IsOutcome problem.now budget assumed.now) }
+    ensures { (budget : ℕ) → AreFound problem.now budget assumed.now refuted.kept.items found.items → IfOk result (IsCoreOutcome problem.now budget assumed.now) }
 {
     let Refuted { kept, steps } = refuted;
     let lits = picked(alloc, kept.as_slice(), assumed)?;

@@ -1,9 +1,10 @@
 //! The needs of the assumptions that are kept.
 
-ghost use Rattle.std.specs.Prelude.{◌≡◌, ◌<◌, ℕ, length, IfOk};
+ghost use Rattle.std.specs.Prelude.{◌≡◌, ◌<◌, ℕ, true, false, length, IfOk, MatchOption};
 ghost use Rattle.mono_search.specs.Outcomes.{HasModel};
 ghost use Rattle.mono_problem.specs.Assuming.{assuming};
-ghost use Rattle.mono_core.specs.Cores.{AreNeeds, IsNeed, AreFound, IsFoundAt, IsKeptNeed, IsWideModel, others_of};
+ghost use Rattle.mono_steps.specs.Needed.{is_set};
+ghost use Rattle.mono_core.specs.Cores.{AreNeeds, IsNeed, AreFound, IsFoundAt, IsWideModel, others_of};
 
 use crate::assuming::greatest_var;
 use crate::deleting::cleared;
@@ -38,7 +39,7 @@ pub(crate) fn needs_of(
     Ok(needs)
 }
 
-/// The need of the assumption at a place, where it is kept.
+/// The need of the assumption at a place: `None` exactly where it isn't kept.
 fn kept_need(
     alloc: Global,
     problem: &Problem,
@@ -50,7 +51,8 @@ fn kept_need(
     requires kept { length kept.now.items ≡ length assumed.now }
     requires place { place < length assumed.now }
     ensures { (budget : ℕ) → IsFoundAt problem.now budget assumed.now kept.now.items place found
-        → IfOk result (IsKeptNeed (IsNeed problem.now budget assumed.now kept.now.items) kept.now.items place) }
+        → IfOk result (λ need. MatchOption need (is_set kept.now.items place ≡ false)
+        (λ n. (is_set kept.now.items place ≡ true) × IsNeed problem.now budget assumed.now kept.now.items place n)) }
 {
     let Some(need) = found else {
         return Ok(None);

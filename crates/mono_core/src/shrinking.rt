@@ -33,7 +33,7 @@ pub(crate) fn shrunk(
     ensures refuted { IfOk result (λ r. IsRefuted problem.now assumed.now r.kept.items r.steps) }
     ensures fewer { IfOk result (λ r. AreAmong r.kept.items kept.items) }
 {
-    let _ = problem.vars();
+    problem.known();
     let count = u64::from(problem.clause_count());
     let lits = picked(alloc, kept.as_slice(), assumed)?;
     let named = named_by(alloc, count, lits.len(), steps.as_slice())?;

@@ -4,7 +4,7 @@ ghost use Rattle.std.specs.Prelude.{◌≡◌, ℕ, true, false, List, [], ◌�
 ghost use Rattle.mono_steps.specs.declared.step.Step.{Step};
 ghost use Rattle.mono_steps.specs.WorkedLemmas.{minus, chain};
 ghost use Rattle.mono_search.specs.Worked.{both_signs};
-ghost use Rattle.mono_core.specs.Cores.{AreNeeds, IsCore, IsNeed, IsOutcome, IsTried, others_of};
+ghost use Rattle.mono_core.specs.Cores.{AreNeeds, IsCore, IsNeed, IsCoreOutcome, IsTried, others_of};
 ghost use Rattle.mono_core.specs.Dropped.{is_over};
 ghost use Rattle.mono_core.specs.Minimal.{IsMinimal, IsModelNeed};
 ghost use Rattle.mono_core.specs.Worked.{one_clause};
@@ -78,10 +78,10 @@ pub fn assumptions_kept()
 
 /// A model is one under all assumptions, and what is unknown spent the budget.
 pub fn outcomes()
-    ensures model { IsOutcome one_clause 1 (pos 1 ∷ []) (outcome.Model (true ∷ [])) }
-    ensures of_the_problem_alone { IsOutcome one_clause 1 (minus 1 ∷ []) (outcome.Model (true ∷ [])) → ⊥ }
-    ensures spent { IsOutcome one_clause 0 (minus 1 ∷ []) (outcome.Unknown []) }
-    ensures unspent { IsOutcome one_clause 1 (minus 1 ∷ []) (outcome.Unknown []) → ⊥ }
+    ensures model { IsCoreOutcome one_clause 1 (pos 1 ∷ []) (outcome.Model (true ∷ [])) }
+    ensures of_the_problem_alone { IsCoreOutcome one_clause 1 (minus 1 ∷ []) (outcome.Model (true ∷ [])) → ⊥ }
+    ensures spent { IsCoreOutcome one_clause 0 (minus 1 ∷ []) (outcome.Unknown []) }
+    ensures unspent { IsCoreOutcome one_clause 1 (minus 1 ∷ []) (outcome.Unknown []) → ⊥ }
 {}
 
 /// Each member of a minimal set is needed, and the whole set has no model.

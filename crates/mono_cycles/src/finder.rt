@@ -9,7 +9,7 @@ ghost use Rattle.mono_graph.specs.Digraph.{IsPartOf};
 ghost use Rattle.mono_cycles.specs.Searches.{HasRoom};
 ghost use Rattle.mono_cycles.specs.Found.{IsCycleOrOrder, HasKnownNames};
 
-use crate::search::Search;
+use crate::search::CycleSearch;
 use mono_graph::{Graph, Part};
 use std::alloc::{AllocError, Global};
 use std::marker::Model;
@@ -28,7 +28,7 @@ pub enum CycleOrOrder {
 /// A search costs the nodes and the edges. The room for it is kept from call to call.
 #[derive(Drop)]
 pub struct CycleFinder {
-    search: Search,
+    search: CycleSearch,
 }
 
 impl Model for CycleFinder {
@@ -48,7 +48,7 @@ impl CycleFinder {
         ensures { IfOk result (λ finder. finder ≡ nodes) }
     {
         Ok(CycleFinder {
-            search: Search::new(alloc, nodes)?,
+            search: CycleSearch::new(alloc, nodes)?,
         })
     }
 
@@ -67,7 +67,7 @@ impl CycleFinder {
 
 fn find(
     alloc: Global,
-    search: &mut Search,
+    search: &mut CycleSearch,
     graph: &Graph,
     part: &Part,
 ) -> Result<CycleOrOrder, AllocError>

@@ -71,7 +71,7 @@ fn close(
     ensures capacity { vec_capacity cycle.old ≤ vec_capacity cycle.new }
 {
     // The edges of a graph lead between its nodes.
-    let _ = graph.nodes();
+    graph.known();
     cycle.clear();
     add(cycle, closing);
     behind.walk_on(graph, part, graph.edge(closing).to, cycle);
@@ -121,7 +121,7 @@ impl KeptOrder {
         ensures stays { result ≡ false → self.new.order ≡ self.old.order }
     {
         // The edges of a graph lead between its nodes.
-        let _ = graph.nodes();
+        graph.known();
         let edge = graph.edge(place);
         let low = self.ranks[edge.to as usize];
         let high = self.ranks[edge.from as usize];

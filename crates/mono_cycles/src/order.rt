@@ -102,7 +102,7 @@ fn holds(graph: &Graph, part: &Part, ranks: &mut [usize], nodes: &[u32]) -> bool
     ensures { result ≡ is_order_of graph.now part.now nodes.now }
 {
     // The edges of a graph lead between its nodes.
-    let _ = graph.nodes();
+    graph.known();
     if !rank(ranks, nodes) {
         return false;
     }

@@ -15,7 +15,7 @@ use std::alloc::{AllocError, Global};
 
 /// What is known of the nodes so far.
 #[derive(Drop)]
-pub struct Search {
+pub struct CycleSearch {
     /// By node: which of the edges that enter it is looked at next. Those before it are absent or begin at nodes that are done.
     pub next: Vec<usize>,
     /// By node: whether it is on the path.
@@ -77,12 +77,12 @@ fn close(
     Ok(cycle)
 }
 
-impl Search {
+impl CycleSearch {
     /// Room for this many nodes.
     pub fn new(alloc: Global, nodes: u32) -> Result<Self, AllocError>
         ensures { IfOk result (HasRoom nodes) }
     {
-        Ok(Search {
+        Ok(CycleSearch {
             next: vec![in alloc; 0; nodes as usize]?,
             on_path: vec![in alloc; false; nodes as usize]?,
             done: vec![in alloc; false; nodes as usize]?,
@@ -173,7 +173,7 @@ impl Search {
             × (has self.old.order.items (edge_at graph.now k).from ≡ false)) }
     {
         // The edges of a graph lead between its nodes.
-        let _ = graph.nodes();
+        graph.known();
         let edges = graph.entering(node);
         let first = self.next[node as usize];
         let at = next_due(graph, part, &self.done, edges, first);
@@ -202,7 +202,7 @@ impl Search {
         ensures searched { IfOk result (IsSearched graph.now part.now root self.old self.new) }
     {
         // The edges of a graph lead between its nodes.
-        let _ = graph.nodes();
+        graph.known();
         self.enter(root, 0)?;
         'back: while let Some(node) = self.last() {
             match self.next_edge(graph, part, node) {

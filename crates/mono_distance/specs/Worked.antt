@@ -50,7 +50,7 @@ row_of_labels labels = record { limit = limit.Weight (pos 7); cap = 9; labels = 
 -- the atom's row has these labels. There is another row before it
 abbrev pub rows_with : ℕ → List ℕ → EitherSide SureLabels
 rows_with looked labels = side.Rows (record {
-  bounds = record { vars = []; under = []; over = [] };
+  part = [];
   looked = looked;
   rows = record {
     rows = record { rows = row_of_labels (3 ∷ 3 ∷ []) ∷ row_of_labels labels ∷ []; row_of = 1 ∷ []; lasts = 1 ∷ [] };
@@ -105,7 +105,7 @@ tree_view r rows = record { rows = record { nodes = 2; rows = rows }; row_of = r
 
 abbrev pub trees_with : ℕ → Option ℕ → Option ℕ → Ways → EitherSide PossibleView
 trees_with looked since lost ways = side.Rows (record {
-  bounds = record { vars = []; under = []; over = [] };
+  part = [];
   looked = looked;
   rows = tree_view 1 (tree_rows (to_node_1 ∷ []) since lost ways);
   due = [];

@@ -166,6 +166,8 @@ impl Kind for Distance {
 
     const MOST_FOLLOWED: u32 = 100;
 
+    const LEAST_FOLLOWED: u32 = 0;
+
     fn with_nodes(alloc: Global, count: u32) -> Result<Self, AllocError> {
         let finder = WalkFinder::new(alloc, count)?;
         let mender = WalkMender::new(alloc, count)?;

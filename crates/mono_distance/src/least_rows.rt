@@ -18,9 +18,9 @@ use crate::distance::{Distance, what_is_asked};
 use crate::sources::limits_of;
 use mono_base::{Lit, Worklist};
 use mono_dynamic::{LeastCosts, Sources};
-use mono_graph::Limit;
+use mono_graph::{Limit, Part};
 use mono_theory::walks::walk_evidence;
-use mono_theory::{Asked, Bounds, Evidence, Frame, Rows, SureRows, last_nodes, sources_of};
+use mono_theory::{Asked, Evidence, Frame, Rows, SureRows, last_nodes, sources_of};
 use std::alloc::{AllocError, Global};
 use std::marker::Model;
 
@@ -126,12 +126,12 @@ impl Rows<Distance> for LeastRows {
     fn look_at(
         &mut self,
         frame: &Frame,
-        bounds: &Bounds,
+        part: &Part,
         looked: usize,
         lit: Lit,
         due: &mut Worklist,
     ) -> Result<(), AllocError> {
-        self.rows.look_at(frame, bounds, looked, lit, due)?;
+        self.rows.look_at(frame, part, looked, lit, due)?;
         Ok(())
     }
 
@@ -139,7 +139,7 @@ impl Rows<Distance> for LeastRows {
         &mut self,
         alloc: Global,
         frame: &Frame,
-        bounds: &Bounds,
+        part: &Part,
         looked: usize,
         due: &mut Worklist,
     ) -> Result<(), AllocError> {

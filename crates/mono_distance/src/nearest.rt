@@ -5,7 +5,7 @@
 //! against a predicate in the greater part is evidence in the part itself. Which edges are put in is free: a walk within
 //! the bound shows itself in the search.
 
-ghost use Rattle.std.specs.Prelude.{◌≡◌, ◌<◌, IfOk, length};
+ghost use Rattle.std.specs.Prelude.{◌≡◌, ◌<◌, ℕ, All, IfOk, length};
 ghost use Rattle.mono_graph.specs.Digraph.{IsPartOf, IsSubpart};
 ghost use Rattle.mono_paths.specs.Found.{HasBound};
 
@@ -14,7 +14,26 @@ use mono_graph::{Graph, Limit, Part};
 use std::alloc::{AllocError, Global};
 
 /// How often a node is taken up, on average, before the rest is left out.
-const ROUNDS: u32 = 8;
+const ROUNDS: usize = 8;
+
+/// A node has this cost and waits, unless it had one that is as low.
+fn lower(
+    costs: &mut Vec<u64>,
+    waiting: &mut Vec<u32>,
+    node: u32,
+    cost: u64,
+) -> Result<(), AllocError>
+    requires { node < length costs.old.items }
+    ensures len { length costs.new.items ≡ length costs.old.items }
+    ensures waiting { (n : ℕ) → node < n → All (λ u. u < n) waiting.old.items → All (λ u. u < n) waiting.new.items }
+{
+    if costs[node as usize] <= cost {
+        return Ok(());
+    }
+    costs[node as usize] = cost;
+    waiting.push(node)?;
+    Ok(())
+}
 
 /// By node, what some walk of present edges to the last one costs, or one more than the bound where none was found that
 /// costs less.
@@ -34,29 +53,20 @@ fn costs_to(
     let others = others_of(limit);
     let mut costs = vec![in alloc; others; count as usize]?;
     let mut waiting = Vec::new(alloc);
-    let mut at: usize = 0;
-    costs[last as usize] = 0;
-    waiting.push(last)?;
-    for _round in 0..u64::from(count) * u64::from(ROUNDS) {
+    lower(&mut costs, &mut waiting, last, 0)?;
+    for at in 0..count as usize * ROUNDS {
         if at >= waiting.len() {
-            return Ok(costs);
+            break;
         }
         let node = waiting[at];
-        // Each node that waits is one of the graph: this only spares the proof of it.
-        if node >= count {
-            return Ok(costs);
-        }
-        at += 1;
         let cost = costs[node as usize];
         for place in graph.entering(node) {
-            if part.has(*place) {
-                let edge = graph.edge(*place);
-                let through = cost.saturating_add(limit.cost_of(edge));
-                if through < costs[edge.from as usize] {
-                    costs[edge.from as usize] = through;
-                    waiting.push(edge.from)?;
-                }
+            if !part.has(*place) {
+                continue;
             }
+            let edge = graph.edge(*place);
+            let through = cost.saturating_add(limit.cost_of(edge));
+            lower(&mut costs, &mut waiting, edge.from, through)?;
         }
     }
     Ok(costs)

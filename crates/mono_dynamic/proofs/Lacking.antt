@@ -1,9 +1,9 @@
 -- What a tree of walks to some nodes tells while edges go and come back.
 use Rattle.std.proofs.Common.{◌≡◌, ℕ, ◌+◌, ◌<◌, ◌≤◌, not, cond, Bool, true, false, List, [], ◌∷◌, length, map, get_or, int_lt, pos, refl, sym, ap, subst, ◌∙◌, inl, inr, arith, Option, None, Some}
-use Rattle.std.specs.Prelude.{IsTrue, IfSome, All}
+use Rattle.std.specs.Prelude.{IsTrue, IfSome, All, ◌↔◌}
 use Rattle.std.specs.Option.{is_some, is_none}
 use Rattle.std.specs.List.{AllZip}
-use Rattle.std.proofs.lemmas.Bool.{cases_lt, cases_Bool, le-leb, lt-leb, and_parts, and_from, both_ways, not-true}
+use Rattle.std.proofs.lemmas.Bool.{cases_lt, cases_Bool, le-leb, lt-leb, and_parts, and_from, both_ways, not-true, not-false, not_from_true}
 use Rattle.std.proofs.lemmas.List.{get_or-map, length-map}
 use Rattle.std.proofs.lemmas.List.Elements.{length_all_zip, AllZip-get_or}
 use Rattle.mono_graph.specs.Digraph.{Digraph, present, has, IsSubpart}
@@ -223,3 +223,10 @@ pub sized_new : (n m : ℕ) (sources : List CostSource) (rows : List Targets) �
 sized_new n m sources rows is same i lt =
     let low : i < length sources = omega (arith, lt, ap length is, length-map sources (unsearched n)) in
     ap (λ (rs : List Targets). (targets_at rs i).ways.tree.nodes) is ∙ (ap (λ (r : Targets). r.ways.tree.nodes) (get_or-map (unsearched n) sources i some_source no_targets low) ∙ sym same)
+
+-- nothing is lacking after a search exactly where the tree has all of the targets
+pub none_lacks_where_all : (whole : Bool) (w : Ways) (targets : List WalkTarget) → IsTrue whole ↔ All (λ t. IsTrue (has_target w t)) targets → IsTrue whole ↔ All (λ t. not (has_target w t) ≡ false) targets
+none_lacks_where_all whole w targets h = (
+  λ yes i d lt. not_from_true (has_target w (get_or targets i d)) (h.0 yes i d lt),
+  λ none. h.1 (λ i d lt. not-false (has_target w (get_or targets i d)) (none i d lt)),
+)

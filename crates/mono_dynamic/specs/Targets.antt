@@ -1,5 +1,5 @@
 -- Which targets are reached from a source in a part that loses edges and gets the last of them back.
-use Rattle.std.specs.Prelude.{◌≡◌, ◌≢◌, ℕ, ◌+◌, ◌<◌, ◌≤◌, ◌&&◌, not, Bool, true, false, List, [], length, slice_index_or, Option, None, Some, IfSome, IsTrue, All, nat_le, if◌then◌else◌}
+use Rattle.std.specs.Prelude.{◌≡◌, ◌≢◌, ℕ, ◌+◌, ◌<◌, ◌≤◌, ◌&&◌, not, ◌↔◌, Bool, true, false, List, [], length, slice_index_or, Option, None, Some, IfSome, IsTrue, All, nat_le, if◌then◌else◌}
 use Rattle.std.specs.Option.{is_some, is_none}
 use Rattle.mono_graph.specs.Digraph.{Digraph, present, has, IsSubpart}
 use Rattle.mono_graph.specs.Walks.{is_path}
@@ -87,10 +87,10 @@ pub record IsSearchedRow (g : Digraph) (P : List Bool) (number : ℕ) (old new :
   pub targets : new.targets ≡ old.targets
   pub told : (parts : ℕ → List Bool) → parts number ≡ P → OnlyShrink parts number → AreTold g parts number new
 
--- of each target it is known whether it is reached. Whether all were
+-- of each target it is known whether it is reached. Whether all are
 pub record IsSettledBy (whole : Bool) (old new : Targets) : Type 0 where
   pub settled : is_settled new ≡ true
-  pub all : IsTrue whole → All (λ t. is_lacking new t ≡ false) old.targets
+  pub all : IsTrue whole ↔ All (λ t. is_lacking new t ≡ false) old.targets
 
 -- of the rows this one alone has changed
 pub record IsOneChanged (Is : Targets → Targets → Type 0) (olds news : List Targets) (i : ℕ) : Type 0 where

@@ -5,7 +5,7 @@
 //! step, so going back puts it there again, the last change first. Each change names its edge and the change that gave the
 //! start of the edge its label, so a walk that costs what the label says is read off by going back over them.
 
-ghost use Rattle.std.specs.Prelude.{◌≡◌, ◌+◌, ◌<◌, ◌≤◌, ◌==◌, ◌&&◌, ◌||◌, ◌⊎◌, ◌∷◌, [], ℕ, Bool, List, All, IfOk, IsTrue, OnOk, OnErr, length, replicate, slice_set};
+ghost use Rattle.std.specs.Prelude.{◌≡◌, ◌+◌, ◌<◌, ◌≤◌, ◌==◌, ◌&&◌, ◌⊎◌, ◌∷◌, [], ℕ, Bool, List, All, IfOk, IsTrue, OnOk, OnErr, length, replicate, slice_set};
 ghost use Rattle.mono_graph.specs.Digraph.{Digraph, edge_at, present, IsPartOf};
 ghost use Rattle.mono_graph.specs.Walks.{is_walk, cost_along};
 ghost use Rattle.mono_dynamic.specs.Arrivals.{IsGrown, GrowsAfter};
@@ -219,7 +219,7 @@ impl LeastCosts {
             → IsTrue (is_lightest_by graph.now part.now self.now.limit self.now.labels k) → IsTrue (present light.new k) }
     {
         for place in graph.leaving(node) {
-            put_if(light, *place, self.is_lightest(graph, part, *place));
+            light.put_if(*place, self.is_lightest(graph, part, *place));
         }
     }
 
@@ -249,17 +249,6 @@ impl LeastCosts {
             self.put_leaving(graph, part, change.node, &mut light);
         }
         Ok(light)
-    }
-}
-
-/// Puts the place into the part where that is asked for.
-fn put_if(part: &mut Part, place: u32, asked: bool)
-    requires { place < length part.old }
-    ensures size { length part.new ≡ length part.old }
-    ensures places { (k : ℕ) → present part.new k ≡ ((k == place && asked) || present part.old k) }
-{
-    if asked {
-        part.put(place);
     }
 }
 

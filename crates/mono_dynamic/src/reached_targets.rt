@@ -5,7 +5,7 @@
 //! those that it has are reached as long as its edges are there: so a step costs a look at its edges. Where an edge
 //! of the tree goes, another search is needed, unless that edge comes back before.
 
-ghost use Rattle.std.specs.Prelude.{◌≡◌, ◌+◌, ◌≤◌, ◌<◌, ◌++◌, ◌∷◌, [], ℕ, List, Bool, true, false, None, Some, All, IfOk, IsTrue, OnErr, OnOk, if◌then◌else◌, length};
+ghost use Rattle.std.specs.Prelude.{◌≡◌, ◌↔◌, ◌+◌, ◌≤◌, ◌<◌, ◌++◌, ◌∷◌, [], ℕ, List, Bool, true, false, None, Some, All, IfOk, IsTrue, OnErr, OnOk, if◌then◌else◌, length};
 ghost use Rattle.mono_graph.specs.Digraph.{Digraph, has, IsPartOf};
 ghost use Rattle.mono_dynamic.specs.declared.walk_target.WalkTarget.{WalkTarget};
 ghost use Rattle.mono_dynamic.specs.Arrivals.{IsTree};
@@ -68,8 +68,8 @@ fn known_since(whole: bool, number: u32) -> u32
 fn rests_on_any(tree: &SearchTree, graph: &Graph, places: &[u32]) -> bool
     requires size { tree.now.tree.nodes ≡ graph.now.nodes }
     requires places { All (λ k. k < length graph.now.edges) places.now }
-    ensures { result ≡ false → (P : List Bool) (k : ℕ) → IsTree graph.now P tree.now.tree.source tree.now.tree.arrivals → IsTrue (has places.now k)
-        → RestsOn tree.now.tree.arrivals k → ⊥ }
+    ensures { (P : List Bool) → IsTree graph.now P tree.now.tree.source tree.now.tree.arrivals
+        → IsTrue result ↔ ((k : ℕ) × IsTrue (has places.now k) × RestsOn tree.now.tree.arrivals k) }
 {
     for place in places {
         if tree.rests_on(graph, *place) {
@@ -82,7 +82,7 @@ fn rests_on_any(tree: &SearchTree, graph: &Graph, places: &[u32]) -> bool
 /// Whether the tree has all of these targets.
 fn has_all(tree: &SearchTree, targets: &[WalkTarget]) -> bool
     requires { All (IsTargetOf tree.now) targets.now }
-    ensures { IsTrue result → All (λ t. IsTrue (has_target tree.now t)) targets.now }
+    ensures { IsTrue result ↔ All (λ t. IsTrue (has_target tree.now t)) targets.now }
 {
     for target in targets {
         if !tree.has(*target) {

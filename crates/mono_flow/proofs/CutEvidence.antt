@@ -10,7 +10,6 @@ use Rattle.mono_graph.proofs.CutsBoundFlows.{total, total_is}
 use Rattle.mono_graph.proofs.Membership.{filter_has, has_filter, range_has}
 use Rattle.mono_graph.proofs.Places.{present_below}
 use Rattle.mono_graph.proofs.WeightSums.{sum_within}
-use Rattle.mono_flows.proofs.Results.{range_distinct}
 use Rattle.mono_problem.specs.declared.atom.Predicate.TheVariants as kind
 use Rattle.mono_steps.specs.declared.lemma.Witness.{Witness}
 use Rattle.mono_steps.specs.declared.lemma.Witness.TheVariants as by
@@ -22,6 +21,7 @@ use Rattle.mono_graph.proofs.Pigeons.{all_has}
 use Rattle.mono_theory.proofs.RestingOnAbsent.{leaving_are_absent}
 use Rattle.mono_theory.proofs.WalksAsEvidence.{all_by, nodes-known}
 use Rattle.mono_flow.specs.Flowing.{AreNeeded, IsCutEvidence}
+use Rattle.mono_flow.proofs.DistinctEdges.{range_distinct}
 
 -- ---- what leaves the set where all edges come that aren't named
 

@@ -1,11 +1,21 @@
 -- Where no node of a set is listed twice, no absent edge that leaves it is.
-use Rattle.std.proofs.Common.{◌≡◌, ℕ, Bool, true, false, cond, not, ◌&&◌, ◌==◌, List, [], ◌∷◌, ◌++◌, length, filter, refl, sym, subst, inl, inr}
+use Rattle.std.proofs.Common.{◌≡◌, ℕ, zero, suc, ◌+◌, Bool, true, false, cond, not, ◌&&◌, ◌==◌, List, [], ◌∷◌, ◌++◌, length, filter, refl, sym, subst, inl, inr, arith}
 use Rattle.std.specs.Prelude.{IsTrue, flat_map}
+use Rattle.std.specs.List.{range_with_len}
 use Rattle.std.proofs.lemmas.Bool.{and_parts, and_from, both_ways, not-true, not_from_false, false_from_ne_true}
 use Rattle.mono_graph.specs.Digraph.{Digraph, crosses, edge_at, has, is_distinct, leaving, present}
-use Rattle.mono_graph.proofs.Membership.{filter_has, has_append_cases, has_here, has_there, places_at}
-use Rattle.mono_flows.proofs.Results.{range_distinct}
+use Rattle.mono_graph.proofs.Membership.{filter_has, has_append_cases, has_here, has_there, places_at, range_has}
 use Rattle.mono_theory.specs.Resting.{absent_from, absent_out}
+
+pub range_distinct : (p : ℕ → Bool) (a n : ℕ) → IsTrue (is_distinct (filter p (range_with_len a n)))
+range_distinct p a zero = refl
+range_distinct p a (suc n) = by_test (p a) (range_distinct p (a + 1) n)
+  where
+    by_test : (b : Bool) → IsTrue (is_distinct (filter p (range_with_len (a + 1) n))) → IsTrue (is_distinct (cond b (a ∷ filter p (range_with_len (a + 1) n)) (filter p (range_with_len (a + 1) n))))
+    by_test false rest = rest
+    by_test true rest = and_from (not (has (filter p (range_with_len (a + 1) n)) a)) (is_distinct (filter p (range_with_len (a + 1) n)))
+        (not_from_false (has (filter p (range_with_len (a + 1) n)) a) (false_from_ne_true (has (filter p (range_with_len (a + 1) n)) a)
+        (λ t. let r = range_has (a + 1) n a (filter_has p (range_with_len (a + 1) n) a t).0 in absurd (omega (arith, r.0))))) rest
 
 distinct_filter : (p : ℕ → Bool) (ks : List ℕ) → IsTrue (is_distinct ks) → IsTrue (is_distinct (filter p ks))
 distinct_filter p [] d = refl

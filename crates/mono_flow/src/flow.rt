@@ -211,6 +211,8 @@ impl Kind for Flow {
 
     const MOST_FOLLOWED: u32 = u32::MAX;
 
+    const LEAST_FOLLOWED: u32 = 0;
+
     fn with_nodes(alloc: Global, count: u32) -> Result<Self, AllocError> {
         let finder = FlowFinder::new(alloc, count)?;
         let marks = NodeMarks::new(alloc, count)?;

@@ -10,3 +10,4 @@ pub mod Balances
 pub mod Decides
 pub mod KeptFlows
 pub mod Draining
+pub mod VisitedNodes

@@ -1,14 +1,11 @@
--- A flow of the value that is sought passes, and so does the set of marked nodes where no more can be carried.
-use Rattle.std.proofs.Common.{◌≡◌, ◌≢◌, ℕ, zero, suc, ◌+◌, ◌<◌, ◌≤◌, Bool, true, false, not, ◌&&◌, ◌||◌, ◌==◌, cond, List, ◌∷◌, length, filter, refl, sym, ap, ◌∙◌, inl, inr, arith, ℤ, pos, ◌-ℤ◌, int_lt, int_le}
-use Rattle.std.specs.Prelude.{IsTrue, All, nat_le, if◌then◌else◌}
-use Rattle.std.specs.List.{range_with_len}
-use Rattle.std.proofs.lemmas.Bool.{and_from, and_parts, or_left, or_right, cases_eq, cases_lt, le-leb, eq-eqb, not-true, not_from_false, false_from_ne_true, both_ways}
-use Rattle.std.proofs.lemmas.List.Elements.{All-nil, All-cons, All-weaker, All-filter}
+-- A flow of the value that is sought passes, and so does a set of the marked nodes where no more can be carried.
+use Rattle.std.proofs.Common.{◌≡◌, ◌≢◌, ℕ, ◌+◌, ◌<◌, ◌≤◌, Bool, true, false, not, ◌&&◌, ◌||◌, ◌==◌, List, length, refl, sym, ap, ◌∙◌, inl, inr, arith, ℤ, pos, ◌-ℤ◌, int_lt, int_le}
+use Rattle.std.specs.Prelude.{IsTrue, nat_le, if◌then◌else◌}
+use Rattle.std.proofs.lemmas.Bool.{and_from, and_parts, or_left, or_right, cases_eq, cases_lt, le-leb, eq-eqb, not-true, not_from_false, both_ways}
 use Rattle.std.proofs.lemmas.Int.{ints}
 use Rattle.mono_graph.specs.Digraph.{Digraph, present, present_by, places, edge_at, has, leads_out, is_distinct, weight_of, HasEnds}
 use Rattle.mono_graph.specs.Flows.{is_flow, is_within, is_conserved, inflow, outflow, value_of, is_flow_of, is_flow_cut, amount_at}
 use Rattle.mono_graph.proofs.Places.{all_of}
-use Rattle.mono_graph.proofs.Membership.{has_filter, filter_has, has_range, range_has}
 use Rattle.mono_graph.proofs.CutsBoundFlows.{total_is, flow_value_bounded}
 use Rattle.mono_flows.proofs.OneEdge.{none, flow_value_reached}
 use Rattle.mono_graph.specs.declared.amount.Amount.{Amount}
@@ -50,15 +47,6 @@ flowing_passes {g = g} {P = P} {s = s} {t = t} {f = f} flow =
 
 -- ---- the cut
 
-abbrev pub marked_nodes : List Bool → ℕ → List ℕ
-marked_nodes marks n = filter (is_marked marks) (range_with_len 0 n)
-
-marked_has : (marks : List Bool) (n u : ℕ) → u < n → IsTrue (is_marked marks u) → IsTrue (has (marked_nodes marks n) u)
-marked_has marks n u lt h = has_filter (is_marked marks) (range_with_len 0 n) u (has_range 0 n u (omega arith) (omega arith)) h
-
-has_marked : (marks : List Bool) (n u : ℕ) → IsTrue (has (marked_nodes marks n) u) → IsTrue (is_marked marks u)
-has_marked marks n u h = (filter_has (is_marked marks) (range_with_len 0 n) u h).1
-
 below_least : (w v n : ℕ) (least : ℤ) → least ≡ pos n → w ≤ v → v < n → IsTrue (int_lt (pos w) least)
 below_least w v n least e le lt = grind (arith, ints)
 
@@ -68,11 +56,11 @@ record IsFilled (g : Digraph) (P : List Bool) (s t : ℕ) (f : ℕ → ℕ) (set
   pub outside : has set t ≡ false
   pub reached : inflow g f s + weight_of g (present_by (leads_out set) g P) ≤ outflow g f s
 
-blocked_filled : {g : Digraph} {P : List Bool} {s t : ℕ} {f : ℕ → ℕ} {value : ℕ} (marks : List Bool) → HasEnds g → s < g.nodes → IsFlowing g P s t f value → IsBlocked g P f s t marks → IsFilled g P s t f (marked_nodes marks g.nodes)
-blocked_filled {g = g} {P = P} {s = s} {t = t} {f = f} marks graph s-in flow b =
-    let set : List ℕ = marked_nodes marks g.nodes in
-    let inside : IsTrue (has set s) = marked_has marks g.nodes s s-in b.from in
-    let outside : has set t ≡ false = false_from_ne_true (has set t) (λ h. both_ways (is_marked marks t) b.to (has_marked marks g.nodes t h)) in
+blocked_filled : {g : Digraph} {P : List Bool} {s t : ℕ} {f : ℕ → ℕ} {value : ℕ} (marks : List Bool) (set : List ℕ) → ((u : ℕ) → has set u ≡ is_marked marks u) → HasEnds g → s < g.nodes
+    → IsFlowing g P s t f value → IsBlocked g P f s t marks → IsFilled g P s t f set
+blocked_filled {g = g} {P = P} {s = s} {t = t} {f = f} marks set same graph s-in flow b =
+    let inside : IsTrue (has set s) = same s ∙ b.from in
+    let outside : has set t ≡ false = same t ∙ b.to in
     let full : (k : ℕ) → k < length g.edges → IsTrue (present P k) → IsTrue (leads_out set (edge_at g k)) → (edge_at g k).weight ≤ f k =
     λ k low here h.
     let parts = and_parts (has set (edge_at g k).from) (not (has set (edge_at g k).to)) h in
@@ -80,8 +68,8 @@ blocked_filled {g = g} {P = P} {s = s} {t = t} {f = f} marks graph s-in flow b =
       | inr le ↦ le
       | inl more ↦
           let cap : capacity g P k ≡ (edge_at g k).weight = ap (λ (c : Bool). if c then (edge_at g k).weight else 0) here in
-          let to-marked : IsTrue (is_marked marks (edge_at g k).to) = b.closed k false low (omega (arith, cap, more)) (has_marked marks g.nodes (edge_at g k).from parts.0) in
-          absurd (both_ways (has set (edge_at g k).to) (not-true (has set (edge_at g k).to) parts.1) (marked_has marks g.nodes (edge_at g k).to (graph k _ low).1 to-marked))
+          let to-marked : IsTrue (is_marked marks (edge_at g k).to) = b.closed k false low (omega (arith, cap, more)) (sym (same (edge_at g k).from) ∙ parts.0) in
+          absurd (both_ways (has set (edge_at g k).to) (not-true (has set (edge_at g k).to) parts.1) (same (edge_at g k).to ∙ to-marked))
     ] in
     let empty : (k : ℕ) → k < length g.edges → IsTrue (has set (edge_at g k).to && not (has set (edge_at g k).from)) → f k ≡ 0 =
     λ k low h.
@@ -89,16 +77,15 @@ blocked_filled {g = g} {P = P} {s = s} {t = t} {f = f} marks graph s-in flow b =
     elim (cases_lt 0 (f k)) [
       | inr le ↦ omega (arith, le)
       | inl more ↦
-          let from-marked : IsTrue (is_marked marks (edge_at g k).from) = b.closed k true low more (has_marked marks g.nodes (edge_at g k).to parts.0) in
-          absurd (both_ways (has set (edge_at g k).from) (not-true (has set (edge_at g k).from) parts.1) (marked_has marks g.nodes (edge_at g k).from (graph k _ low).0 from-marked))
+          let from-marked : IsTrue (is_marked marks (edge_at g k).from) = b.closed k true low more (sym (same (edge_at g k).to) ∙ parts.0) in
+          absurd (both_ways (has set (edge_at g k).from) (not-true (has set (edge_at g k).from) parts.1) (same (edge_at g k).from ∙ from-marked))
     ] in
     record { inside = inside; outside = outside; reached = flow_value_reached g P s t f set graph s-in (λ u u-in not-s not-t. flow.balanced u not-s not-t) inside outside full empty }
 
-pub blocked_cut : (g : Digraph) (P : List Bool) (s t : ℕ) (f : ℕ → ℕ) (value n : ℕ) (least : ℤ) (marks : List Bool) → HasEnds g → s < g.nodes → IsFlowing g P s t f value → least ≡ pos n → value < n
-    → IsBlocked g P f s t marks → IsTrue (is_flow_cut g P s t least (marked_nodes marks g.nodes))
-blocked_cut g P s t f value n least marks graph s-in flow least-is lt b =
-    let set : List ℕ = marked_nodes marks g.nodes in
-    let filled : IsFilled g P s t f set = blocked_filled marks graph s-in flow b in
+pub blocked_cut : (g : Digraph) (P : List Bool) (s t : ℕ) (f : ℕ → ℕ) (value n : ℕ) (least : ℤ) (marks : List Bool) (set : List ℕ) → ((u : ℕ) → has set u ≡ is_marked marks u) → HasEnds g → s < g.nodes
+    → IsFlowing g P s t f value → least ≡ pos n → value < n → IsBlocked g P f s t marks → IsTrue (is_flow_cut g P s t least set)
+blocked_cut g P s t f value n least marks set same graph s-in flow least-is lt b =
+    let filled : IsFilled g P s t f set = blocked_filled marks set same graph s-in flow b in
     let reached = filled.reached in
     let source = flow.source in
     and_from (has set s && not (has set t)) (int_lt (pos (weight_of g (present_by (leads_out set) g P))) least)
@@ -106,35 +93,16 @@ blocked_cut g P s t f value n least marks graph s-in flow least-is lt b =
     (below_least (weight_of g (present_by (leads_out set) g P)) value n least least-is (omega (arith, reached, source)) lt)
 
 -- it is exactly that
-pub blocked_weight : (g : Digraph) (P : List Bool) (s t : ℕ) (f : ℕ → ℕ) (value : ℕ) (marks : List Bool) → HasEnds g → s < g.nodes → IsFlowing g P s t f value → IsBlocked g P f s t marks
-    → value ≡ weight_of g (present_by (leads_out (marked_nodes marks g.nodes)) g P)
-blocked_weight g P s t f value marks graph s-in flow b =
-    let set : List ℕ = marked_nodes marks g.nodes in
-    let filled : IsFilled g P s t f set = blocked_filled marks graph s-in flow b in
+pub blocked_weight : (g : Digraph) (P : List Bool) (s t : ℕ) (f : ℕ → ℕ) (value : ℕ) (marks : List Bool) (set : List ℕ) → ((u : ℕ) → has set u ≡ is_marked marks u) → HasEnds g → s < g.nodes
+    → IsFlowing g P s t f value → IsBlocked g P f s t marks → value ≡ weight_of g (present_by (leads_out set) g P)
+blocked_weight g P s t f value marks set same graph s-in flow b =
+    let filled : IsFilled g P s t f set = blocked_filled marks set same graph s-in flow b in
     let reached = filled.reached in
     let source = flow.source in
     let bounded = flow_value_bounded g P s t f set graph s-in (flowing_passes flow) filled.inside filled.outside in
     omega (arith, reached, source, bounded)
 
-range_below : (a m : ℕ) → All (λ u. u < a + m) (range_with_len a m)
-range_below a zero = All-nil (λ u. u < a + 0)
-range_below a (suc m) = All-cons (λ u. u < a + suc m) a (range_with_len (a + 1) m) (omega arith)
-    (All-weaker (λ u. u < (a + 1) + m) (λ u. u < a + suc m) (λ u p. omega arith) (range_with_len (a + 1) m) (range_below (a + 1) m))
-
-pub marked_known : (marks : List Bool) (n : ℕ) → All (λ u. u < n) (marked_nodes marks n)
-marked_known marks n = All-filter (is_marked marks) (λ u. u < n) (range_with_len 0 n) (All-weaker (λ u. u < 0 + n) (λ u. u < n) (λ u p. omega arith) (range_with_len 0 n) (range_below 0 n))
-
 -- ---- the flow
-
-pub range_distinct : (p : ℕ → Bool) (a n : ℕ) → IsTrue (is_distinct (filter p (range_with_len a n)))
-range_distinct p a zero = refl
-range_distinct p a (suc n) = by_test (p a) (range_distinct p (a + 1) n)
-  where
-    by_test : (b : Bool) → IsTrue (is_distinct (filter p (range_with_len (a + 1) n))) → IsTrue (is_distinct (cond b (a ∷ filter p (range_with_len (a + 1) n)) (filter p (range_with_len (a + 1) n))))
-    by_test false rest = rest
-    by_test true rest = and_from (not (has (filter p (range_with_len (a + 1) n)) a)) (is_distinct (filter p (range_with_len (a + 1) n)))
-        (not_from_false (has (filter p (range_with_len (a + 1) n)) a) (false_from_ne_true (has (filter p (range_with_len (a + 1) n)) a)
-        (λ t. let r = range_has (a + 1) n a (filter_has p (range_with_len (a + 1) n) a t).0 in absurd (omega (arith, r.0))))) rest
 
 at_least : (i o v n : ℕ) (least : ℤ) → least ≡ pos n → n ≤ v → o ≡ i + v → IsTrue (int_le least (pos o -ℤ pos i))
 at_least i o v n least e le sum = grind (arith, ints)

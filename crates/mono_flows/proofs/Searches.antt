@@ -6,7 +6,7 @@ use Rattle.std.proofs.lemmas.Bool.{cases_eq, cases_lt, both_ways}
 use Rattle.std.proofs.lemmas.List.{length-set, length-map, get_or-set_same, get_or-set_other}
 use Rattle.mono_graph.specs.Digraph.{Digraph, edge_at, has, leaving, entering}
 use Rattle.mono_graph.proofs.Membership.{places_at, at_places, has_get_or}
-use Rattle.mono_flows.specs.declared.search.Search.{Search}
+use Rattle.mono_flows.specs.declared.search.AugmentingSearch.{AugmentingSearch}
 use Rattle.mono_flows.specs.declared.visit.Visit.{Visit}
 use Rattle.mono_flows.specs.Residual.{residual_at, start_of, end_of}
 use Rattle.mono_flows.specs.Visits.{visit_at, first_visit, is_marked, IsSearchTree, AreMarks, IsSearch, Extends, Continues, CameTo, IsExpanded}
@@ -124,7 +124,7 @@ continues_twice {marks = marks} {new = new} {last = last} {vs = vs} {ws = ws} {u
   work = let first = a.work in let then = b.work in omega (arith, first, then);
 }
 
-pub came_later : (sink : ℕ) (old new last : Search) (found came : Bool) → CameTo sink old new found → found ≡ false → CameTo sink new last came → CameTo sink old last came
+pub came_later : (sink : ℕ) (old new last : AugmentingSearch) (found came : Bool) → CameTo sink old new found → found ≡ false → CameTo sink new last came → CameTo sink old last came
 came_later sink old new last found came a not-yet b = record { there = b.there; away = λ e off. b.away e (a.away not-yet off) }
 
 -- ---- the edges at a node
@@ -153,24 +153,25 @@ if_ok_both (Err e) P Q R p q f = p
 
 -- ---- what holds between searches
 
+-- the nodes of visits
+pub node_at : (vs : List Visit) (i : ℕ) → i < length vs → get_or (map (λ (v : Visit). v.node) vs) i 0 ≡ (visit_at vs i).node
+node_at [] i lt = absurd (omega arith)
+node_at (v ∷ vs) zero lt = refl
+node_at (v ∷ vs) (suc i) lt = node_at vs i (omega arith)
+
 -- every marked node was visited
 pub marks_visited : (g : Digraph) (marks : List Bool) (vs : List Visit) → AreMarks g marks vs → (u : ℕ) → IsTrue (is_marked marks u) → IsTrue (has (map (λ v. v.node) vs) u)
 marks_visited g marks vs ok u h =
     let r = ok.visited u h in
     subst (λ (w : ℕ). IsTrue (has (map (λ (v : Visit). v.node) vs) w)) (node_at vs r.0 r.1 ∙ r.2)
     (has_get_or (map (λ (v : Visit). v.node) vs) r.0 0 (let i = r.1 in omega (arith, length-map vs (λ (v : Visit). v.node))))
-  where
-    node_at : (us : List Visit) (i : ℕ) → i < length us → get_or (map (λ (v : Visit). v.node) us) i 0 ≡ (visit_at us i).node
-    node_at [] i lt = absurd (omega arith)
-    node_at (v ∷ us) zero lt = refl
-    node_at (v ∷ us) (suc i) lt = node_at us i (omega arith)
 
 -- the nodes of a search tree are the graph's
 pub tree_within : (g : Digraph) (P : List Bool) (f : ℕ → ℕ) (vs : List Visit) → IsSearchTree g P f vs → All (λ v. v.node < g.nodes) vs
 tree_within g P f vs t = All-from_get_or (λ v. v.node < g.nodes) vs (first_visit 0 0) t.nodes
 
 -- marks and visits of a search tree are those of a search
-pub search_of : {g : Digraph} {P : List Bool} {f : ℕ → ℕ} (marks : List Bool) (vs : List Visit) (search : Search) → search.marks.items ≡ marks → search.visits.items ≡ vs → IsSearchTree g P f vs → AreMarks g marks vs → IsSearch g.nodes search
+pub search_of : {g : Digraph} {P : List Bool} {f : ℕ → ℕ} (marks : List Bool) (vs : List Visit) (search : AugmentingSearch) → search.marks.items ≡ marks → search.visits.items ≡ vs → IsSearchTree g P f vs → AreMarks g marks vs → IsSearch g.nodes search
 search_of {g = g} {P = P} {f = f} marks vs search marks-is visits-is tree ok = record {
   len = ap (λ (ms : List Bool). length ms) marks-is ∙ ok.len;
   inside = subst (λ (us : List Visit). All (λ v. v.node < g.nodes) us) (sym visits-is) (tree_within g P f vs tree);

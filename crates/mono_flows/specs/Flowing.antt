@@ -8,7 +8,8 @@ use Rattle.mono_flows.specs.Listed.{edges_of}
 use Rattle.mono_flows.specs.declared.network.Network.{Network}
 use Rattle.mono_flows.specs.declared.flow.Flow.{Flow}
 use Rattle.mono_flows.specs.Residual.{amount_of, capacity}
-use Rattle.mono_flows.specs.Visits.{IsBlocked}
+use Rattle.mono_flows.specs.declared.search.AugmentingSearch.{AugmentingSearch}
+use Rattle.mono_flows.specs.Visits.{AreMarks, IsBlocked, IsSearch}
 
 -- a flow from s to t of this value, which no amount exceeds
 pub record IsFlowing (g : Digraph) (P : List Bool) (s t : ℕ) (f : ℕ → ℕ) (value : ℕ) : Type 0 where
@@ -37,8 +38,10 @@ pub record IsFlowTowards (n : Network) (goal : ℕ) (f : Flow) : Type 0 where
   pub flow : IsFlow n f
   pub most : f.value ≤ goal
 
--- the search has ended: as much is carried as is asked for, or no edge with capacity left leads out of the marked nodes
-pub record HasEnded (n : Network) (goal : ℕ) (f : Flow) (marked : List Bool) : Type 0 where
+-- the search has ended: as much is carried as is asked for, or no edge with capacity left leads out of the marked nodes, which
+-- are those visited
+pub record HasEnded (n : Network) (goal : ℕ) (f : Flow) (last : AugmentingSearch) : Type 0 where
   pub flow : IsFlowTowards n goal f
-  pub marks : length marked ≡ n.graph.now.nodes
-  pub blocked : f.value < goal → IsBlocked n.graph.now n.part.now (amount_of f.amounts.items) n.source n.sink marked
+  pub search : IsSearch n.graph.now.nodes last
+  pub marks : f.value < goal → AreMarks n.graph.now last.marks.items last.visits.items
+  pub blocked : f.value < goal → IsBlocked n.graph.now n.part.now (amount_of f.amounts.items) n.source n.sink last.marks.items

@@ -3,7 +3,7 @@ use Rattle.std.specs.Prelude.{◌≡◌, ℕ, ◌+◌, ◌-◌, ◌<◌, ◌≤�
 use Rattle.mono_graph.specs.Digraph.{Digraph, edge_at, has}
 use Rattle.mono_flows.specs.declared.visit.Visit.{Visit}
 use Rattle.mono_flows.specs.declared.network.Network.{Network}
-use Rattle.mono_flows.specs.declared.search.Search.{Search}
+use Rattle.mono_flows.specs.declared.search.AugmentingSearch.{AugmentingSearch}
 use Rattle.mono_flows.specs.Residual.{amount_of, residual_at, start_of, end_of}
 
 -- a search starts at a node, where this much can be carried
@@ -41,7 +41,7 @@ pub record AreMarks (g : Digraph) (marks : List Bool) (vs : List Visit) : Type 0
   pub once : (i j : ℕ) → i < length vs → j < length vs → (visit_at vs i).node ≡ (visit_at vs j).node → i ≡ j
 
 -- what holds between searches as well: no node is marked that wasn't visited
-pub record IsSearch (nodes : ℕ) (search : Search) : Type 0 where
+pub record IsSearch (nodes : ℕ) (search : AugmentingSearch) : Type 0 where
   pub len : length search.marks.items ≡ nodes
   pub inside : All (λ v. v.node < nodes) search.visits.items
   pub visited : (u : ℕ) → IsTrue (is_marked search.marks.items u) → IsTrue (has (map (λ v. v.node) search.visits.items) u)
@@ -59,12 +59,12 @@ pub record Continues (g : Digraph) (P : List Bool) (f : ℕ → ℕ) (old new : 
   pub extends : Extends old new vs ws
   pub work : count_by (λ b. not b) new + length ws ≤ count_by (λ b. not b) old + length vs
 
-abbrev pub GoesOn : Network → List ℕ → Search → Search → Type 0
+abbrev pub GoesOn : Network → List ℕ → AugmentingSearch → AugmentingSearch → Type 0
 GoesOn n amounts old new =
     Continues n.graph.now n.part.now (amount_of amounts) old.marks.items new.marks.items old.visits.items new.visits.items
 
 -- whether it came to the sink, which then is visited last
-pub record CameTo (sink : ℕ) (old new : Search) (came : Bool) : Type 0 where
+pub record CameTo (sink : ℕ) (old new : AugmentingSearch) (came : Bool) : Type 0 where
   pub there : IsTrue came → (visit_at new.visits.items (length new.visits.items - 1)).node ≡ sink
   pub away : came ≡ false → is_marked old.marks.items sink ≡ false → is_marked new.marks.items sink ≡ false
 

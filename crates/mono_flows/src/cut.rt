@@ -20,7 +20,7 @@ fn weight_leaving(network: &Network, inside: &[bool], node: u32) -> u128
     ensures bound { result ≤ MAX_EDGES * MAX_WEIGHT }
 {
     // A graph has few edges, so the sum fits.
-    let _ = network.graph.nodes();
+    network.graph.known();
     let mut weight: u128 = 0;
     for place in network.graph.leaving(node) {
         let edge = network.graph.edge(*place);
@@ -44,7 +44,7 @@ fn weight_out_of(network: &Network, inside: &[bool], counted: &mut Vec<bool>, no
     ensures bound { result < 2 ^ 120 }
 {
     // A graph has few nodes and edges, so the sum fits.
-    let _ = network.graph.nodes();
+    network.graph.known();
     let mut weight: u128 = 0;
     for node in nodes {
         if !counted[*node as usize] {

@@ -22,11 +22,11 @@ use crate::edge_room::EdgeRoom;
 use crate::flow::Flow;
 use crate::kept_flow::kept_flow;
 use crate::level_graph::LevelGraph;
-use crate::listing::{drain, marked_nodes};
+use crate::listing::{drain, visited_nodes};
 use crate::mend::mend;
 use crate::network::Network;
 use crate::node_sums::NodeSums;
-use crate::search::Search;
+use crate::search::AugmentingSearch;
 use crate::visit::Visit;
 use crate::{FlowOrCut, Found};
 use mono_base::limits::MAX_BOUND;
@@ -40,7 +40,7 @@ use std::mem;
 /// It keeps the room of a search by node and by edge from one call to the next, and clears only what a call touched.
 #[derive(Drop)]
 pub struct FlowFinder {
-    search: Search,
+    search: AugmentingSearch,
     levels: LevelGraph,
     path: Vec<Visit>,
     sums: NodeSums,
@@ -66,7 +66,7 @@ impl FlowFinder {
         ensures { IfOk result (λ finder. finder ≡ nodes) }
     {
         Ok(FlowFinder {
-            search: Search::new(alloc, nodes)?,
+            search: AugmentingSearch::new(alloc, nodes)?,
             levels: LevelGraph::new(alloc, nodes)?,
             path: Vec::new(alloc),
             sums: NodeSums::new(alloc, nodes)?,
@@ -168,8 +168,7 @@ impl FlowFinder {
             &mut self.path,
             goal,
         )?;
-        let marks = self.search.marks.as_slice();
-        let found = outcome(alloc, &network, &mut flow, marks, goal, kept)?;
+        let found = outcome(alloc, &network, &mut flow, &self.search, goal, kept)?;
         self.room.amounts = mem::replace(&mut flow.amounts, Vec::new(alloc));
         Ok(found)
     }
@@ -179,7 +178,7 @@ impl FlowFinder {
 fn begin(
     alloc: Global,
     network: &Network,
-    search: &mut Search,
+    search: &mut AugmentingSearch,
     sums: &mut NodeSums,
     room: &mut EdgeRoom,
     mending: &mut Vec<u64>,
@@ -207,12 +206,12 @@ fn begin(
     }
 }
 
-/// Makes the flow greater until it carries as much as is asked for, or no augmenting path is left: then the marked nodes
+/// Makes the flow greater until it carries as much as is asked for, or no augmenting path is left: then the visited nodes
 /// are those that can still be reached.
 fn grow(
     network: &Network,
     flow: &mut Flow,
-    search: &mut Search,
+    search: &mut AugmentingSearch,
     levels: &mut LevelGraph,
     path: &mut Vec<Visit>,
     goal: u64,
@@ -220,7 +219,7 @@ fn grow(
     requires flow { IsFlowTowards network.now goal flow.old }
     requires search { IsSearch network.now.graph.now.nodes search.old }
     requires levels { AreLevels network.now.graph.now.nodes levels.old }
-    ensures ended { OnOk result (HasEnded network.now goal flow.new search.new.marks.items) }
+    ensures ended { OnOk result (HasEnded network.now goal flow.new search.new) }
     ensures search { IsSearch network.now.graph.now.nodes search.new }
     ensures levels { AreLevels network.now.graph.now.nodes levels.new }
 {
@@ -236,21 +235,23 @@ fn grow(
     Ok(())
 }
 
-/// The cut that the marked nodes are, where less is carried than is asked for.
+/// The cut that the visited nodes are, where less is carried than is asked for.
 fn cut_of(
     alloc: Global,
     network: &Network,
     flow: &Flow,
-    marks: &[bool],
+    search: &AugmentingSearch,
     goal: u64,
 ) -> Result<Option<Vec<u32>>, AllocError>
-    requires ended { HasEnded network.now goal flow.now marks.now }
+    requires ended { HasEnded network.now goal flow.now search.now }
     ensures cut { IfOk result (λ found. MatchOption found (flow.now.value ≡ goal) (λ nodes. IsAnswer network.now goal flow.now.value (FlowOrCut.Cut nodes))) }
 {
     if flow.value == goal {
         return Ok(None);
     }
-    let nodes = marked_nodes(alloc, marks, network.graph.nodes())?;
+    // The edges of a graph lead between its nodes.
+    network.graph.known();
+    let nodes = visited_nodes(alloc, &search.visits)?;
     Ok(Some(nodes))
 }
 
@@ -282,11 +283,11 @@ fn outcome(
     alloc: Global,
     network: &Network,
     flow: &mut Flow,
-    marks: &[bool],
+    search: &AugmentingSearch,
     goal: u64,
     kept: &mut Vec<Amount>,
 ) -> Result<Found, AllocError>
-    requires ended { HasEnded network.now goal flow.old marks.now }
+    requires ended { HasEnded network.now goal flow.old search.now }
     requires kept { All (λ a. a.edge < length network.now.graph.now.edges) kept.old.items }
     ensures answer { IfOk result (λ found. IsAnswer network.now goal found.value found.answer) }
     ensures flow { IfOk result (λ found.
@@ -295,7 +296,7 @@ fn outcome(
     ensures unchanged { OnErr result (kept.new.items ≡ kept.old.items) }
     ensures clear { OnOk result ((k : ℕ) → amount_of flow.new.amounts.items k ≡ 0) }
 {
-    let cut = cut_of(alloc, network, flow, marks, goal)?;
+    let cut = cut_of(alloc, network, flow, search, goal)?;
     let carried = drain(alloc, &mut flow.amounts, &flow.touched)?;
     let answer = answer_of(alloc, network, cut, carried.as_slice(), flow.value, goal)?;
     *kept = carried;

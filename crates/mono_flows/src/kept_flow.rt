@@ -51,7 +51,7 @@ fn value_in(
     ensures sums { MayBeSumsOf network.now.graph.now amounts.now sums.new }
 {
     // A graph has few edges, so no sum overflows.
-    let _ = network.graph.nodes();
+    network.graph.known();
     if !mark_edges(network, listed, amounts) {
         return None;
     }

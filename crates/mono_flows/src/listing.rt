@@ -1,29 +1,17 @@
-//! Lists of the marked nodes and of what edges carry.
+//! Lists of the nodes that were visited and of what edges carry.
 
-ghost use Rattle.std.specs.Prelude.{◌≡◌, ◌<◌, All, IfOk, filter, length};
-ghost use Rattle.std.specs.List.{range_with_len};
+ghost use Rattle.std.specs.Prelude.{◌≡◌, ◌<◌, All, IfOk, length, map};
 ghost use Rattle.mono_flows.specs.Drained.{AreDrained};
-ghost use Rattle.mono_flows.specs.Visits.{is_marked};
 
+use crate::visit::Visit;
 use mono_graph::Amount;
 use std::alloc::{AllocError, Global};
 
-/// The marked nodes, in order.
-pub(crate) fn marked_nodes(
-    alloc: Global,
-    marks: &[bool],
-    count: u32,
-) -> Result<Vec<u32>, AllocError>
-    requires { length marks.now ≡ count }
-    ensures { IfOk result (λ nodes. nodes.items ≡ filter (is_marked marks.now) (range_with_len 0 count)) }
+/// The nodes of the visits.
+pub(crate) fn visited_nodes(alloc: Global, visits: &[Visit]) -> Result<Vec<u32>, AllocError>
+    ensures { IfOk result (λ nodes. nodes.items ≡ map (λ v. v.node) visits.now) }
 {
-    let mut nodes = Vec::new(alloc);
-    for node in 0..count {
-        if marks[node as usize] {
-            nodes.push(node)?;
-        }
-    }
-    Ok(nodes)
+    visits.iter().map(|visit| visit.node).collect(alloc)
 }
 
 /// Lists what the touched edges carry, each once, and lets them carry nothing from then on.

@@ -14,7 +14,7 @@ ghost use Rattle.mono_flows.specs.Visits.{IsAugmentingPath, IsSearch};
 use crate::kept_flow::{edges_of, put_amounts};
 use crate::listing::drain;
 use crate::network::{Network, ResidualEdge};
-use crate::search::Search;
+use crate::search::AugmentingSearch;
 use crate::visit::Visit;
 use mono_graph::Amount;
 use std::alloc::{AllocError, Global};
@@ -75,7 +75,7 @@ impl Preflow {
         requires flow { IsPreflow network.now.graph.now self.old }
         ensures { IsPreflow network.now.graph.now self.new }
     {
-        let _ = network.graph.nodes();
+        network.graph.known();
         let edge = network.graph.edge(lost.edge);
         self.pending.push(Imbalance {
             node: edge.from,
@@ -119,7 +119,7 @@ impl Preflow {
     fn send(
         &mut self,
         network: &Network,
-        search: &mut Search,
+        search: &mut AugmentingSearch,
         amount: u64,
     ) -> Result<u64, AllocError>
         requires apart { network.now.source ≢ network.now.sink }
@@ -146,7 +146,7 @@ impl Preflow {
     fn send_round(
         &mut self,
         network: &Network,
-        search: &mut Search,
+        search: &mut AugmentingSearch,
         lost: Amount,
     ) -> Result<u64, AllocError>
         requires known { lost.edge < length network.now.graph.now.edges }
@@ -155,7 +155,7 @@ impl Preflow {
         ensures flow { IsPreflow network.now.graph.now self.new }
         ensures search { IsSearch network.now.graph.now.nodes search.new }
     {
-        let _ = network.graph.nodes();
+        network.graph.known();
         let edge = network.graph.edge(lost.edge);
         if edge.from == edge.to {
             return Ok(0);
@@ -174,7 +174,7 @@ impl Preflow {
     fn replace_lost(
         &mut self,
         network: &Network,
-        search: &mut Search,
+        search: &mut AugmentingSearch,
         listed: &[Amount],
     ) -> Result<(), AllocError>
         requires known { All (λ a. a.edge < length network.now.graph.now.edges) listed.now }
@@ -287,7 +287,7 @@ impl Preflow {
 pub(crate) fn mend(
     alloc: Global,
     network: &Network,
-    search: &mut Search,
+    search: &mut AugmentingSearch,
     room: &mut Vec<u64>,
     listed: &[Amount],
 ) -> Result<Vec<Amount>, AllocError>

@@ -15,7 +15,7 @@ use std::alloc::{AllocError, Global};
 
 /// The visits of a search, in order, and by node whether it was visited.
 #[derive(Drop)]
-pub(crate) struct Search {
+pub(crate) struct AugmentingSearch {
     pub marks: Vec<bool>,
     pub visits: Vec<Visit>,
 }
@@ -32,12 +32,12 @@ fn unmark_visits(marks: &mut Vec<bool>, visits: &[Visit])
     }
 }
 
-impl Search {
+impl AugmentingSearch {
     /// A search that has visited nothing, in a graph of this many nodes.
     pub fn new(alloc: Global, nodes: u32) -> Result<Self, AllocError>
         ensures { IfOk result (IsSearch nodes) }
     {
-        Ok(Search {
+        Ok(AugmentingSearch {
             marks: vec![in alloc; false; nodes as usize]?,
             visits: Vec::new(alloc),
         })

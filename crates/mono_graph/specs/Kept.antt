@@ -12,7 +12,7 @@ pub record AreListed (end : Edge → ℕ) (g : Digraph) (lists : List (List ℕ)
   pub len : length lists ≡ g.nodes
   pub each : (u : ℕ) → u < g.nodes → slice_index_or lists u [] ≡ places_by end g u
 
-pub record IsKept (g : Inside) : Type 0 where
+pub record IsInStep (g : Inside) : Type 0 where
   pub graph : IsGraph (shown g)
   pub leaving : AreListed (λ e. e.from) (shown g) g.leaving
   pub entering : AreListed (λ e. e.to) (shown g) g.entering

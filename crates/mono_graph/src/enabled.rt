@@ -1,8 +1,8 @@
 //! The values of an assignment, and the edges that it enables.
 
-ghost use Rattle.std.specs.Prelude.{◌≡◌, ◌<◌, ◌≤◌, ◌==◌, ◌&&◌, ◌||◌, ℕ, IfOk, length};
+ghost use Rattle.std.specs.Prelude.{◌≡◌, ◌<◌, ◌≤◌, ℕ, IfOk, length};
 ghost use Rattle.mono_base.specs.Literal.{value_in};
-ghost use Rattle.mono_graph.specs.Digraph.{edge_at, enabled, present};
+ghost use Rattle.mono_graph.specs.Digraph.{edge_at, enabled};
 
 use crate::{Graph, Part};
 use std::alloc::{AllocError, Global};
@@ -16,17 +16,6 @@ pub fn value_of(model: &[bool], var: u32) -> bool
     model[var as usize - 1]
 }
 
-/// Puts the place into the part, where it is to be there.
-fn put_if(part: &mut Part, place: u32, is_there: bool)
-    requires { place < length part.old }
-    ensures size { length part.new ≡ length part.old }
-    ensures places { (k : ℕ) → present part.new k ≡ ((is_there && k == place) || present part.old k) }
-{
-    if is_there {
-        part.put(place);
-    }
-}
-
 /// The edges whose variable is true, where variable x has the value `model[x - 1]`.
 pub fn enabled_edges(alloc: Global, graph: &Graph, model: &[bool]) -> Result<Part, AllocError>
     requires { (k : ℕ) → k < length graph.now.edges → (edge_at graph.now k).var ≤ length model.now }
@@ -34,8 +23,7 @@ pub fn enabled_edges(alloc: Global, graph: &Graph, model: &[bool]) -> Result<Par
 {
     let mut part = Part::none(alloc, graph.edge_count())?;
     for place in 0..graph.edge_count() {
-        let is_there = value_of(model, graph.edge(place).var);
-        put_if(&mut part, place, is_there);
+        part.put_if(place, value_of(model, graph.edge(place).var));
     }
     Ok(part)
 }

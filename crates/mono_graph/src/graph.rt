@@ -38,11 +38,11 @@ impl Model for Graph {
 
     ghost Value = { Digraph };
 
-    ghost use Rattle.mono_graph.specs.Kept.{shown, IsKept};
+    ghost use Rattle.mono_graph.specs.Kept.{shown, IsInStep};
 
     ghost view = { shown };
 
-    ghost invariant = { IsKept };
+    ghost invariant = { IsInStep };
 }
 
 /// The place of the edge with this number, where no number is missing between the first edge's and this one: it is as far
@@ -85,6 +85,13 @@ impl Graph {
         ensures graph { IsGraph self.now }
     {
         self.nodes
+    }
+
+    /// What holds of every graph. Nothing is computed: it is there for the clause.
+    pub fn known(&self)
+        ensures graph { IsGraph self.now }
+    {
+        let _ = &self.nodes;
     }
 
     /// How many edges there are.

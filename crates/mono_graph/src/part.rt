@@ -2,7 +2,7 @@
 //!
 //! A part has a byte for each place, so that an edge comes and goes in constant time.
 
-ghost use Rattle.std.specs.Prelude.{◌≡◌, ◌<◌, ◌==◌, ◌&&◌, ◌||◌, ℕ, true, false, not, IfOk, length};
+ghost use Rattle.std.specs.Prelude.{◌≡◌, ◌<◌, ◌==◌, ◌&&◌, ◌||◌, ℕ, true, false, not, if◌then◌else◌, IfOk, length};
 ghost use Rattle.mono_graph.specs.Digraph.{present};
 
 use std::alloc::{AllocError, Global};
@@ -67,5 +67,29 @@ impl Part {
         ensures places { (k : ℕ) → present self.new k ≡ (not (k == place) && present self.old k) }
     {
         self.held[place as usize] = false;
+    }
+
+    /// Puts the place into the part, or takes it out.
+    pub fn set(&mut self, place: u32, on: bool)
+        requires { place < length self.old }
+        ensures size { length self.new ≡ length self.old }
+        ensures places { (k : ℕ) → present self.new k ≡ (if k == place then on else present self.old k) }
+    {
+        if on {
+            self.put(place);
+        } else {
+            self.take(place);
+        }
+    }
+
+    /// Puts the place into the part, where that is asked for.
+    pub fn put_if(&mut self, place: u32, asked: bool)
+        requires { place < length self.old }
+        ensures size { length self.new ≡ length self.old }
+        ensures places { (k : ℕ) → present self.new k ≡ ((k == place && asked) || present self.old k) }
+    {
+        if asked {
+            self.put(place);
+        }
     }
 }

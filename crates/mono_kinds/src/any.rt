@@ -6,7 +6,7 @@ use mono_distance::DistanceTheory;
 use mono_flow::FlowTheory;
 use mono_reach::ReachTheory;
 use mono_steps::Lemma;
-use mono_theory::{Finding, Force, Theory};
+use mono_theory::{Finding, Force, Theory, UnitLemma};
 use mono_tree::TreeTheory;
 use std::alloc::AllocError;
 
@@ -59,6 +59,10 @@ impl Theory for AnyTheory {
         each!(self, theory => theory.prefers(var))
     }
 
+    fn wanted(&self) -> Option<u32> {
+        each!(self, theory => theory.wanted())
+    }
+
     fn seen(&self) -> usize {
         each!(self, theory => theory.seen())
     }
@@ -77,6 +81,10 @@ impl Theory for AnyTheory {
 
     fn force(&mut self) -> Result<Force, AllocError> {
         each!(self, theory => theory.force())
+    }
+
+    fn unit_lemma(&mut self) -> Result<Option<UnitLemma>, AllocError> {
+        each!(self, theory => theory.unit_lemma())
     }
 
     fn explain(&mut self, atom: u32, lit: Lit, kept: usize) -> Result<Lemma, AllocError> {

@@ -22,7 +22,7 @@ use Rattle.mono_learn.specs.Resolvents.{FalseBy, AllFalse, MarkedBy, IsMarked}
 use Rattle.mono_learn.specs.Resolving.{IsAtLast, HasMinimized}
 use Rattle.mono_trail.specs.declared.reason.Reason.TheVariants.{Clause}
 use Rattle.mono_trail.specs.Places.{level_at, reason_at}
-use Rattle.mono_learn.specs.Minimizing.{IsCovered, IsUncovered, IsKeptFor, AreKept, IsWhole, AreLeft}
+use Rattle.mono_learn.specs.Minimizing.{IsCovered, IsUncovered, IsKeptFor, AreKept, AreLeft}
 use Rattle.mono_learn.proofs.LitSets.{has-append_left, has-append_cases, true_false, has_one, one_cases}
 use Rattle.mono_base.proofs.Partials.{neg-neg}
 use Rattle.mono_base.proofs.Truth.{same_lit, at_each, from_each}
@@ -117,6 +117,13 @@ kept_skip t start seen kept i k lits h is off = record {
     | inr s ↦ absurd (let z : true ≡ false = sym m ∙ ap (λ (n : ℕ). is_marked seen (get_or kept n 0)) s ∙ ap (is_marked seen) (sym is) ∙ off in cc)
   ];
 }
+
+-- the kept literals, and that of the present level, are the end of the chain
+pub record IsWhole (cs : List (List ℤ)) (t : TrailView) (start place : ℕ) (others : List ℤ) (x : ℤ) (used : List ℕ) : Type 0 where
+  pub exact : IsExactEnd cs (record { clause = others ++ x ∷ []; used = used })
+  pub last : FalseBy t.lits (length t.lits) x
+  pub high : start ≤ last.place
+  pub low : AllFalse t.lits start others
 
 pub whole : (cs : List (List ℤ)) (t : TrailView) (start place : ℕ) (seen : List Bool) (kept used : List ℕ) (i : ℕ) (others : List ℤ) (x : ℤ) → IsSound t → HasMinimized cs t.lits start place seen kept used → AreKept t.lits start seen kept i others → length kept ≤ i → x ≡ neg_ℤ (lit_at t.lits place) → IsWhole cs t start place others x used
 whole cs t start place seen kept used i others x s h a all_in ex = record {

@@ -1,5 +1,5 @@
 -- Marks that are taken away one after the other.
-use Rattle.std.specs.Prelude.{◌≡◌, ◌≢◌, ℕ, ◌<◌, ◌≤◌, Bool, true, false, ℤ, neg_ℤ, List, [], ◌∷◌, ◌++◌, length, Some, IsTrue, slice_index_or}
+use Rattle.std.specs.Prelude.{◌≡◌, ◌≢◌, ℕ, ◌<◌, ◌≤◌, Bool, true, false, ℤ, neg_ℤ, List, length, Some, IsTrue, slice_index_or}
 use Rattle.mono_base.specs.Literal.{has_lit, without, lit_at}
 use Rattle.mono_problem.specs.Instance.{numbered}
 use Rattle.mono_trail.specs.declared.reason.Reason.TheVariants.{Clause}
@@ -7,8 +7,7 @@ use Rattle.mono_trail.specs.Places.{reason_at}
 use Rattle.mono_trail.specs.TrailView.{TrailView}
 use Rattle.mono_trail.specs.Seen.{is_marked}
 use Rattle.mono_learn.specs.Reasons.{WasUnit}
-use Rattle.mono_steps.specs.New.{IsExactEnd}
-use Rattle.mono_learn.specs.Resolvents.{FalseBy, AllFalse, MarkedBy}
+use Rattle.mono_learn.specs.Resolvents.{FalseBy, MarkedBy}
 
 -- each reason that is a clause was unit when it implied its literal
 pub record AreReasons (cs : List (List ℤ)) (t : TrailView) : Type 0 where
@@ -60,13 +59,6 @@ pub record AreDropped (cs : List (List ℤ)) (t : TrailView) (old new : List Boo
 pub record AreKept (t : List ℤ) (start : ℕ) (seen : List Bool) (kept : List ℕ) (i : ℕ) (lits : List ℤ) : Type 0 where
   pub only : (l : ℤ) → IsTrue (has_lit lits l) → MarkedBy t seen start l
   pub all : (j : ℕ) → j < i → is_marked seen (slice_index_or kept j 0) ≡ true → IsTrue (has_lit lits (neg_ℤ (lit_at t (slice_index_or kept j 0))))
-
--- the kept literals, and that of the present level, are the end of the chain
-pub record IsWhole (cs : List (List ℤ)) (t : TrailView) (start place : ℕ) (others : List ℤ) (x : ℤ) (used : List ℕ) : Type 0 where
-  pub exact : IsExactEnd cs (record { clause = others ++ x ∷ []; used = used })
-  pub last : FalseBy t.lits (length t.lits) x
-  pub high : start ≤ last.place
-  pub low : AllFalse t.lits start others
 
 -- the marks are left but that of the place and those of the first kept ones
 pub record AreLeft (seen now : List Bool) (kept : List ℕ) (place i : ℕ) : Type 0 where

@@ -40,7 +40,7 @@ fn late_reason<E: Explainer>(
     let lemma = by.explain(atom, lit, kept)?;
     let number = journal.push_lemma(problem, lemma)?;
     trail.settle(lit.var(), number);
-    let _ = trail.level();
+    trail.known();
     Ok(number)
 }
 

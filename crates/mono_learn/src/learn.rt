@@ -177,7 +177,7 @@ pub fn analyse<E: Explainer>(
     ensures reasons { HasReasons problem.now (clauses_after problem.now journal.new) (E.shown by.old) trail.new }
     ensures by { by.new ≡ by.old }
 {
-    let _ = trail.level();
+    trail.known();
     let derived = derive(alloc, problem, trail, journal, by, conflict)?;
     push(alloc, problem, trail, journal, derived)
 }

@@ -100,7 +100,7 @@ pub fn refute<E: Explainer>(
     ensures reasons { HasReasons problem.now (clauses_after problem.now journal.new) (E.shown by.old) trail.new }
     ensures by { by.new ≡ by.old }
 {
-    let _ = trail.level();
+    trail.known();
     let used = empty_chain(alloc, problem, trail, journal, by, conflict)?;
     push_empty(alloc, problem, journal, used)
 }

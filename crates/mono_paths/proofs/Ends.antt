@@ -18,9 +18,22 @@ use Rattle.mono_graph.proofs.Membership.{has_here, has_there, has_get_or}
 use Rattle.mono_paths.specs.Found.{HasBound}
 use Rattle.mono_paths.specs.NodeLabels.{NodeLabels, AreReached}
 use Rattle.mono_paths.specs.Spread.{label_of, IsTight, AreTight}
-use Rattle.mono_paths.specs.Reaches.{AreFinal, HasFinal, IsCheap}
-use Rattle.mono_paths.specs.declared.search.Search.{Search}
+use Rattle.mono_paths.specs.Reaches.{IsCheap}
+use Rattle.mono_paths.specs.declared.search.LabelSearch.{LabelSearch}
 use Rattle.mono_paths.specs.Searches.{IsSearch, source_of}
+
+-- labels up to the cap, 0 at the one node and the cap at the other, that no present edge lowers
+pub record AreFinal (g : Digraph) (P : List Bool) (limit : Limit) (u v cap : ℕ) (labels : List ℕ) : Type 0 where
+  pub len : length labels ≡ g.nodes
+  pub start : label_of labels u ≡ 0
+  pub goal : label_of labels v ≡ cap
+  pub most : (w : ℕ) → label_of labels w ≤ cap
+  pub tight : AreTight g P limit labels
+
+-- the cap and the labels of a search are such
+pub record HasFinal (g : Digraph) (P : List Bool) (limit : Limit) (u v cap : ℕ) (labels : NodeLabels) : Type 0 where
+  pub at_cap : labels.cap ≡ cap
+  pub final : AreFinal g P limit u v cap labels.each
 
 is_reached : (g : Digraph) (labels : List ℕ) (cap : ℕ) (us : List ℕ) → AreReached g.nodes cap labels us → (u : ℕ) → u < g.nodes → label_of labels u < cap → IsTrue (has us u)
 is_reached g labels cap us r u lt low = r.below u lt ∙ lt-ltb (label_of labels u) cap low
@@ -181,7 +194,7 @@ empty_labelling g P u v l bounded low = at l (bound_none l bounded low)
 -- ---- of the labels of a search
 
 -- a search that is over has final labels
-pub final : (g : Digraph) (P : List Bool) (limit : Limit) (u v cap : ℕ) (s : Search) → IsSearch g P limit s → source_of s ≡ u → s.labels.cap ≡ cap → cap ≤ label_of s.labels.each v
+pub final : (g : Digraph) (P : List Bool) (limit : Limit) (u v cap : ℕ) (s : LabelSearch) → IsSearch g P limit s → source_of s ≡ u → s.labels.cap ≡ cap → cap ≤ label_of s.labels.each v
     → AreTight g P limit s.labels.each → HasFinal g P limit u v cap s.labels
 final g P limit u v cap s search source at_cap above tight = record {
   at_cap = at_cap;

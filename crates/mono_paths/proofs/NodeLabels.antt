@@ -5,21 +5,21 @@ use Rattle.std.proofs.lemmas.Bool.{cases_eq, cases_lt, eq-eqb, ne_eqb, lt-ltb, l
 use Rattle.std.proofs.lemmas.List.{get_or-set_same, get_or-set_other, get_or_past, get_or-map, map-set, length-map}
 use Rattle.mono_graph.specs.Digraph.{has}
 use Rattle.mono_graph.proofs.Membership.{has_get_or}
-use Rattle.mono_paths.specs.NodeLabels.{AreKept}
+use Rattle.mono_paths.specs.NodeLabels.{AreBelowCap}
 use Rattle.mono_paths.specs.Spread.{label_of}
 use Rattle.mono_graph.proofs.Prefixes.{distinct_new, has_new, has_other}
 
 in_range : (below : List ℕ) (u : ℕ) → 0 < get_or below u 0 → u < length below
 in_range below u some = elim (cases_lt u (length below)) [ inl lt ↦ lt | inr past ↦ absurd (omega (arith, get_or_past below u 0 past)) ]
 
-listed_some : (cap : ℕ) (below reached : List ℕ) → AreKept cap below reached → (u : ℕ) → IsTrue (has reached u) → 0 < get_or below u 0
+listed_some : (cap : ℕ) (below reached : List ℕ) → AreBelowCap cap below reached → (u : ℕ) → IsTrue (has reached u) → 0 < get_or below u 0
 listed_some cap below reached k u h = ltb-true 0 (get_or below u 0) (sym (k.listed u) ∙ h)
 
 -- the nodes that were reached are nodes
-pub reached_known : (cap : ℕ) (below reached : List ℕ) → AreKept cap below reached → All (λ u. u < length below) reached
+pub reached_known : (cap : ℕ) (below reached : List ℕ) → AreBelowCap cap below reached → All (λ u. u < length below) reached
 reached_known cap below reached k = λ i d lt. in_range below (get_or reached i d) (listed_some cap below reached k (get_or reached i d) (has_get_or reached i d lt))
 
-pub some_listed : (cap : ℕ) (below reached : List ℕ) → AreKept cap below reached → (u : ℕ) → 0 < get_or below u 0 → IsTrue (has reached u)
+pub some_listed : (cap : ℕ) (below reached : List ℕ) → AreBelowCap cap below reached → (u : ℕ) → 0 < get_or below u 0 → IsTrue (has reached u)
 some_listed cap below reached k u some = k.listed u ∙ lt-ltb 0 (get_or below u 0) some
 
 -- set back, all labels are the cap
@@ -33,7 +33,7 @@ all_at_cap cap (x ∷ below) zeros =
 pub set_back_all : (cap n : ℕ) (below : List ℕ) → length below ≡ n → ((u : ℕ) → get_or below u 0 ≡ 0) → map (λ (x : ℕ). cap - x) below ≡ replicate n cap
 set_back_all cap n below len zeros = all_at_cap cap below zeros ∙ ap (λ (m : ℕ). replicate m cap) len
 
-pub kept_none : (cap : ℕ) (below : List ℕ) → ((u : ℕ) → get_or below u 0 ≡ 0) → AreKept cap below []
+pub kept_none : (cap : ℕ) (below : List ℕ) → ((u : ℕ) → get_or below u 0 ≡ 0) → AreBelowCap cap below []
 kept_none cap below zeros = record {
   within = λ u. let none = zeros u in omega arith;
   once = refl;
@@ -41,8 +41,8 @@ kept_none cap below zeros = record {
 }
 
 -- a node is given something
-pub kept_more : (cap : ℕ) (below reached : List ℕ) (u some : ℕ) → u < length below → 0 < some → some ≤ cap → AreKept cap below reached
-    → AreKept cap (set below u some) (if get_or below u 0 == 0 then reached ++ u ∷ [] else reached)
+pub kept_more : (cap : ℕ) (below reached : List ℕ) (u some : ℕ) → u < length below → 0 < some → some ≤ cap → AreBelowCap cap below reached
+    → AreBelowCap cap (set below u some) (if get_or below u 0 == 0 then reached ++ u ∷ [] else reached)
 kept_more cap below reached u some lt pos low k = record {
   within = λ w. elim (cases_eq u w) [
     | inl e ↦ subst (λ (x : ℕ). get_or (set below u some) x 0 ≤ cap) e (omega (arith, get_or-set_same below u some 0 lt))
@@ -84,7 +84,7 @@ lowered cap below u label lt =
     ∙ ap (λ (y : ℕ). set (map (λ (x : ℕ). cap - x) below) u y) (let back : cap - (cap - label) ≡ label = omega arith in back)
 
 -- the nodes that were reached are those whose labels are below the cap
-pub reached_below : (cap : ℕ) (below reached : List ℕ) → AreKept cap below reached → (u : ℕ) → u < length (map (λ (x : ℕ). cap - x) below)
+pub reached_below : (cap : ℕ) (below reached : List ℕ) → AreBelowCap cap below reached → (u : ℕ) → u < length (map (λ (x : ℕ). cap - x) below)
     → has reached u ≡ nat_lt (label_of (map (λ (x : ℕ). cap - x) below) u) cap
 reached_below cap below reached k u lt =
     let known : u < length below = omega (arith, length-map below (λ (x : ℕ). cap - x)) in

@@ -7,7 +7,7 @@ use Rattle.mono_graph.specs.Digraph.{Digraph, edge_at, HasEnds, no_edge}
 use Rattle.mono_graph.specs.declared.limit.Limit.{Limit}
 use Rattle.mono_paths.specs.declared.visit.Visit.{Visit}
 use Rattle.mono_paths.specs.declared.waiting.Waiting.{Waiting}
-use Rattle.mono_paths.specs.declared.search.Search.{Search}
+use Rattle.mono_paths.specs.declared.search.LabelSearch.{LabelSearch}
 use Rattle.mono_paths.specs.Trails.{visit_at, first_visit, IsTrail}
 use Rattle.mono_paths.specs.NodeLabels.{NodeLabels}
 use Rattle.mono_paths.specs.Spread.{label_of, IsTight, AreTight, IsSpread, AreLabels, waits_after}
@@ -26,7 +26,7 @@ waits_on g P limit labels vs p q h s = record {
 }
 
 -- where no visit waits every edge is tight
-pub none_waits : (g : Digraph) (P : List Bool) (limit : Limit) (s : Search) → ((i : ℕ) → i < length s.visits.items → is_waiting s.waiting i ≡ false) → IsSearch g P limit s → AreTight g P limit s.labels.each
+pub none_waits : (g : Digraph) (P : List Bool) (limit : Limit) (s : LabelSearch) → ((i : ℕ) → i < length s.visits.items → is_waiting s.waiting i ≡ false) → IsSearch g P limit s → AreTight g P limit s.labels.each
 none_waits g P limit s none search = record {
   each = λ k lt here. elim (search.spread.each k lt here) [
     | inl t ↦ t
@@ -34,7 +34,7 @@ none_waits g P limit s none search = record {
   ];
 }
 
-pub search_over : (g : Digraph) (P : List Bool) (limit : Limit) (old new : Search) → new.labels ≡ old.labels → new.visits.items ≡ old.visits.items
+pub search_over : (g : Digraph) (P : List Bool) (limit : Limit) (old new : LabelSearch) → new.labels ≡ old.labels → new.visits.items ≡ old.visits.items
     → IsTaken old.waiting new.waiting (length old.visits.items) None → IsSearch g P limit old → IsSearch g P limit new
 search_over g P limit old new labels visits none search =
     let tight = none_waits g P limit old none.1 search in
@@ -98,7 +98,7 @@ first_spread g P limit u cap p ends u-in waits = record {
   ];
 }
 
-pub search_begun : (g : Digraph) (P : List Bool) (limit : Limit) (u cap : ℕ) (s : Search) (w : Waiting) → HasEnds g → u < g.nodes
+pub search_begun : (g : Digraph) (P : List Bool) (limit : Limit) (u cap : ℕ) (s : LabelSearch) (w : Waiting) → HasEnds g → u < g.nodes
     → s.labels.cap ≡ cap → s.labels.each ≡ set (replicate g.nodes cap) u 0 → s.visits.items ≡ first_visit u ∷ [] → Adds w s.waiting 0 (length s.visits.items) → IsSearch g P limit s
 search_begun g P limit u cap s w ends u-in at_cap labels visits added = record {
   trail = subst (λ (vs : List Visit). IsTrail g P limit vs) (sym visits) (first_trail g P limit u u-in);
@@ -115,7 +115,7 @@ search_begun g P limit u cap s w ends u-in at_cap labels visits added = record {
 
 -- ---- one visit more
 
-pub search_more : (g : Digraph) (P : List Bool) (limit : Limit) (old new : Search) (mid : Waiting) (at : ℕ) → Takes old.waiting mid (length old.visits.items) at
+pub search_more : (g : Digraph) (P : List Bool) (limit : Limit) (old new : LabelSearch) (mid : Waiting) (at : ℕ) → Takes old.waiting mid (length old.visits.items) at
     → new.labels.cap ≡ old.labels.cap → IsTrail g P limit new.visits.items → AreLabels g old.labels.cap new.labels.each new.visits.items
     → ((waits : ℕ → Bool) → IsSpread g P limit old.labels.each old.visits.items waits → IsSpread g P limit new.labels.each new.visits.items (waits_after waits at (length old.visits.items)))
     → Adds mid new.waiting (length old.visits.items) (length new.visits.items) → IsSearch g P limit old → IsSearch g P limit new

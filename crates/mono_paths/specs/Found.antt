@@ -63,9 +63,9 @@ HasBound (limit.Steps most) = (negsuc 0 ≤ℤ most) × (most ≤ℤ pos MAX_BOU
 HasBound (limit.Weight most) = (negsuc 0 ≤ℤ most) × (most ≤ℤ pos MAX_BOUND)
 
 -- the bound, or none where it is negative
-abbrev pub IsBoundOf : ℤ → Option ℕ → Type 0
-IsBoundOf most None = most ≤ℤ negsuc 0
-IsBoundOf most (Some n) = most ≡ pos n
+abbrev pub IsNatural : ℤ → Option ℕ → Type 0
+IsNatural most None = most ≤ℤ negsuc 0
+IsNatural most (Some n) = most ≡ pos n
 
 abbrev pub IsBound : Limit → Option ℕ → Type 0
-IsBound l o = IsBoundOf (bound_of l) o
+IsBound l o = IsNatural (bound_of l) o

@@ -20,10 +20,7 @@ abbrev pub shown : Inside → NodeLabels
 shown l = record { cap = l.cap; each = map (λ x. l.cap - x) l.below.items; reached = l.reached.items }
 
 -- no label is more than the cap below it, and the nodes whose labels are below it are listed, each once
-pub record AreKept (cap : ℕ) (below reached : List ℕ) : Type 0 where
+pub record AreBelowCap (cap : ℕ) (below reached : List ℕ) : Type 0 where
   pub within : (u : ℕ) → slice_index_or below u 0 ≤ cap
   pub once : IsTrue (is_distinct reached)
   pub listed : (u : ℕ) → has reached u ≡ nat_lt 0 (slice_index_or below u 0)
-
-abbrev pub IsKept : Inside → Type 0
-IsKept l = AreKept l.cap l.below.items l.reached.items

@@ -9,7 +9,7 @@ ghost use Rattle.mono_paths.specs.Asked.{limit_by, IsTarget, HasPath, AreAnswers
 ghost use Rattle.mono_paths.specs.Searches.{IsSearch, source_of};
 
 use crate::find::bound_of;
-use crate::search::Search;
+use crate::search::LabelSearch;
 use crate::{Measure, Target};
 use mono_base::limits::MAX_BOUND;
 use mono_graph::{Graph, Part};
@@ -46,7 +46,7 @@ fn cap_above_all(targets: &[Target]) -> u64
 
 /// Whether a walk leads to the target. The search goes on as far as that takes.
 fn is_reached(
-    search: &mut Search,
+    search: &mut LabelSearch,
     graph: &Graph,
     part: &Part,
     measure: Measure,
@@ -73,7 +73,7 @@ fn is_reached(
 /// Which of the targets a walk from `from` leads to.
 pub fn which_are_reached(
     alloc: Global,
-    search: &mut Search,
+    search: &mut LabelSearch,
     graph: &Graph,
     part: &Part,
     from: u32,

@@ -78,7 +78,7 @@ pub fn holds(
     ensures marked { (u : ℕ) → IsTrue (slice_index_or seen.new.items u false) → IsTrue (has nodes.now u) }
 {
     // The edges of a graph lead to its nodes.
-    let _ = graph.nodes();
+    graph.known();
     if !inside[from as usize] {
         return false;
     }

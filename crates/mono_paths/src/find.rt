@@ -5,9 +5,9 @@
 
 ghost use Rattle.std.specs.Prelude.{◌≡◌, ◌<◌, IfOk, length};
 ghost use Rattle.mono_graph.specs.Digraph.{IsPartOf};
-ghost use Rattle.mono_paths.specs.Found.{IsPathOrCut, IsPathOrLabels, HasKnownNames, HasKnownLabels, IsReachedSet, HasReachedLabels, HasBound, IsBound, IsBoundOf};
+ghost use Rattle.mono_paths.specs.Found.{IsPathOrCut, IsPathOrLabels, HasKnownNames, HasKnownLabels, IsReachedSet, HasReachedLabels, HasBound, IsBound, IsNatural};
 
-use crate::search::Search;
+use crate::search::LabelSearch;
 use mono_graph::{Graph, Label, Limit, Part};
 use std::alloc::{AllocError, Global};
 
@@ -32,7 +32,7 @@ pub enum PathOrLabels {
 /// A walk, or the set of the nodes that are reached.
 pub fn path_or_cut(
     alloc: Global,
-    search: &mut Search,
+    search: &mut LabelSearch,
     graph: &Graph,
     part: &Part,
     from: u32,
@@ -48,7 +48,7 @@ pub fn path_or_cut(
     ensures reached { IfOk result (IsReachedSet graph.now part.now from) }
 {
     // The edges of a graph lead between its nodes.
-    let _ = graph.nodes();
+    graph.known();
     let limit = Limit::Free;
     search.begin(graph, limit, from, 1)?;
     if search.goes_to(graph, part, limit, to, 0)? {
@@ -61,7 +61,7 @@ pub fn path_or_cut(
 /// A walk within the limit, or the labels that are at most the bound.
 pub fn path_or_labels(
     alloc: Global,
-    search: &mut Search,
+    search: &mut LabelSearch,
     graph: &Graph,
     part: &Part,
     from: u32,
@@ -79,7 +79,7 @@ pub fn path_or_labels(
     ensures reached { IfOk result (HasReachedLabels graph.now part.now from limit) }
 {
     // The edges of a graph lead between its nodes.
-    let _ = graph.nodes();
+    graph.known();
     let Some(most) = bound_of(limit) else {
         return Ok(PathOrLabels::Labels(Vec::new(alloc)));
     };
@@ -93,7 +93,7 @@ pub fn path_or_labels(
 
 /// The bound, where it isn't -1.
 fn as_bound(most: i64) -> Option<u64>
-    ensures { IsBoundOf most result }
+    ensures { IsNatural most result }
 {
     if most < 0 { None } else { Some(most as u64) }
 }

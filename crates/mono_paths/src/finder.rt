@@ -10,7 +10,7 @@ ghost use Rattle.mono_paths.specs.Found.{IsPathOrCut, IsPathOrLabels, HasKnownNa
 
 use crate::asked::which_are_reached;
 use crate::find::{PathOrCut, PathOrLabels, path_or_cut, path_or_labels};
-use crate::search::Search;
+use crate::search::LabelSearch;
 use crate::{Measure, Target};
 use mono_graph::{Graph, Limit, Part};
 use std::alloc::{AllocError, Global};
@@ -22,7 +22,7 @@ use std::marker::Model;
 /// after one that found no memory.
 #[derive(Drop)]
 pub struct WalkFinder {
-    search: Search,
+    search: LabelSearch,
 }
 
 impl Model for WalkFinder {
@@ -39,7 +39,7 @@ impl WalkFinder {
         ensures { IfOk result (λ finder. finder ≡ nodes) }
     {
         Ok(WalkFinder {
-            search: Search::new(alloc, nodes)?,
+            search: LabelSearch::new(alloc, nodes)?,
         })
     }
 

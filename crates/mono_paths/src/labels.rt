@@ -27,11 +27,11 @@ impl Model for Labels {
 
     ghost Value = { NodeLabels };
 
-    ghost use Rattle.mono_paths.specs.NodeLabels.{shown, IsKept};
+    ghost use Rattle.mono_paths.specs.NodeLabels.{shown, AreBelowCap};
 
     ghost view = { shown };
 
-    ghost invariant = { IsKept };
+    ghost invariant = { λ l. AreBelowCap l.cap l.below.items l.reached.items };
 }
 
 /// Sets what these nodes have back to 0.

@@ -21,7 +21,7 @@ use std::alloc::{AllocError, Global};
 
 /// Labels, the visits that lowered them, and which of these wait.
 #[derive(Drop)]
-pub struct Search {
+pub struct LabelSearch {
     pub labels: Labels,
     pub visits: Vec<Visit>,
     pub waiting: Waiting,
@@ -74,12 +74,12 @@ fn last_visit(visits: &[Visit], node: u32, cost: u64) -> usize
     at
 }
 
-impl Search {
+impl LabelSearch {
     /// A search in graphs with this many nodes, to be begun.
     pub fn new(alloc: Global, nodes: u32) -> Result<Self, AllocError>
         ensures { IfOk result (λ search. length search.labels.each ≡ nodes) }
     {
-        Ok(Search {
+        Ok(LabelSearch {
             labels: Labels::new(alloc, nodes)?,
             visits: Vec::new(alloc),
             waiting: Waiting::new(alloc),
@@ -103,7 +103,7 @@ impl Search {
         ensures begun { IfOk result (λ _. (P : List Bool) → IsSearch graph.now P limit self.new) }
     {
         // The edges of a graph lead between its nodes.
-        let _ = graph.nodes();
+        graph.known();
         begin(&mut self.labels, &mut self.visits, from, cap)?;
         self.waiting.clear(matches!(limit, Limit::Weight(_)));
         self.waiting.add(&self.visits, 0)?;

@@ -164,7 +164,7 @@ served_changes s (event.Run w slice) (reply.Model m) t h n v =
     changes_worker s (event.Run w slice) (reply.Model m) t (record (worker_at s w) { made = [] }) h v.1 refl (record { held = (worker_ok s w h).held; fits = (worker_ok s w h).fits; justified = refl }) v.0 (λ u. absurd cc)
 served_changes s (event.Run w slice) reply.Unsat t h n v =
     changes_worker s (event.Run w slice) reply.Unsat t (record (worker_at s w) { made = v.made }) h v.after refl
-    (record { held = (worker_ok s w h).held; fits = (worker_ok s w h).fits; justified = (and_parts (are_justified (over s w) v.made) (ends_empty v.made) v.are).0 }) tt (λ u. v.are)
+    (record { held = (worker_ok s w h).held; fits = (worker_ok s w h).fits; justified = (and_parts (are_justified (over s w) v.made) (ends_empty v.made) v.are.refutes).0 }) tt (λ u. v.are.refutes)
 served_changes s (event.Run w slice) reply.Slice t h n v =
     changes_worker s (event.Run w slice) reply.Slice t (record (worker_at s w) { made = v.made }) h v.after refl (record { held = (worker_ok s w h).held; fits = (worker_ok s w h).fits; justified = v.are.justified }) tt (λ u. absurd cc)
 served_changes s (event.Take w m) reply.Taken t h n v =

@@ -245,7 +245,7 @@ models_of p board taken ok j held = λ model h. record { len = h.len; satisfies 
 
 tells_justified : (p q : Instance) (slice : ℕ) (r : Reply) (made : List Step) → Tells p q slice r made → IsTrue (are_justified q made)
 tells_justified p q slice (reply.Model m) made h = subst (λ (ss : List Step). IsTrue (are_justified q ss)) (sym h.1) refl
-tells_justified p q slice reply.Unsat made h = (and_parts (are_justified q made) (ends_empty made) h).0
+tells_justified p q slice reply.Unsat made h = (and_parts (are_justified q made) (ends_empty made) h.refutes).0
 tells_justified p q slice reply.Slice made h = h.justified
 tells_justified p q slice (reply.Given n) made h = absurd h
 tells_justified p q slice reply.Taken made h = absurd h

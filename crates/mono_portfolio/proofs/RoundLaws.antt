@@ -6,6 +6,7 @@ use Rattle.std.proofs.lemmas.List.{set-set, get_or-set_same, length-set, get_or-
 use Rattle.mono_problem.specs.Instance.{Instance}
 use Rattle.mono_steps.specs.declared.step.Step.{Step}
 use Rattle.mono_steps.specs.Steps.{is_refutation}
+use Rattle.mono_steps.specs.Trimmed.{IsTrimRefutation}
 use Rattle.mono_steps.specs.Journals.{chain_count}
 use Rattle.mono_portfolio.specs.declared.event.Event.{Event}
 use Rattle.mono_portfolio.specs.declared.event.Event.TheVariants as event
@@ -19,7 +20,10 @@ use Rattle.mono_steps.specs.New.{IsProgress}
 use Rattle.mono_portfolio.specs.Refusals.{refusal}
 use Rattle.mono_portfolio.specs.Plays.{Makes, Served, Answers}
 use Rattle.mono_portfolio.specs.Rounds.{IsPiece, IsRound}
-use Rattle.mono_portfolio.specs.Turns.{even, IsGiven, IsRounded}
+use Rattle.mono_portfolio.specs.declared.rounds.Turn.{Turn}
+use Rattle.mono_portfolio.specs.declared.rounds.Turn.TheVariants as turn
+use Rattle.mono_portfolio.specs.Ends.{IsRefuted}
+use Rattle.mono_portfolio.specs.Turns.{even, IsGiven, IsRounded, EndsTurn, TurnsTo, Stops, RoundsTo}
 use Rattle.mono_portfolio.proofs.Replies.{may_run, may_give}
 use Rattle.mono_portfolio.proofs.Playing.{refuted_gives, not_nothing}
 
@@ -29,12 +33,12 @@ served_of : (s : TeamView) (e : Event) (r : Reply) (t : TeamView) → refusal s 
 served_of s e r t n a = subst (λ (o : Option Reply). MatchOption o (Served s e r t) (λ refused. (r ≡ refused) × (t ≡ s))) n a
 
 pub data RunsTo (s : TeamView) (w slice : ℕ) (r : Reply) (t : TeamView) : Type 0 where
-  found : (m : List Bool) → r ≡ reply.Model m → HasModel s.problem m → RunsTo s w slice r t
-  refuted : r ≡ reply.Unsat → Makes s w (λ p steps. IsTrue (is_refutation p steps)) t → RunsTo s w slice r t
+  found : (m : List Bool) → r ≡ reply.Model m → HasModel s.problem m → t ≡ with_made s w [] → RunsTo s w slice r t
+  refuted : r ≡ reply.Unsat → Makes s w (λ p steps. IsTrimRefutation p steps) t → RunsTo s w slice r t
   sliced : r ≡ reply.Slice → Makes s w (λ p steps. IsProgress p slice steps) t → RunsTo s w slice r t
 
 by_reply : (s : TeamView) (w slice : ℕ) (r : Reply) (t : TeamView) → Served s (event.Run w slice) r t → RunsTo s w slice r t
-by_reply s w slice (reply.Model m) t v = found m refl v.0
+by_reply s w slice (reply.Model m) t v = found m refl v.0 v.1
 by_reply s w slice reply.Unsat t v = refuted refl v
 by_reply s w slice reply.Slice t v = sliced refl v
 by_reply s w slice (reply.Given n) t v = absurd v
@@ -66,16 +70,21 @@ some_chains n [] e lt = absurd (omega arith)
 some_chains n (s ∷ ss) e lt = ne_eqb (length (s ∷ ss)) 0 (λ z. omega arith)
 
 -- what the worker made refutes, and it gives
-pub refuted_then_gives : (s m t : TeamView) (w : ℕ) (r : Reply) → w < length s.workers → Makes s w (λ p steps. IsTrue (is_refutation p steps)) m → IsTeam m → Answers m (event.Give w) r t → IsTrue (is_refutation s.problem t.board)
+pub refuted_then_gives : (s m t : TeamView) (w : ℕ) (r : Reply) → w < length s.workers → Makes s w (λ p steps. IsTrimRefutation p steps) m → IsTeam m → Answers m (event.Give w) r t → IsRefuted s.problem (worker_at s w).taken s.board t.board
 refuted_then_gives s m t w r lt made h a =
     let x : worker_at m w ≡ record (worker_at s w) { made = made.made } = ap (λ (y : TeamView). worker_at y w) made.after ∙ made_at s w made.made lt in
     let len : length m.workers ≡ length s.workers = ap (λ (y : TeamView). length y.workers) made.after ∙ length-set s.workers w (record (worker_at s w) { made = made.made }) in
     let same : over m w ≡ over s w = ap (λ (y : TeamView). extended y.problem y.board (worker_at y w).taken) made.after ∙ ap (λ (y : WorkerView). extended s.problem s.board y.taken) (made_at s w made.made lt) in
     let refutes : IsTrue (is_refutation (over m w) (worker_at m w).made) =
-    subst (λ (q : Instance). IsTrue (is_refutation q (worker_at m w).made)) (sym same) (subst (λ (y : WorkerView). IsTrue (is_refutation (over s w) y.made)) (sym x) made.are) in
+    subst (λ (q : Instance). IsTrue (is_refutation q (worker_at m w).made)) (sym same) (subst (λ (y : WorkerView). IsTrue (is_refutation (over s w) y.made)) (sym x) made.are.refutes) in
     let board : t.board ≡ m.board ++ moved_from m w = ap (λ (y : TeamView). y.board) (gives_to m w r t (omega arith) (not_nothing (over m w) (worker_at m w).made refutes) a) in
     let problem : m.problem ≡ s.problem = ap (λ (y : TeamView). y.problem) made.after in
-    subst (λ (p : Instance). IsTrue (is_refutation p t.board)) problem (subst (λ (b : List Step). IsTrue (is_refutation m.problem b)) (sym board) (refuted_gives m w h refutes))
+    record {
+      steps = made.made;
+      trim = made.are;
+      is = board ∙ ap (λ (y : TeamView). y.board ++ moved_from y w) made.after ∙ ap (λ (y : WorkerView). s.board ++ moved s.problem y.made y.taken s.board) (made_at s w made.made lt);
+      refutes = subst (λ (p : Instance). IsTrue (is_refutation p t.board)) problem (subst (λ (b : List Step). IsTrue (is_refutation m.problem b)) (sym board) (refuted_gives m w h refutes));
+    }
 
 -- the worker made a slice, and it gives: a piece joins the board
 pub sliced_then_gives : (s m t : TeamView) (w : ℕ) (r : Reply) → w < length s.workers → Makes s w (λ p steps. IsProgress p 1000 steps) m → Answers m (event.Give w) r t → IsGiven s w t
@@ -142,11 +151,22 @@ no_turns s = record {
   leads = λ k taken le is. (is, λ more after r. let e : more ≡ 0 + more = omega arith in subst (λ (n : ℕ). IsRound 1000 s.problem n taken s.board after) e r);
 }
 
-pub unsat_turn : (s m t : TeamView) (w : ℕ) (r q : Reply) → w < length s.workers → Answers s (event.Run w 1000) r m → r ≡ reply.Unsat → IsTeam m → Answers m (event.Give w) q t → IsTrue (is_refutation s.problem t.board)
+pub model_turn : (s t : TeamView) (w : ℕ) (r : Reply) (values : List Bool) → w < length s.workers → Answers s (event.Run w 1000) r t → r ≡ reply.Model values → HasModel s.problem values × (t.board ≡ s.board)
+model_turn s t w r values lt a e = by_case (runs_to s w 1000 r t lt (omega arith) a)
+  where
+    one_model : (x : List Bool) → reply.Model x ≡ reply.Model values → x ≡ values
+    one_model x same = cc
+
+    by_case : RunsTo s w 1000 r t → HasModel s.problem values × (t.board ≡ s.board)
+    by_case (found x f g after) = (subst (HasModel s.problem) (one_model x (sym f ∙ e)) g, ap (λ (y : TeamView). y.board) after)
+    by_case (refuted f made) = absurd cc
+    by_case (sliced f made) = absurd cc
+
+pub unsat_turn : (s m t : TeamView) (w : ℕ) (r q : Reply) → w < length s.workers → Answers s (event.Run w 1000) r m → r ≡ reply.Unsat → IsTeam m → Answers m (event.Give w) q t → IsRefuted s.problem (worker_at s w).taken s.board t.board
 unsat_turn s m t w r q lt a e h b = by_case (runs_to s w 1000 r m lt (omega arith) a)
   where
-    by_case : RunsTo s w 1000 r m → IsTrue (is_refutation s.problem t.board)
-    by_case (found x f g) = absurd cc
+    by_case : RunsTo s w 1000 r m → IsRefuted s.problem (worker_at s w).taken s.board t.board
+    by_case (found x f g after) = absurd cc
     by_case (refuted f made) = refuted_then_gives s m t w q lt made h b
     by_case (sliced f made) = absurd cc
 
@@ -154,7 +174,7 @@ pub slice_turn : (s m t : TeamView) (w : ℕ) (r q : Reply) → w < length s.wor
 slice_turn s m t w r q lt a no_model no_unsat b = by_case (runs_to s w 1000 r m lt (omega arith) a)
   where
     by_case : RunsTo s w 1000 r m → IsGiven s w t
-    by_case (found x f g) = absurd (no_model x f)
+    by_case (found x f g after) = absurd (no_model x f)
     by_case (refuted f made) = absurd (no_unsat f)
     by_case (sliced f made) = sliced_then_gives s m t w q lt made b
 
@@ -173,6 +193,26 @@ turn_more s m t w h g = record {
             subst (λ (n : ℕ). IsRound 1000 s.problem n taken s.board after) one (l.1 (suc more) after (e.piece, e.is_piece, subst (λ (b : List Step). IsRound 1000 s.problem more taken b after) board r)),
       );
 }
+
+-- the next turn ends the round
+turn_stops : (s m t : TeamView) (w workers : ℕ) (x : Turn) → w < workers → SoFar s w m → EndsTurn m.problem (worker_at m w).taken m.board t.board x → Stops s workers t x
+turn_stops s m t w workers x lt h e = λ k taken le is.
+    let l = h.leads k taken (omega arith) is in
+    let none : w + 0 ≡ w = omega arith in
+    let y : WorkerView = record { taken = taken; made = [] } in
+    let took : (worker_at m w).taken ≡ taken = ap (λ (z : TeamView). (worker_at z w).taken) l.0 ∙ ap (λ (z : WorkerView). z.taken) (get_or-replicate k w y idle (omega arith)) in
+    record {
+      worker = w;
+      of_workers = lt;
+      before = m.board;
+      turns_before = subst (λ (n : ℕ). IsRound 1000 s.problem n taken s.board m.board) none (l.1 0 m.board refl);
+      ends = subst (λ (ns : List ℕ). EndsTurn s.problem ns m.board t.board x) took (subst (λ (q : Instance). EndsTurn q (worker_at m w).taken m.board t.board x) h.problem e);
+    }
+
+pub turn_ends : (s m t : TeamView) (w workers : ℕ) (x : Turn) → w < workers → SoFar s w m → TurnsTo m w t x → (x ≡ turn.Gave → ⊥) → RoundsTo s workers t x
+turn_ends s m t w workers (turn.Model values) lt h e stops = turn_stops s m t w workers (turn.Model values) lt h e
+turn_ends s m t w workers turn.Refuted lt h e stops = turn_stops s m t w workers turn.Refuted lt h e
+turn_ends s m t w workers turn.Gave lt h e stops = absurd (stops refl)
 
 pub round_done : (s t : TeamView) (workers : ℕ) → SoFar s workers t → IsRounded s workers t
 round_done s t workers h = record {

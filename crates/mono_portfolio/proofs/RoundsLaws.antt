@@ -6,9 +6,12 @@ use Rattle.std.proofs.lemmas.List.Elements.{All-nil, All-cons, All-head, All-tai
 use Rattle.mono_problem.specs.Instance.{Instance}
 use Rattle.mono_steps.specs.declared.step.Step.{Step}
 use Rattle.mono_portfolio.specs.Extended.{extended, passes_limits}
-use Rattle.mono_portfolio.specs.TeamView.{WorkerView, TeamView, idle, worker_at}
+use Rattle.mono_portfolio.specs.declared.rounds.Turn.{Turn}
+use Rattle.mono_portfolio.specs.declared.rounds.Turn.TheVariants as turn
+use Rattle.mono_portfolio.specs.TeamView.{WorkerView, TeamView, idle, start, worker_at}
 use Rattle.mono_portfolio.specs.Rounds.{is_short, short_chains, taking, IsRound, AreRounds, Rounds}
-use Rattle.mono_portfolio.specs.Turns.{even, having, IsRounded, taken_after}
+use Rattle.mono_portfolio.specs.Ends.{IsAtTurn}
+use Rattle.mono_portfolio.specs.Turns.{even, having, IsRounded, IsStopped, Stops, RoundsTo, EndsBy, taken_after}
 
 -- ---- the first workers took more
 
@@ -90,7 +93,21 @@ pub record RoundsSoFar (p : Instance) (workers rounds : ℕ) (t : TeamView) : Ty
   pub is : t ≡ even p workers taken t.board
   pub low : All (λ n. n ≤ length p.clauses + length t.board) taken
   pub few : 0 < rounds → 0 < workers → 1000 < 3 ^ p.vars
-  pub leads : (more : ℕ) (board : List Step) → AreRounds 1000 p workers more taken t.board board → AreRounds 1000 p workers (rounds + more) [] [] board
+  pub leads : (more : ℕ) (last : List ℕ) (board : List Step) → AreRounds 1000 p workers more taken t.board last board → AreRounds 1000 p workers (rounds + more) [] [] last board
+
+pub no_rounds : (p : Instance) (workers : ℕ) (t : TeamView) → t ≡ start p workers → RoundsSoFar p workers 0 t
+no_rounds p workers t new = record {
+  taken = [];
+  is = new ∙ ap (λ (b : List Step). even p workers [] b) (sym board);
+  low = All-nil (λ n. n ≤ length p.clauses + length t.board);
+  few = λ lt. absurd (omega arith);
+  leads = λ more last b r.
+      let e : more ≡ 0 + more = omega arith in
+      subst (λ (n : ℕ). AreRounds 1000 p workers n [] [] last b) e (subst (λ (c : List Step). AreRounds 1000 p workers more [] c last b) board r);
+}
+  where
+    board : t.board ≡ []
+    board = ap (λ (x : TeamView). x.board) new
 
 -- a round on it
 pub rounded : (p : Instance) (workers rounds : ℕ) (s u : TeamView) → (h : RoundsSoFar p workers rounds s) → IsRounded s workers u → (u ≡ even p workers h.taken u.board) × IsRound 1000 p workers h.taken s.board u.board
@@ -113,9 +130,9 @@ rounds_more p workers rounds s u t h g takes = record {
       (All-weaker (λ n. n ≤ length p.clauses + length s.board) (λ n. n ≤ length p.clauses + length u.board) (λ n le. omega (arith, le, more_steps)) h.taken h.low)
       (short_low (length p.clauses + length s.board + 1) (drop (length s.board) u.board) (length p.clauses + length u.board) (omega (arith, length-drop (length s.board) u.board, more_steps))));
   few = λ _ lt. subst (λ (q : Instance). 1000 < 3 ^ q.vars) problem (g.few lt);
-  leads = λ more b r.
+  leads = λ more last b r.
       let one : rounds + suc more ≡ rounds + 1 + more = omega arith in
-      subst (λ (n : ℕ). AreRounds 1000 p workers n [] [] b) one (h.leads (suc more) b (u.board, round.1, subst (λ (c : List Step). AreRounds 1000 p workers more (taken_after p u.board (length s.board) h.taken) c b) board r));
+      subst (λ (n : ℕ). AreRounds 1000 p workers n [] [] last b) one (h.leads (suc more) last b (u.board, round.1, subst (λ (c : List Step). AreRounds 1000 p workers more (taken_after p u.board (length s.board) h.taken) c last b) board r));
 }
   where
     problem : s.problem ≡ p
@@ -133,8 +150,42 @@ rounds_more p workers rounds s u t h g takes = record {
     more_steps : length s.board ≤ length u.board
     more_steps = grown p workers h.taken s.board u.board round.1
 
+so_many : (p : Instance) (workers rounds : ℕ) (t : TeamView) → (h : RoundsSoFar p workers rounds t) → AreRounds 1000 p workers rounds [] [] h.taken t.board
+so_many p workers rounds t h = let e : rounds + 0 ≡ rounds = omega arith in subst (λ (n : ℕ). AreRounds 1000 p workers n [] [] h.taken t.board) e (h.leads 0 h.taken t.board (refl, refl))
+
 pub rounds_done : (p : Instance) (workers rounds : ℕ) (t : TeamView) → RoundsSoFar p workers rounds t → Rounds p t.board workers rounds
-rounds_done p workers rounds t h = let e : rounds + 0 ≡ rounds = omega arith in subst (λ (n : ℕ). AreRounds 1000 p workers n [] [] t.board) e (h.leads 0 t.board refl)
+rounds_done p workers rounds t h = (h.taken, so_many p workers rounds t h)
+
+-- ---- a round that stops
+
+stopped : (p : Instance) (workers done : ℕ) (s u : TeamView) (x : Turn) → (h : RoundsSoFar p workers done s) → Stops s workers u x → IsStopped p workers h.taken s.board u.board x
+stopped p workers done s u x h g =
+    let problem : s.problem ≡ p = ap (λ (y : TeamView). y.problem) h.is in
+    subst (λ (q : Instance). IsStopped q workers h.taken s.board u.board x) problem (g workers h.taken (omega arith) (h.is ∙ ap (λ (q : Instance). even q workers h.taken s.board) (sym problem)))
+
+turn_reached : (p : Instance) (workers rounds done : ℕ) (s u : TeamView) (x : Turn) → done < rounds → (h : RoundsSoFar p workers done s) → (e : IsStopped p workers h.taken s.board u.board x) → IsAtTurn 1000 p workers rounds h.taken e.before
+turn_reached p workers rounds done s u x lt h e = record {
+  done = done;
+  worker = e.worker;
+  in_rounds = lt;
+  of_workers = e.of_workers;
+  before = s.board;
+  rounds_before = so_many p workers done s h;
+  turns_before = e.turns_before;
+}
+
+pub rounds_stop : (p : Instance) (workers rounds done : ℕ) (s u : TeamView) (x : Turn) → done < rounds → RoundsSoFar p workers done s → RoundsTo s workers u x → (x ≡ turn.Gave → ⊥) → EndsBy p workers rounds u.board x
+rounds_stop p workers rounds done s u (turn.Model values) lt h g stops =
+    let e : IsStopped p workers h.taken s.board u.board (turn.Model values) = stopped p workers done s u (turn.Model values) h g in
+    record {
+      taken = h.taken;
+      reached = subst (λ (b : List Step). IsAtTurn 1000 p workers rounds h.taken b) (sym e.ends.1) (turn_reached p workers rounds done s u (turn.Model values) lt h e);
+      model = e.ends.0;
+    }
+rounds_stop p workers rounds done s u turn.Refuted lt h g stops =
+    let e : IsStopped p workers h.taken s.board u.board turn.Refuted = stopped p workers done s u turn.Refuted h g in
+    record { taken = h.taken; before = e.before; reached = turn_reached p workers rounds done s u turn.Refuted lt h e; refuted = e.ends }
+rounds_stop p workers rounds done s u turn.Gave lt h g stops = absurd (stops refl)
 
 pub part_len : (p : Instance) (board : List Step) (w m : ℕ) (new old : List ℕ) → length (partly p board w m new old).workers ≡ w + m
 part_len p board w m new old =

@@ -1,5 +1,6 @@
 -- The problem of the worked rows is one, and what is learned over it.
-use Rattle.std.proofs.Common.{◌≡◌, ℕ, ◌<◌, ◌≤◌, ℤ, [], ◌∷◌, All, Some, pos, refl, lit<, arith}
+use Rattle.std.proofs.Common.{◌≡◌, ℕ, ◌<◌, ◌≤◌, ◌||◌, Bool, true, false, ℤ, [], ◌∷◌, All, Some, pos, refl, lit<, arith}
+use Rattle.std.specs.Ordering.{int_eq}
 use Rattle.std.specs.Prelude.{slice_index_or}
 use Rattle.std.proofs.lemmas.List.Elements.{All-nil, All-cons}
 use Rattle.mono_base.specs.declared.limits.TheConstants.{MAX_NODES, MAX_EDGES, MAX_LITERALS}
@@ -7,10 +8,11 @@ use Rattle.mono_base.specs.Literal.{IsLitWithin}
 use Rattle.mono_problem.specs.declared.atom.Atom.{Atom}
 use Rattle.mono_problem.specs.Instance.{identity_at, place_named}
 use Rattle.mono_problem.specs.WellFormed.{IsInstance, IsAtomAt, IsDeclared, count_numbered}
-use Rattle.mono_steps.specs.New.{IsProgress}
+use Rattle.mono_steps.specs.New.{IsExactEnd, IsNewClause, IsProgress}
 use Rattle.mono_steps.specs.WorkedLemmas.{minus}
 use Rattle.mono_steps.proofs.WorkedNew.{one_is_new}
 use Rattle.mono_search.specs.Worked.{two_clauses, first_learned}
+use Rattle.mono_portfolio.specs.Worked.{four_clauses, given_first}
 
 two : (l m : ℤ) → IsLitWithin 2 l → IsLitWithin 2 m → All (IsLitWithin 2) (l ∷ m ∷ [])
 two l m h k = All-cons (IsLitWithin 2) l (m ∷ []) h (All-cons (IsLitWithin 2) m [] k (All-nil (IsLitWithin 2)))
@@ -44,3 +46,19 @@ two_clauses_ok = record {
 -- one clause was learned over it
 pub one_learned : IsProgress two_clauses 1 first_learned
 one_learned = record { justified = refl; new = one_is_new two_clauses refl refl refl; chains = refl; few = lit< tt }
+
+-- ---- {1, 2} is learned over the four clauses
+
+two_twice : (a b : Bool) → (a || (b || false)) ≡ (a || (b || (a || (b || false))))
+two_twice true b = refl
+two_twice false true = refl
+two_twice false false = refl
+
+first_end : IsExactEnd four_clauses.clauses (record { clause = pos 1 ∷ pos 2 ∷ []; used = 1 ∷ 2 ∷ [] })
+first_end = record { named = refl; end = pos 1 ∷ pos 2 ∷ pos 1 ∷ pos 2 ∷ []; is_end = refl; same = λ l. two_twice (int_eq l (pos 1)) (int_eq l (pos 2)) }
+
+first_open : IsNewClause four_clauses.clauses (pos 1 ∷ pos 2 ∷ [])
+first_open = record { under = minus 2 ∷ []; partial = refl; quiet = refl; lit = pos 1; is_literal = refl; has = refl; is_open = refl; others = refl }
+
+pub first_given : IsProgress four_clauses 1 (given_first ∷ [])
+first_given = record { justified = refl; new = record { chains = ((λ full. record { exact = first_end; new = first_open }), tt); none_empty = refl }; chains = refl; few = lit< tt }

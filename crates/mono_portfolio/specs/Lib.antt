@@ -7,7 +7,8 @@ pub mod Plays
 pub mod Soundness
 pub mod Preferred
 pub mod Searched
+pub mod Rounds
+pub mod Ends
 pub mod Turns
 pub mod Outcomes
-pub mod Rounds
 pub mod Worked

@@ -1,8 +1,8 @@
 -- What a team may answer to each event, and the state that the event leaves.
-use Rattle.std.specs.Prelude.{◌≡◌, ℕ, List, [], ◌∷◌, ◌++◌, length, MatchOption, IsTrue}
+use Rattle.std.specs.Prelude.{◌≡◌, ℕ, List, [], ◌∷◌, ◌++◌, length, MatchOption}
 use Rattle.mono_problem.specs.Instance.{Instance}
 use Rattle.mono_steps.specs.declared.step.Step.{Step}
-use Rattle.mono_steps.specs.Steps.{is_refutation}
+use Rattle.mono_steps.specs.Trimmed.{IsTrimRefutation}
 use Rattle.mono_search.specs.Outcomes.{HasModel}
 use Rattle.mono_portfolio.specs.declared.event.Event.{Event}
 use Rattle.mono_portfolio.specs.declared.event.Event.TheVariants as event
@@ -21,7 +21,7 @@ pub record Makes (s : TeamView) (w : ℕ) (P : Instance → List Step → Type 0
 -- the event isn't refused: its reply, and the state after it
 abbrev pub Served : TeamView → Event → Reply → TeamView → Type 0
 Served s (event.Run w slice) (reply.Model model) t = HasModel s.problem model × (t ≡ with_made s w [])
-Served s (event.Run w slice) reply.Unsat t = Makes s w (λ p steps. IsTrue (is_refutation p steps)) t
+Served s (event.Run w slice) reply.Unsat t = Makes s w (λ p steps. IsTrimRefutation p steps) t
 Served s (event.Run w slice) reply.Slice t = Makes s w (λ p steps. IsProgress p slice steps) t
 Served s (event.Give w) (reply.Given n) t = (n ≡ length (worker_at s w).made) × (t ≡ after_give s w)
 Served s (event.Take w n) reply.Taken t = t ≡ with_worker s w (record { taken = (worker_at s w).taken ++ n ∷ []; made = [] })

@@ -34,12 +34,13 @@ abbrev pub taking : Instance → List Step → List ℕ → List ℕ → List �
 taking p board taken [] = taken
 taking p board taken (n ∷ ns) = taking p board (if passes_limits (extended p board (taken ++ n ∷ [])) then taken else taken ++ n ∷ []) ns
 
--- so many rounds, one after another; after each the short chains given in it are taken
-abbrev pub AreRounds : ℕ → Instance → ℕ → ℕ → List ℕ → List Step → List Step → Type 0
-AreRounds slice p workers zero taken before board = board ≡ before
-AreRounds slice p workers (suc rounds) taken before board =
+-- so many rounds, one after another; after each the short chains given in it are taken. What all workers took and the board, before them
+-- and behind them
+abbrev pub AreRounds : ℕ → Instance → ℕ → ℕ → List ℕ → List Step → List ℕ → List Step → Type 0
+AreRounds slice p workers zero taken before last board = (last ≡ taken) × (board ≡ before)
+AreRounds slice p workers (suc rounds) taken before last board =
     (after : List Step) × IsRound slice p workers taken before after
-    × AreRounds slice p workers rounds (taking p after taken (short_chains (length p.clauses + length before + 1) (drop (length before) after))) after board
+    × AreRounds slice p workers rounds (taking p after taken (short_chains (length p.clauses + length before + 1) (drop (length before) after))) after last board
 
 abbrev pub Rounds : Instance → List Step → ℕ → ℕ → Type 0
-Rounds p board workers rounds = AreRounds 1000 p workers rounds [] [] board
+Rounds p board workers rounds = (last : List ℕ) × AreRounds 1000 p workers rounds [] [] last board

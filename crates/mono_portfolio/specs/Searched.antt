@@ -1,7 +1,7 @@
 -- What a worker's search comes to.
-use Rattle.std.specs.Prelude.{◌≡◌, ℕ, Bool, [], List, IsTrue}
+use Rattle.std.specs.Prelude.{◌≡◌, ℕ, Bool, [], List}
 use Rattle.mono_problem.specs.Instance.{Instance}
-use Rattle.mono_steps.specs.Steps.{is_refutation}
+use Rattle.mono_steps.specs.Trimmed.{IsTrimRefutation}
 use Rattle.mono_steps.specs.declared.step.Step.{Step}
 use Rattle.mono_search.specs.Outcomes.{HasModel}
 use Rattle.mono_steps.specs.New.{IsProgress}
@@ -11,7 +11,7 @@ use Rattle.mono_portfolio.specs.declared.event.Reply.TheVariants as reply
 -- what a worker of the problem p tells, and what it made, after a search over the problem q
 abbrev pub Tells : Instance → Instance → ℕ → Reply → List Step → Type 0
 Tells p q slice (reply.Model model) made = HasModel p model × (made ≡ [])
-Tells p q slice reply.Unsat made = IsTrue (is_refutation q made)
+Tells p q slice reply.Unsat made = IsTrimRefutation q made
 Tells p q slice reply.Slice made = IsProgress q slice made
 Tells p q slice r made = ⊥
 

@@ -6,7 +6,7 @@ use Rattle.mono_steps.specs.declared.step.Step.{Step}
 use Rattle.mono_steps.specs.declared.step.Step.TheVariants as step
 use Rattle.mono_steps.specs.Worked.{clauses_over}
 use Rattle.mono_steps.specs.WorkedLemmas.{minus, chain, of_1}
-use Rattle.mono_search.specs.Worked.{two_clauses, first_learned, learned_behind_a_lemma}
+use Rattle.mono_search.specs.Worked.{both_signs, two_clauses, first_learned, learned_behind_a_lemma}
 use Rattle.mono_portfolio.specs.declared.event.Event.{Event}
 use Rattle.mono_portfolio.specs.declared.event.Event.TheVariants as event
 use Rattle.mono_portfolio.specs.declared.event.Reply.{Reply}
@@ -35,6 +35,10 @@ team board workers = record { problem = two_clauses; board = board; workers = wo
 abbrev pub two_workers : TeamView
 two_workers = team learned_behind_a_lemma (worker (4 ∷ []) [] ∷ worker [] first_learned ∷ [])
 
+-- the one worker of a team over {1} and {-1} made these steps
+abbrev pub refuted_by : List Step → TeamView
+refuted_by steps = record { problem = both_signs; board = []; workers = worker [] steps ∷ [] }
+
 -- a slice, given and taken, and refusals
 abbrev pub events : List Event
 events =
@@ -48,6 +52,10 @@ replies =
 
 abbrev pub at_end : TeamView
 at_end = team first_learned (worker [] [] ∷ worker (3 ∷ []) [] ∷ [])
+
+-- {1, 2}, {1, -2} and {-1}, of which the first two give {1}
+abbrev pub three_clauses : Instance
+three_clauses = clauses_over 2 ((pos 1 ∷ pos 2 ∷ []) ∷ (pos 1 ∷ minus 2 ∷ []) ∷ (minus 1 ∷ []) ∷ [])
 
 -- {1} follows from these, by {1, 2} and {1, -2}
 abbrev pub four_clauses : Instance

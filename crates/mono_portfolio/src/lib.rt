@@ -27,6 +27,8 @@ mod team;
 mod whole_plays;
 /// Boards, extended problems and refusals that were worked by hand.
 pub mod worked;
+/// Ends of rounds that were worked by hand.
+pub mod worked_ends;
 /// Plays that were worked by hand.
 pub mod worked_plays;
 /// Rounds that were worked by hand.

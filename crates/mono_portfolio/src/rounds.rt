@@ -150,9 +150,9 @@ fn play_rounds<'p, T: Theory, F: Fn(&Problem) -> Result<Vec<T>, AllocError>>(
 /// How a team's rounds end.
 #[derive(Drop)]
 pub enum TeamOutcome {
-    /// These values satisfy the problem.
-    Model(Row<bool>),
-    /// These steps refute it.
+    /// A turn found values that satisfy the problem. The board has what was given in the turns before it.
+    Model { values: Row<bool>, board: Row<Step> },
+    /// A turn refuted, and so does the board, of which what was given in that turn is the end.
     Refutation(Row<Step>),
     /// All rounds were played, and this is the board.
     Board(Row<Step>),
@@ -177,7 +177,7 @@ pub fn play_team<T: Theory, F: Fn(&Problem) -> Result<Vec<T>, AllocError>>(
     let end = play_rounds::<T, F>(&mut team, make, workers, rounds)?;
     let board = Row::from_vec(team.into_board());
     match end {
-        Turn::Model(model) => Ok(TeamOutcome::Model(model)),
+        Turn::Model(values) => Ok(TeamOutcome::Model { values, board }),
         Turn::Refuted => Ok(TeamOutcome::Refutation(board)),
         Turn::Gave => Ok(TeamOutcome::Board(board)),
     }

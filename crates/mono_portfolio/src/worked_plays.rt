@@ -13,7 +13,7 @@ ghost use Rattle.mono_portfolio.specs.Plays.{Answers, Plays};
 ghost use Rattle.mono_portfolio.specs.Soundness.{given, refuted_last, IsSound, IsPlay};
 ghost use Rattle.mono_search.specs.Worked.{two_clauses, both_signs, learned_clause, first_learned, learned_behind_a_lemma};
 ghost use Rattle.mono_portfolio.specs.Worked.{some_lemma, made};
-ghost use Rattle.mono_portfolio.specs.Worked.{on_the_board, worker, team, two_workers, events, replies, at_end};
+ghost use Rattle.mono_portfolio.specs.Worked.{on_the_board, worker, team, two_workers, events, refuted_by, replies, at_end};
 
 use crate::laws::every_play_is_sound;
 
@@ -30,11 +30,15 @@ pub fn plays_with_other_replies()
     ensures after_a_refusal { Plays (start two_clauses 2) (event.Run 5 1 ∷ []) (reply.NoWorker ∷ []) at_end → ⊥ }
 {}
 
-/// A slice has as many chains as were asked for, and fewer than 3 to the number of variables.
+/// A slice has as many chains as were asked for, and fewer than 3 to the number of variables. A refutation has no step that its last
+/// one doesn't rest on.
 pub fn answers_to_runs()
     ensures fewer_chains { Answers (start two_clauses 2) (event.Run 0 2) reply.Slice (team [] (worker [] first_learned ∷ worker [] [] ∷ [])) → ⊥ }
     ensures beyond { (t : TeamView) → Answers (start two_clauses 2) (event.Run 0 9) reply.Slice t → ⊥ }
     ensures no_refutation { Answers (start two_clauses 2) (event.Run 0 1) reply.Unsat (team [] (worker [] first_learned ∷ worker [] [] ∷ [])) → ⊥ }
+    ensures refuted { Answers (start both_signs 1) (event.Run 0 1) reply.Unsat (refuted_by (chain [] (1 ∷ 2 ∷ []) ∷ [])) }
+    ensures idle_step { Answers (start both_signs 1) (event.Run 0 1) reply.Unsat
+        (refuted_by (chain (pos 1 ∷ []) (1 ∷ []) ∷ chain [] (1 ∷ 2 ∷ []) ∷ [])) → ⊥ }
     ensures false_clause { (t : TeamView) → Answers (start two_clauses 2) (event.Run 0 1) (reply.Model (false ∷ true ∷ [])) t → ⊥ }
     ensures model_keeps_made { Answers two_workers (event.Run 1 1) (reply.Model (true ∷ false ∷ [])) two_workers → ⊥ }
     ensures other_worker { Answers (start two_clauses 2) (event.Run 0 1) reply.Slice (team [] (worker [] [] ∷ worker [] first_learned ∷ [])) → ⊥ }

@@ -73,6 +73,13 @@ impl Problem {
         self.var_count
     }
 
+    /// What holds of every problem. Nothing is computed: it is there for the clause.
+    pub fn known(&self)
+        ensures problem { IsInstance self.now }
+    {
+        let _ = &self.var_count;
+    }
+
     /// How many graphs there are.
     pub fn graph_count(&self) -> u32
         ensures { result ≡ length self.now.graphs }

@@ -9,7 +9,6 @@ use Rattle.mono_dynamic.specs.Rows.{alone}
 use Rattle.mono_dynamic.specs.Ways.{ways_of}
 use Rattle.mono_steps.specs.declared.lemma.Witness.{Witness}
 use Rattle.mono_theory.specs.declared.stage.Stage.{Stage}
-use Rattle.mono_theory.specs.Bound.{Bound}
 use Rattle.mono_theory.specs.PossibleRows.{PossibleView}
 use Rattle.mono_theory.specs.Supports.{SideView}
 use Rattle.mono_theory.specs.Worked.{reaches}
@@ -42,9 +41,6 @@ searched at = side.Searches (showing false at None)
 abbrev pub cut_off : Stage → Option Witness → EitherSide PossibleView
 cut_off at w = side.Searches (showing true at w)
 
-abbrev pub no_bounds : Bound
-no_bounds = record { vars = []; under = []; over = [] }
-
 -- in a graph with two nodes, node 0 was reached, and then these
 abbrev pub from_node_0 : List Arrival → Reached
 from_node_0 arrivals = record (alone 2 0) { arrivals = (alone 2 0).arrivals ++ arrivals }
@@ -52,7 +48,7 @@ from_node_0 arrivals = record (alone 2 0) { arrivals = (alone 2 0).arrivals ++ a
 -- the atom's row is the second of two, with these arrivals behind the one at its source
 abbrev pub rows_with : ℕ → List Arrival → EitherSide SureMarks
 rows_with looked arrivals = side.Rows (record {
-  bounds = no_bounds;
+  part = [];
   looked = looked;
   rows = record { rows = alone 2 1 ∷ from_node_0 arrivals ∷ []; row_of = 1 ∷ []; lasts = 1 ∷ [] };
   due = false ∷ [];
@@ -66,7 +62,7 @@ marks_with arrivals = record { rows = alone 2 1 ∷ from_node_0 arrivals ∷ [];
 -- of reach since so many literals, if that is known, and an edge of the tree went with one, if it did.
 abbrev pub trees_with : ℕ → Option ℕ → Option ℕ → List Arrival → EitherSide PossibleView
 trees_with looked since lost arrivals = side.Rows (record {
-  bounds = no_bounds;
+  part = [];
   looked = looked;
   rows = record {
     rows = record {

@@ -5,11 +5,25 @@
 //! predicate in the greater part is evidence in the part itself. Which edges are put in is free: a walk through them shows
 //! itself in the search.
 
-ghost use Rattle.std.specs.Prelude.{◌≡◌, ◌<◌, IfOk, length};
+ghost use Rattle.std.specs.Prelude.{◌≡◌, ◌<◌, ℕ, All, IfOk, length};
 ghost use Rattle.mono_graph.specs.Digraph.{IsPartOf, IsSubpart};
 
 use mono_graph::{Graph, Part};
 use std::alloc::{AllocError, Global};
+
+/// A node is found and waits, unless it was found before.
+fn find(found: &mut Vec<bool>, waiting: &mut Vec<u32>, node: u32) -> Result<(), AllocError>
+    requires { node < length found.old.items }
+    ensures len { length found.new.items ≡ length found.old.items }
+    ensures waiting { (n : ℕ) → node < n → All (λ u. u < n) waiting.old.items → All (λ u. u < n) waiting.new.items }
+{
+    if found[node as usize] {
+        return Ok(());
+    }
+    found[node as usize] = true;
+    waiting.push(node)?;
+    Ok(())
+}
 
 /// By node, whether a walk of present edges was found that leads from it to the last one.
 fn leading_to(alloc: Global, graph: &Graph, part: &Part, last: u32) -> Result<Vec<bool>, AllocError>
@@ -17,27 +31,19 @@ fn leading_to(alloc: Global, graph: &Graph, part: &Part, last: u32) -> Result<Ve
     requires last { last < graph.now.nodes }
     ensures { IfOk result (λ found. length found.items ≡ graph.now.nodes) }
 {
-    let count = graph.nodes();
-    let mut found = vec![in alloc; false; count as usize]?;
+    let count = graph.nodes() as usize;
+    let mut found = vec![in alloc; false; count]?;
     let mut waiting = Vec::new(alloc);
-    found[last as usize] = true;
-    waiting.push(last)?;
-    for _round in 0..count {
-        let Some(node) = waiting.pop() else {
-            return Ok(found);
-        };
-        // Each node that waits is one of the graph: this only spares the proof of it.
-        if node >= count {
-            return Ok(found);
+    find(&mut found, &mut waiting, last)?;
+    for at in 0..count {
+        if at >= waiting.len() {
+            break;
         }
-        for place in graph.entering(node) {
-            if part.has(*place) {
-                let from = graph.edge(*place).from;
-                if !found[from as usize] {
-                    found[from as usize] = true;
-                    waiting.push(from)?;
-                }
+        for place in graph.entering(waiting[at]) {
+            if !part.has(*place) {
+                continue;
             }
+            find(&mut found, &mut waiting, graph.edge(*place).from)?;
         }
     }
     Ok(found)

@@ -145,6 +145,8 @@ impl Kind for Reach {
 
     const MOST_FOLLOWED: u32 = u32::MAX;
 
+    const LEAST_FOLLOWED: u32 = 0;
+
     fn with_nodes(alloc: Global, count: u32) -> Result<Self, AllocError> {
         let finder = WalkFinder::new(alloc, count)?;
         let mender = WalkMender::new(alloc, count)?;

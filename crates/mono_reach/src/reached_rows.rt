@@ -15,8 +15,9 @@ use crate::ends::{ends_of, sources_of};
 use crate::reach::Reach;
 use mono_base::{Lit, Worklist};
 use mono_dynamic::{ReachedNodes, Sources};
+use mono_graph::Part;
 use mono_theory::walks::walk_evidence;
-use mono_theory::{Bounds, Evidence, Frame, Rows, SureRows, last_nodes};
+use mono_theory::{Evidence, Frame, Rows, SureRows, last_nodes};
 use std::alloc::{AllocError, Global};
 use std::marker::Model;
 
@@ -120,12 +121,12 @@ impl Rows<Reach> for ReachedRows {
     fn look_at(
         &mut self,
         frame: &Frame,
-        bounds: &Bounds,
+        part: &Part,
         looked: usize,
         lit: Lit,
         due: &mut Worklist,
     ) -> Result<(), AllocError> {
-        self.rows.look_at(frame, bounds, looked, lit, due)?;
+        self.rows.look_at(frame, part, looked, lit, due)?;
         Ok(())
     }
 
@@ -133,7 +134,7 @@ impl Rows<Reach> for ReachedRows {
         &mut self,
         alloc: Global,
         frame: &Frame,
-        bounds: &Bounds,
+        part: &Part,
         looked: usize,
         due: &mut Worklist,
     ) -> Result<(), AllocError> {

@@ -12,10 +12,10 @@ use Rattle.std.proofs.Math.Bool.{or-false}
 use Rattle.std.proofs.lemmas.List.Sums.{length-filter, count_by-le-length}
 use Rattle.mono_base.specs.Literal.{var_of, IsLitWithin}
 use Rattle.mono_base.specs.Partial.{is_open_in}
-use Rattle.mono_theory.specs.Theories.{Facts, concerns_of}
+use Rattle.mono_theory.specs.Theories.{Facts, concerns_of, seeing}
 use Rattle.mono_theory.specs.Variables.{AreVarsOf}
 use Rattle.mono_search.specs.Updates.{update_all, CanUpdate}
-use Rattle.mono_search.specs.TheoryLists.{concerning, concerned_from, IsConcernTable, AddsTheory, AddsPlace, seeing, without_last, with_seen, handed_on, MaySee, IsCurrent}
+use Rattle.mono_search.specs.TheoryLists.{concerning, concerned_from, IsConcernTable, AddsTheory, AddsPlace, without_last, with_seen, handed_on, MaySee, IsCurrent}
 use Rattle.mono_search.proofs.Updates.{can_update, updated}
 use Rattle.mono_search.proofs.Sweeps.{part_split, front_of}
 
@@ -145,23 +145,23 @@ listed vars fs table lits i v l ps within t lt at var is =
 
 -- ---- a literal is handed on
 
-seen_too : (l : ℤ) (f : Facts) → cond (concerns_of f.graph f.atoms (var_of l)) (seeing l f) f ≡ handed_on l f
+seen_too : (l : ℤ) (f : Facts) → cond (concerns_of f.graph f.atoms (var_of l)) (seeing f l) f ≡ handed_on l f
 seen_too l f = by (concerns_of f.graph f.atoms (var_of l))
   where
-    by : (b : Bool) → cond b (seeing l f) f ≡ record { graph = f.graph; atoms = f.atoms; seen = f.seen ++ cond b (l ∷ []) [] }
+    by : (b : Bool) → cond b (seeing f l) f ≡ record { graph = f.graph; atoms = f.atoms; seen = f.seen ++ cond b (l ∷ []) [] }
     by true = refl
     by false = ap (λ (s : List ℤ). record { graph = f.graph; atoms = f.atoms; seen = s }) (sym (append-nil f.seen))
 
-all_seen_too : (l : ℤ) (fs : List Facts) → map (λ f. cond (concerns_of f.graph f.atoms (var_of l)) (seeing l f) f) fs ≡ map (handed_on l) fs
+all_seen_too : (l : ℤ) (fs : List Facts) → map (λ f. cond (concerns_of f.graph f.atoms (var_of l)) (seeing f l) f) fs ≡ map (handed_on l) fs
 all_seen_too l [] = refl
-all_seen_too l (f ∷ fs) = ap (λ (x : Facts). x ∷ map (λ g. cond (concerns_of g.graph g.atoms (var_of l)) (seeing l g) g) fs) (seen_too l f) ∙ ap (λ (xs : List Facts). handed_on l f ∷ xs) (all_seen_too l fs)
+all_seen_too l (f ∷ fs) = ap (λ (x : Facts). x ∷ map (λ g. cond (concerns_of g.graph g.atoms (var_of l)) (seeing g l) g) fs) (seen_too l f) ∙ ap (λ (xs : List Facts). handed_on l f ∷ xs) (all_seen_too l fs)
 
-pub handed_by_table : (l : ℤ) (fs : List Facts) → update_all (seeing l) (concerned_from 0 fs (var_of l)) fs ≡ map (handed_on l) fs
-handed_by_table l fs = ap (update_all (seeing l) (concerned_from 0 fs (var_of l))) (sym (map-id fs)) ∙ updated (MaySee l) (seeing l) (λ f. f) (var_of l) fs ∙ all_seen_too l fs
+pub handed_by_table : (l : ℤ) (fs : List Facts) → update_all (λ (f : Facts). seeing f l) (concerned_from 0 fs (var_of l)) fs ≡ map (handed_on l) fs
+handed_by_table l fs = ap (update_all (λ (f : Facts). seeing f l) (concerned_from 0 fs (var_of l))) (sym (map-id fs)) ∙ updated (MaySee l) (λ (f : Facts). seeing f l) (λ f. f) (var_of l) fs ∙ all_seen_too l fs
 
-pub may_hand : (l : ℤ) (fs : List Facts) → All (λ f. IsTrue (is_open_in f.seen l)) fs → CanUpdate (MaySee l) (seeing l) (concerned_from 0 fs (var_of l)) fs
-may_hand l fs fresh = subst (CanUpdate (MaySee l) (seeing l) (concerned_from 0 fs (var_of l))) (map-id fs)
-    (can_update (MaySee l) (seeing l) (λ f. f) (var_of l) fs (λ k d lt c. record { concerned = c; fresh = fresh k d lt }))
+pub may_hand : (l : ℤ) (fs : List Facts) → All (λ f. IsTrue (is_open_in f.seen l)) fs → CanUpdate (MaySee l) (λ (f : Facts). seeing f l) (concerned_from 0 fs (var_of l)) fs
+may_hand l fs fresh = subst (CanUpdate (MaySee l) (λ (f : Facts). seeing f l) (concerned_from 0 fs (var_of l))) (map-id fs)
+    (can_update (MaySee l) (λ (f : Facts). seeing f l) (λ f. f) (var_of l) fs (λ k d lt c. record { concerned = c; fresh = fresh k d lt }))
 
 -- ---- literals are counted
 

@@ -62,16 +62,30 @@ open_lit t l v e o =
 
 -- ---- a decision
 
-pub decided_moved : (b : TheoriesView) (t u : TrailView) (s : StoreView) (steps : List Step) (o r : OrderView) (l : ℤ) (v : ℕ) → IsQuietState (state b t s steps o) → Leaves o r t.lits v → var_of l ≡ v → u ≡ joined t l Decided → IsSound u
+-- an open variable is decided next: the signs stay, and every other open variable that stood in the order still does
+pub record IsNext (o r : OrderView) (t : List ℤ) (v : ℕ) : Type 0 where
+  pub as_many : length r.waits ≡ length o.waits
+  pub phases : r.phases ≡ o.phases
+  pub is_open : IsTrue (is_open_in t (pos v))
+  pub stay : (w : ℕ) → w ≢ v → IsTrue (is_open_in t (pos w)) → IsTrue (value_in o.waits w) → IsTrue (value_in r.waits w)
+
+-- one that leaves the order, and any other one
+pub next_leaves : (o r : OrderView) (t : List ℤ) (v : ℕ) → Leaves o r t v → IsNext o r t v
+next_leaves o r t v leaves = record { as_many = leaves.as_many; phases = leaves.phases; is_open = leaves.is_open; stay = leaves.stay }
+
+pub next_stays : (o : OrderView) (t : List ℤ) (v : ℕ) → IsTrue (is_open_in t (pos v)) → IsNext o o t v
+next_stays o t v open_now = record { as_many = refl; phases = refl; is_open = open_now; stay = λ w other is waits. waits }
+
+pub decided_moved : (b : TheoriesView) (t u : TrailView) (s : StoreView) (steps : List Step) (o r : OrderView) (l : ℤ) (v : ℕ) → IsQuietState (state b t s steps o) → IsNext o r t.lits v → var_of l ≡ v → u ≡ joined t l Decided → IsSound u
     → HasAdvanced (state b t s steps o) (state b u s steps r)
-decided_moved b t u s steps o r l v q leaves var e sound = subst (λ (w : TrailView). HasAdvanced (state b t s steps o) (state b w s steps r)) (sym e) (moved (subst IsSound e sound))
+decided_moved b t u s steps o r l v q next var e sound = subst (λ (w : TrailView). HasAdvanced (state b t s steps o) (state b w s steps r)) (sym e) (moved (subst IsSound e sound))
   where
     wait : (w : ℕ) → IsVar (length r.waits) w → IsTrue (is_open_in (t.lits ++ l ∷ []) (pos w)) → IsTrue (value_in r.waits w)
     wait w is open_now =
         let before = open-fewer (t.lits ++ l ∷ []) t.lits (pos w) (λ m h. has-append_left t.lits (l ∷ []) m h) open_now in
         let there : IsTrue (has_lit (t.lits ++ l ∷ []) l) = subst (λ (m : ℤ). IsTrue (has_lit (t.lits ++ l ∷ []) m)) (get_or_seam t.lits l) (has_at (t.lits ++ l ∷ []) (length t.lits) (omega (arith, length-append t.lits (l ∷ [])))) in
         let other : w ≢ v = λ same. not_open (t.lits ++ l ∷ []) l there (subst (λ (x : ℕ). IsTrue (is_open_in (t.lits ++ l ∷ []) (pos x))) (same ∙ sym var) open_now) in
-        leaves.stay w other before (q.ready.whole.order.wait.at w (is.0, omega (arith, is.1, leaves.as_many)) before)
+        next.stay w other before (q.ready.whole.order.wait.at w (is.0, omega (arith, is.1, next.as_many)) before)
       where
         get_or_seam : (t : List ℤ) (l : ℤ) → get_or (t ++ l ∷ []) (length t) (pos 0) ≡ l
         get_or_seam [] l = refl
@@ -84,7 +98,7 @@ decided_moved b t u s steps o r l v q leaves var e sound = subst (λ (w : TrailV
           journal = q.ready.whole.journal;
           held = q.ready.whole.held;
           trail = supported_from b (joined t l Decided) steps (kept-joined b t steps l Decided (kept_from b t steps q.ready.whole.trail) tt (λ d. q.quiet)) sound;
-          order = record { vars = leaves.as_many ∙ q.ready.whole.order.vars; wait = record { at = wait } };
+          order = record { vars = next.as_many ∙ q.ready.whole.order.vars; wait = record { at = wait } };
         };
         follows = follows_decide s t l q.ready.whole.trail.sound q.all_given q.ready.follows;
       };
@@ -92,15 +106,15 @@ decided_moved b t u s steps o r l v q leaves var e sound = subst (λ (w : TrailV
       more = omega (arith, length-append t.lits (l ∷ []));
     }
 
-pub decided_by_sign : (b : TheoriesView) (t u : TrailView) (s : StoreView) (steps : List Step) (o r : OrderView) (l : ℤ) (v : ℕ) (sign : Bool) → Leaves o r t.lits v → (IsTrue (value_in r.phases v) → IsTrue sign) → l ≡ literal_of sign v → u ≡ joined t l Decided
+pub decided_by_sign : (b : TheoriesView) (t u : TrailView) (s : StoreView) (steps : List Step) (o r : OrderView) (l : ℤ) (v : ℕ) (sign : Bool) → IsNext o r t.lits v → (IsTrue (value_in r.phases v) → IsTrue sign) → l ≡ literal_of sign v → u ≡ joined t l Decided
     → DecidesBySign (state b t s steps o) (state b u s steps r)
-decided_by_sign b t u s steps o r l v sign leaves is lit e = record {
+decided_by_sign b t u s steps o r l v sign next is lit e = record {
   var = v;
   sign = sign;
-  is_open = leaves.is_open;
-  saved_sign = λ on. is (subst (λ (ps : List Bool). IsTrue (value_in ps v)) (sym leaves.phases) on);
+  is_open = next.is_open;
+  saved_sign = λ on. is (subst (λ (ps : List Bool). IsTrue (value_in ps v)) (sym next.phases) on);
   decided = e ∙ ap (λ (m : ℤ). joined t m Decided) lit;
-  phases = leaves.phases;
+  phases = next.phases;
 }
 
 -- ---- dropped literals

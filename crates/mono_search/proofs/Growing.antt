@@ -4,7 +4,7 @@ use Rattle.std.specs.Prelude.{IsTrue}
 use Rattle.std.specs.List.{list_all, list_any}
 use Rattle.std.specs.Ordering.{int_eq}
 use Rattle.std.proofs.Math.Seq.{get_or-append_seam, take-append_seam}
-use Rattle.std.proofs.lemmas.List.{take-append-le, length-take, get_or-take, get_or-map, length-map}
+use Rattle.std.proofs.lemmas.List.{take-append-le, length-take, get_or-take}
 use Rattle.std.proofs.lemmas.Bool.{cases_lt, and_parts, or_cases, or_left, or_right, both_ways}
 use Rattle.mono_base.proofs.Truth.{lit_itself}
 use Rattle.mono_base.specs.Literal.{has_lit, IsLitWithin, lit_at}
@@ -25,33 +25,31 @@ use Rattle.mono_clauses.specs.declared.found.Found.TheVariants as found
 use Rattle.mono_steps.specs.Steps.{clauses_after}
 use Rattle.mono_steps.specs.Journals.{known_clauses}
 use Rattle.mono_steps.proofs.LeftOpen.{has_at}
-use Rattle.mono_search.specs.Stored.{held_after}
 use Rattle.mono_trail.specs.Order.{OrderView, AllOpenWait}
 use Rattle.mono_learn.specs.Reasons.{WasUnit, IsFalseClause, IsConflict}
 use Rattle.mono_learn.proofs.LitSets.{has-append_left}
 use Rattle.mono_learn.proofs.ChainEnds.{filter_has}
 use Rattle.mono_learn.proofs.PlacesOfLits.{has_stands}
 use Rattle.mono_search.specs.Theories.{TheoriesView, HaveSeen}
-use Rattle.mono_search.specs.State.{KeepsReason, KeepsReasons, QuietAt, QuietBelow, IsSupported, OrderHasOpen, IsConsistent, IsReady}
+use Rattle.mono_search.specs.State.{KeepsReason, KeepsReasons, QuietAt, QuietBelow, HoldsKnown, IsNamed, IsSupported, OrderHasOpen, IsConsistent, IsReady}
 use Rattle.mono_search.specs.Runs.{HasGrown, ClausesQuiet, ClauseFalse, ClausesPropagatedAs}
 use Rattle.mono_search.proofs.Lists.{has_before, open_parts, open-fewer, all_or_one, false_in_clause}
 use Rattle.mono_base.proofs.Partials.{one_sign, is_partial-take}
 use Rattle.mono_search.proofs.Trails.{top_begins}
-use Rattle.mono_search.proofs.Journals.{held_named, lists-held}
 use Rattle.mono_search.proofs.Reasons.{reasons-joined, below-joined}
 
 -- what is kept while literals join
-pub record IsKept (b : TheoriesView) (t : TrailView) (steps : List Step) : Type 0 where
+pub record IsJoining (b : TheoriesView) (t : TrailView) (steps : List Step) : Type 0 where
   pub vars : t.vars ≡ b.problem.vars
   pub as_many : length t.marks ≡ length t.lits
   pub shown : HaveSeen b t.lits
   pub reasons : KeepsReasons b (clauses_after b.problem steps) t.lits t.marks
   pub below : QuietBelow b.problem (known_clauses b.problem steps) t.lits t.marks
 
-pub kept_from : (b : TheoriesView) (t : TrailView) (steps : List Step) → IsSupported b t steps → IsKept b t steps
+pub kept_from : (b : TheoriesView) (t : TrailView) (steps : List Step) → IsSupported b t steps → IsJoining b t steps
 kept_from b t steps f = record { vars = f.vars; as_many = f.sound.as_many; shown = f.shown; reasons = f.reasons; below = f.below }
 
-pub supported_from : (b : TheoriesView) (t : TrailView) (steps : List Step) → IsKept b t steps → IsSound t → IsSupported b t steps
+pub supported_from : (b : TheoriesView) (t : TrailView) (steps : List Step) → IsJoining b t steps → IsSound t → IsSupported b t steps
 supported_from b t steps k s = record { vars = k.vars; sound = s; shown = k.shown; reasons = k.reasons; below = k.below }
 
 shown-joined : (b : TheoriesView) (lits : List ℤ) (l : ℤ) → HaveSeen b lits → HaveSeen b (lits ++ l ∷ [])
@@ -60,8 +58,8 @@ shown-joined b lits l s = record {
   current = rw (take-append-le b.handed lits (l ∷ []) s.within) s.current;
 }
 
-pub kept-joined : (b : TheoriesView) (t : TrailView) (steps : List Step) (l : ℤ) (why : Reason) → IsKept b t steps → KeepsReason b (clauses_after b.problem steps) (t.lits ++ l ∷ []) (length t.lits) why
-    → (why ≡ Decided → QuietAt b.problem (known_clauses b.problem steps) t.lits) → IsKept b (joined t l why) steps
+pub kept-joined : (b : TheoriesView) (t : TrailView) (steps : List Step) (l : ℤ) (why : Reason) → IsJoining b t steps → KeepsReason b (clauses_after b.problem steps) (t.lits ++ l ∷ []) (length t.lits) why
+    → (why ≡ Decided → QuietAt b.problem (known_clauses b.problem steps) t.lits) → IsJoining b (joined t l why) steps
 kept-joined b t steps l why k new quiet =
     let m : Mark = record { level = next_level why t.level; reason = why } in
     record {
@@ -72,19 +70,19 @@ kept-joined b t steps l why k new quiet =
       below = below-joined b.problem (known_clauses b.problem steps) t.lits t.marks l m k.as_many k.below quiet;
     }
 
-pub kept-gave : (b : TheoriesView) (t : TrailView) (steps : List Step) → IsKept b t steps → IsKept b (gave t) steps
+pub kept-gave : (b : TheoriesView) (t : TrailView) (steps : List Step) → IsJoining b t steps → IsJoining b (gave t) steps
 kept-gave b t steps k = record { vars = k.vars; as_many = k.as_many; shown = k.shown; reasons = k.reasons; below = k.below }
 
 -- a unit clause of the store is one of all clauses
-pub unit_joined : (p : Instance) (steps : List Step) (lits : List ℤ) (n : ℕ) (x : ℤ) → IsUnitOf (held_after p steps) lits n x → WasUnit (clauses_after p steps) (lits ++ x ∷ []) (length lits) n
-unit_joined p steps lits n x u =
-    let c = get_or (held_after p steps) u.place no_clause in
-    let named : numbered (clauses_after p steps) c.number ≡ Some c.lits = held_named p steps u.place no_clause u.within in
+pub unit_joined : (cs : List (List ℤ)) (hs : List Held) (lits : List ℤ) (n : ℕ) (x : ℤ) → All (IsNamed cs) hs → IsUnitOf hs lits n x → WasUnit cs (lits ++ x ∷ []) (length lits) n
+unit_joined cs hs lits n x all u =
+    let c = get_or hs u.place no_clause in
+    let named : numbered cs c.number ≡ Some c.lits = all u.place no_clause u.within in
     let at : lit_at (lits ++ x ∷ []) (length lits) ≡ x = get_or-append_seam lits x [] (pos 0) in
     let front : take (length lits) (lits ++ x ∷ []) ≡ lits = take-append_seam lits (x ∷ []) in
     record {
       clause = c.lits;
-      is = subst (λ (m : ℕ). numbered (clauses_after p steps) m ≡ Some c.lits) u.number named;
+      is = subst (λ (m : ℕ). numbered cs m ≡ Some c.lits) u.number named;
       has = subst (λ (l : ℤ). IsTrue (has_lit c.lits l)) (sym at) u.has;
       others = subst (λ (l : ℤ). IsTrue (others_false (take (length lits) (lits ++ x ∷ [])) c.lits l)) (sym at) (subst (λ (t : List ℤ). IsTrue (others_false t c.lits x)) (sym front) u.others);
     }
@@ -94,23 +92,23 @@ not_decided n Q e = absurd cc
 
 -- what a propagation leaves of the trail
 pub record IsLonger (b : TheoriesView) (t u : TrailView) (steps : List Step) : Type 0 where
-  pub kept : IsKept b u steps
+  pub kept : IsJoining b u steps
   pub vars : u.vars ≡ t.vars
   pub more : length t.lits ≤ length u.lits
   pub has : (l : ℤ) → IsTrue (has_lit t.lits l) → IsTrue (has_lit u.lits l)
 
-pub kept-grows : (b : TheoriesView) (steps : List Step) (t u : TrailView) → Grows (held_after b.problem steps) t u → IsKept b t steps → IsLonger b t u steps
-kept-grows b steps t u (same v e) k = subst (λ (w : TrailView). IsLonger b t w steps) (sym e) (record { kept = k; vars = refl; more = omega arith; has = λ l h. h })
-kept-grows b steps t u (implies s v n x g unit e) k =
-    let l = kept-grows b steps t s g k in
+pub kept-grows : (b : TheoriesView) (steps : List Step) (hs : List Held) (t u : TrailView) → All (IsNamed (clauses_after b.problem steps)) hs → Grows hs t u → IsJoining b t steps → IsLonger b t u steps
+kept-grows b steps hs t u named (same v e) k = subst (λ (w : TrailView). IsLonger b t w steps) (sym e) (record { kept = k; vars = refl; more = omega arith; has = λ l h. h })
+kept-grows b steps hs t u named (implies s v n x g unit e) k =
+    let l = kept-grows b steps hs t s named g k in
     subst (λ (w : TrailView). IsLonger b t w steps) (sym e) (record {
-      kept = kept-joined b s steps x (Clause n) l.kept (unit_joined b.problem steps s.lits n x unit) (not_decided n (QuietAt b.problem (known_clauses b.problem steps) s.lits));
+      kept = kept-joined b s steps x (Clause n) l.kept (unit_joined (clauses_after b.problem steps) hs s.lits n x named unit) (not_decided n (QuietAt b.problem (known_clauses b.problem steps) s.lits));
       vars = l.vars;
       more = omega (arith, l.more, length-append s.lits (x ∷ []));
       has = λ m h. has-append_left s.lits (x ∷ []) m (l.has m h);
     })
-kept-grows b steps t u (gives s v g more e) k =
-    let l = kept-grows b steps t s g k in
+kept-grows b steps hs t u named (gives s v g more e) k =
+    let l = kept-grows b steps hs t s named g k in
     subst (λ (w : TrailView). IsLonger b t w steps) (sym e) (record { kept = kept-gave b s steps l.kept; vars = l.vars; more = l.more; has = l.has })
 
 pub wait-grown : (o : OrderView) (t u : List ℤ) → ((l : ℤ) → IsTrue (has_lit t l) → IsTrue (has_lit u l)) → AllOpenWait o t → AllOpenWait o u
@@ -170,12 +168,6 @@ all_at p [] k d h lt = absurd (omega arith)
 all_at p (x ∷ xs) zero d h lt = (and_parts (p x) (list_all p xs) h).0
 all_at p (x ∷ xs) (suc k) d h lt = all_at p xs k d (and_parts (p x) (list_all p xs) h).1 (omega arith)
 
--- a clause that is one of quiet ones
-unit_quiet_at : (cs : List Held) (t : List ℤ) (k : ℕ) → k < length cs → IsTrue (unit_quiet (lists_of cs) t) → IsTrue (is_quiet t (get_or cs k no_clause).lits)
-unit_quiet_at cs t k lt h =
-    let e : get_or (lists_of cs) k [] ≡ (get_or cs k no_clause).lits = get_or-map (λ (c : Held). c.lits) cs k no_clause [] lt in
-    subst (λ (c : List ℤ). IsTrue (is_quiet t c)) e (all_at (is_quiet t) (lists_of cs) k [] h (omega (arith, lt, length-map cs (λ (c : Held). c.lits))))
-
 pub within-take : (vars : ℕ) (t : List ℤ) (k : ℕ) → All (IsLitWithin vars) t → All (IsLitWithin vars) (take k t)
 within-take vars t k w = λ j d lt.
     let low : j < k = omega (arith, lt, length-take k t) in
@@ -189,19 +181,28 @@ quiet_at_start b t steps f one =
     f.below.at (count_to (t.level - 1) t.marks) (omega (arith, s.inside, f.sound.as_many)) s.decided
 
 -- a false clause of the store is a conflict
-pub false_held : (p : Instance) (steps : List Step) (t : List ℤ) (n : ℕ) → IsFalseOf (held_after p steps) t n → IsFalseClause (clauses_after p steps) t n
-false_held p steps t n f =
-    let c = get_or (held_after p steps) f.place no_clause in
-    record { clause = c.lits; is = subst (λ (m : ℕ). numbered (clauses_after p steps) m ≡ Some c.lits) f.number (held_named p steps f.place no_clause f.within); is_false = f.is_false }
+pub false_held : (cs : List (List ℤ)) (hs : List Held) (t : List ℤ) (n : ℕ) → All (IsNamed cs) hs → IsFalseOf hs t n → IsFalseClause cs t n
+false_held cs hs t n named f =
+    let c = get_or hs f.place no_clause in
+    record { clause = c.lits; is = subst (λ (m : ℕ). numbered cs m ≡ Some c.lits) f.number (named f.place no_clause f.within); is_false = f.is_false }
 
-pub conflict_held : (b : TheoriesView) (t : TrailView) (steps : List Step) (n : ℕ) → IsSupported b t steps → IsFalseOf (held_after b.problem steps) t.lits n → 1 ≤ t.level → IsConflict (clauses_after b.problem steps) t n
-conflict_held b t steps n f wrong one =
+pub conflict_held : (b : TheoriesView) (t : TrailView) (s : StoreView) (steps : List Step) (n : ℕ) → HoldsKnown b.problem steps b.given s → IsSupported b t steps → IsFalseOf s.clauses t.lits n → 1 ≤ t.level → IsConflict (clauses_after b.problem steps) t n
+conflict_held b t s steps n held f wrong one =
     let start = count_to (t.level - 1) t.marks in
-    let c = get_or (held_after b.problem steps) wrong.place no_clause in
-    let quiet : IsTrue (unit_quiet (lists_of (held_after b.problem steps)) (take start t.lits)) = subst (λ (cs : List (List ℤ)). IsTrue (unit_quiet cs (take start t.lits))) (sym (lists-held b.problem steps)) (quiet_at_start b t steps f one).units in
-    let here = unit_quiet_at (held_after b.problem steps) (take start t.lits) wrong.place wrong.within quiet in
-    let p = present_lit t c.lits f.sound one wrong.is_false (quiet_not_false (take start t.lits) c.lits (is_partial-take start t.lits f.sound.partial) here) in
-    record { clause = c.lits; is = subst (λ (m : ℕ). numbered (clauses_after b.problem steps) m ≡ Some c.lits) wrong.number (held_named b.problem steps wrong.place no_clause wrong.within); is_false = wrong.is_false; lit = p.lit; has = p.has; present = p.stands }
+    let c = get_or s.clauses wrong.place no_clause in
+    let calm = held.none_false (take start t.lits) (is_partial-take start t.lits f.sound.partial) (quiet_at_start b t steps f one) in
+    let p = present_lit t c.lits f.sound one wrong.is_false (calm wrong.place no_clause wrong.within) in
+    record { clause = c.lits; is = subst (λ (m : ℕ). numbered (clauses_after b.problem steps) m ≡ Some c.lits) wrong.number (held.named wrong.place no_clause wrong.within); is_false = wrong.is_false; lit = p.lit; has = p.has; present = p.stands }
+
+-- a store with the same clauses holds the same
+pub held_same : (p : Instance) (steps : List Step) (given : ℕ) (s r : StoreView) → r.vars ≡ s.vars → r.clauses ≡ s.clauses → HoldsKnown p steps given s → HoldsKnown p steps given r
+held_same p steps given s r vars alike h = record {
+  vars = vars ∙ h.vars;
+  named = subst (λ (hs : List Held). All (IsNamed (clauses_after p steps)) hs) (sym alike) h.named;
+  count = ap length alike ∙ h.count;
+  units = λ t quiet. h.units t (subst (λ (hs : List Held). IsTrue (unit_quiet (lists_of hs) t)) alike quiet);
+  none_false = λ t d quiet. subst (λ (hs : List Held). All (λ (c : Held). IsTrue (is_false_clause t c.lits) → ⊥) hs) (sym alike) (h.none_false t d quiet);
+}
 
 -- ---- a propagation
 
@@ -214,16 +215,16 @@ grown b t u s r steps o l = record { vars = l.vars; problem = refl; steps = refl
 
 module _ (b : TheoriesView) (t u : TrailView) (s r : StoreView) (steps : List Step) (o : OrderView) (ready : IsReady (record { theories = b; trail = t; store = s; steps = steps; order = o }))
     (vars : r.vars ≡ s.vars) (same_clauses : r.clauses ≡ s.clauses) (grows : Grows s.clauses t u) (sound : IsSound u) where
-  now_held : r.clauses ≡ held_after b.problem steps
-  now_held = same_clauses ∙ ready.whole.held.clauses
+  now_held : HoldsKnown b.problem steps b.given r
+  now_held = held_same b.problem steps b.given s r vars same_clauses ready.whole.held
 
   longer : IsLonger b t u steps
-  longer = kept-grows b steps t u (subst (λ (cs : List Held). Grows cs t u) ready.whole.held.clauses grows) (kept_from b t steps ready.whole.trail)
+  longer = kept-grows b steps s.clauses t u ready.whole.held.named grows (kept_from b t steps ready.whole.trail)
 
   whole : IsConsistent (record { theories = b; trail = u; store = r; steps = steps; order = o })
   whole = record {
     journal = ready.whole.journal;
-    held = record { vars = vars ∙ ready.whole.held.vars; clauses = now_held };
+    held = now_held;
     trail = supported_from b u steps longer.kept sound;
     order = order-grown b.problem o b t u steps longer ready.whole.order;
   }
@@ -232,17 +233,15 @@ module _ (b : TheoriesView) (t u : TrailView) (s r : StoreView) (steps : List St
   propagated_quiet q = record {
     grown = grown b t u s r steps o longer;
     ready = record { whole = whole; follows = q.follows };
-    units = subst (λ (cs : List (List ℤ)). IsTrue (unit_quiet cs u.lits)) (ap lists_of now_held ∙ lists-held b.problem steps) q.quiet;
+    units = now_held.units u.lits q.quiet;
     all_given = q.all_given;
   }
 
   pub propagated_false : (n : ℕ) → FalseFound r u n → ClauseFalse (record { theories = b; trail = t; store = s; steps = steps; order = o }) (record { theories = b; trail = u; store = r; steps = steps; order = o }) n
-  propagated_false n f =
-      let wrong : IsFalseOf (held_after b.problem steps) u.lits n = subst (λ (cs : List Held). IsFalseOf cs u.lits n) now_held f.is_false in
-      record {
-        grown = grown b t u s r steps o longer;
-        conflict = record { whole = whole; follows = f.follows; is_false = false_held b.problem steps u.lits n wrong; present = λ one. conflict_held b u steps n whole.trail wrong one };
-      }
+  propagated_false n f = record {
+    grown = grown b t u s r steps o longer;
+    conflict = record { whole = whole; follows = f.follows; is_false = false_held (clauses_after b.problem steps) r.clauses u.lits n now_held.named f.is_false; present = λ one. conflict_held b u r steps n now_held whole.trail f.is_false one };
+  }
 
   pub propagated : (x : Found) → FoundIs r u x → ClausesPropagatedAs (record { theories = b; trail = t; store = s; steps = steps; order = o }) (record { theories = b; trail = u; store = r; steps = steps; order = o }) x
   propagated found.Quiet q = propagated_quiet q

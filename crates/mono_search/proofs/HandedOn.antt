@@ -24,23 +24,26 @@ use Rattle.mono_search.specs.TheoryLists.{seen_of, IsCurrent, OthersAreQuiet, Ar
 use Rattle.mono_learn.specs.Explain.{AtomForces, IsExplanation}
 use Rattle.mono_learn.proofs.PlacesOfLits.{has_stands}
 use Rattle.mono_theory.specs.Owners.{OwnsEach}
-use Rattle.mono_search.specs.Theories.{TheoriesView, HaveSeen, having_seen, IsKept}
+use Rattle.mono_search.specs.Theories.{TheoriesView, HaveSeen, having_seen, AreTheoryTables}
 use Rattle.mono_search.proofs.Owners.{owns_kept, current-at, handed-at, at_current, owns_atom, numbered_in}
 
 pub record IsHandedOn (b0 now : TheoriesView) (lits : List ℤ) (new : List Facts) : Type 0 where
-  pub shown : HaveSeen (record { problem = now.problem; facts = new; handed = now.handed + 1 }) lits
-  pub from : record { problem = now.problem; facts = new; handed = now.handed + 1 } ≡ having_seen b0 lits (now.handed + 1)
+  pub shown : HaveSeen (record { problem = now.problem; facts = new; handed = now.handed + 1; given = now.given }) lits
+  pub from : record { problem = now.problem; facts = new; handed = now.handed + 1; given = now.given } ≡ having_seen b0 lits (now.handed + 1)
 
 pub handed_step : (b0 now : TheoriesView) (lits : List ℤ) (l : ℤ) (new : List Facts) → now ≡ having_seen b0 lits now.handed → now.handed < length lits → l ≡ get_or lits now.handed l
     → new ≡ map (handed_on l) now.facts → IsHandedOn b0 now lits new
 handed_step b0 now lits l new from lt at e =
     let facts : now.facts ≡ map (with_seen (take now.handed lits)) b0.facts = ap (λ (b : TheoriesView). b.facts) from in
     let problem : now.problem ≡ b0.problem = ap (λ (b : TheoriesView). b.problem) from in
+    let given : now.given ≡ b0.given = ap (λ (b : TheoriesView). b.given) from in
     let next : take now.handed lits ++ l ∷ [] ≡ take (now.handed + 1) lits = ap (λ (m : ℤ). take now.handed lits ++ m ∷ []) at ∙ sym (take_more lits now.handed l lt) in
     let is : new ≡ map (with_seen (take (now.handed + 1) lits)) b0.facts = e ∙ ap (map (handed_on l)) facts ∙ handed-at b0.facts (take now.handed lits) l ∙ ap (λ (t : List ℤ). map (with_seen t) b0.facts) next in
     record {
       shown = record { within = omega (arith, lt); current = subst (All (IsCurrent (take (now.handed + 1) lits))) (sym is) (current-at b0.facts (take (now.handed + 1) lits)) };
-      from = ap (λ (fs : List Facts). record { problem = now.problem; facts = fs; handed = now.handed + 1 }) is ∙ ap (λ (p : Instance). record { problem = p; facts = map (with_seen (take (now.handed + 1) lits)) b0.facts; handed = now.handed + 1 }) problem;
+      from = ap (λ (fs : List Facts). record { problem = now.problem; facts = fs; handed = now.handed + 1; given = now.given }) is
+          ∙ ap (λ (p : Instance). record { problem = p; facts = map (with_seen (take (now.handed + 1) lits)) b0.facts; handed = now.handed + 1; given = now.given }) problem
+          ∙ ap (λ (g : ℕ). record { problem = b0.problem; facts = map (with_seen (take (now.handed + 1) lits)) b0.facts; handed = now.handed + 1; given = g }) given;
     }
 
 -- ---- what is kept beside the theories
@@ -60,8 +63,8 @@ owners_kept h fs owners ha o = record {
 
 -- what keeps graphs and atoms keeps all of it
 pub all_kept : (h : Facts → Facts) (p : Instance) (fs new : List Facts) (table : List (List ℕ)) (owners : List (Option ℕ)) (counts now_counts : List ℕ) (listed now : List Bool) → ((f : Facts) → (h f).graph ≡ f.graph) → ((f : Facts) → (h f).atoms ≡ f.atoms) → new ≡ map h fs
-    → now_counts ≡ replicate (length fs) 0 → OthersAreQuiet new now → IsKept p fs table owners counts listed → IsKept p new table owners now_counts now
-all_kept h p fs new table owners counts now_counts listed now hg ha e none others k = subst (λ (gs : List Facts). IsKept p gs table owners now_counts now) (sym e) (record {
+    → now_counts ≡ replicate (length fs) 0 → OthersAreQuiet new now → AreTheoryTables p fs table owners counts listed → AreTheoryTables p new table owners now_counts now
+all_kept h p fs new table owners counts now_counts listed now hg ha e none others k = subst (λ (gs : List Facts). AreTheoryTables p gs table owners now_counts now) (sym e) (record {
   owns = owns_kept h p fs hg ha k.owns;
   concerned = table_kept h p.vars fs table hg ha k.concerned;
   known = owners_kept h fs owners ha k.known;
@@ -70,12 +73,12 @@ all_kept h p fs new table owners counts now_counts listed now hg ha e none other
 })
 
 -- where the theories have seen the same, another list may be right too, and more owners may be known
-pub asked_kept : {p : Instance} {fs new : List Facts} {table : List (List ℕ)} {owners more : List (Option ℕ)} {counts : List ℕ} {listed now : List Bool} → new ≡ fs → OthersAreQuiet fs now → AreOwners fs more → IsKept p fs table owners counts listed → IsKept p new table more counts now
-asked_kept {p = p} {table = table} {more = more} {counts = counts} {now = now} e others known k = subst (λ (gs : List Facts). IsKept p gs table more counts now) (sym e) (record { owns = k.owns; concerned = k.concerned; known = known; zero = k.zero; others = others })
+pub asked_kept : {p : Instance} {fs new : List Facts} {table : List (List ℕ)} {owners more : List (Option ℕ)} {counts : List ℕ} {listed now : List Bool} → new ≡ fs → OthersAreQuiet fs now → AreOwners fs more → AreTheoryTables p fs table owners counts listed → AreTheoryTables p new table more counts now
+asked_kept {p = p} {table = table} {more = more} {counts = counts} {now = now} e others known k = subst (λ (gs : List Facts). AreTheoryTables p gs table more counts now) (sym e) (record { owns = k.owns; concerned = k.concerned; known = known; zero = k.zero; others = others })
 
 -- where as much is handed on as was
 pub handed_already : (b : TheoriesView) (lits : List ℤ) → HaveSeen b lits → b ≡ having_seen b lits b.handed
-handed_already b lits s = ap (λ (fs : List Facts). record { problem = b.problem; facts = fs; handed = b.handed }) (sym (at_current b.facts (take b.handed lits) s.current))
+handed_already b lits s = ap (λ (fs : List Facts). record { problem = b.problem; facts = fs; handed = b.handed; given = b.given }) (sym (at_current b.facts (take b.handed lits) s.current))
 
 pub current_front : (b : TheoriesView) (lits : List ℤ) (n : ℕ) → n ≡ b.handed → HaveSeen b lits → All (IsCurrent (take n lits)) b.facts
 current_front b lits n e s = subst (λ (m : ℕ). All (IsCurrent (take m lits)) b.facts) (sym e) s.current
@@ -112,7 +115,7 @@ atom_var p own v ok exact h =
     let b = atom_bounds p a.1.number a.1 ok held in
     (omega (arith, same, b.0), omega (arith, same, b.1))
 
-names_concerned : (p : Instance) (f : Facts) (k : ℕ) (c : List ℤ) → IsInstance p → k < length p.graphs → f.graph ≡ graph_at p k → All (λ x. numbered p.atoms x.number ≡ Some x) f.atoms → All (λ l. IsTrue (concerns_of f.graph f.atoms (var_of l))) c → IsTrue (names_vars p c)
+pub names_concerned : (p : Instance) (f : Facts) (k : ℕ) (c : List ℤ) → IsInstance p → k < length p.graphs → f.graph ≡ graph_at p k → All (λ x. numbered p.atoms x.number ≡ Some x) f.atoms → All (λ l. IsTrue (concerns_of f.graph f.atoms (var_of l))) c → IsTrue (names_vars p c)
 names_concerned p f k c ok lt g exact concerned = from_each (λ l. nat_le 1 (var_of l) && nat_le (var_of l) p.vars) c (λ l h.
     let i = has_stands c l h in
     let here : IsTrue (concerns_of f.graph f.atoms (var_of l)) = subst (λ (m : ℤ). IsTrue (concerns_of f.graph f.atoms (var_of m))) i.there (concerned i.place (pos 0) i.within) in
@@ -148,5 +151,5 @@ explained p fs n kept l m ok own forces lemma = by (numbered p.atoms n) refl for
 pub explained_ok : {E : Type 0} (r : Result Lemma E) (p : Instance) (fs : List Facts) (n kept : ℕ) (l : ℤ) → IsInstance p → OwnsEach p fs → AtomForces p (take kept (seen_of fs n)) n l → IfOk r (IsLemmaBy fs n l kept) → IfOk r (IsExplanation p (take kept (seen_of fs n)) n l)
 explained_ok r p fs n kept l ok own forces h = if_ok r (IsLemmaBy fs n l kept) (IsExplanation p (take kept (seen_of fs n)) n l) h (λ m. explained p fs n kept l m ok own forces)
 
-pub taken_back : (b : TheoriesView) (fs : List Facts) (lits : List ℤ) (kept : ℕ) → kept ≤ b.handed → fs ≡ map (with_seen (take kept (take b.handed lits))) b.facts → record { problem = b.problem; facts = fs; handed = kept } ≡ having_seen b lits kept
-taken_back b fs lits kept le e = ap (λ (xs : List Facts). record { problem = b.problem; facts = xs; handed = kept }) (e ∙ ap (λ (t : List ℤ). map (with_seen t) b.facts) (take-take kept b.handed lits le))
+pub taken_back : (b : TheoriesView) (fs : List Facts) (lits : List ℤ) (kept : ℕ) → kept ≤ b.handed → fs ≡ map (with_seen (take kept (take b.handed lits))) b.facts → record { problem = b.problem; facts = fs; handed = kept; given = b.given } ≡ having_seen b lits kept
+taken_back b fs lits kept le e = ap (λ (xs : List Facts). record { problem = b.problem; facts = xs; handed = kept; given = b.given }) (e ∙ ap (λ (t : List ℤ). map (with_seen t) b.facts) (take-take kept b.handed lits le))

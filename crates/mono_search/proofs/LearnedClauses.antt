@@ -19,9 +19,8 @@ use Rattle.mono_trail.specs.TrailView.{TrailView, IsSound, count_to, StandsAt}
 use Rattle.mono_trail.specs.Places.{level_at, reason_at, no_mark}
 use Rattle.mono_trail.specs.Moves.{lowered}
 use Rattle.mono_trail.proofs.Levels.{count_within, kept_low, up_to_level}
-use Rattle.mono_clauses.specs.Store.{StoreView, Held, Follows, FollowsBelow, AddsClause}
+use Rattle.mono_clauses.specs.Store.{StoreView, Follows, FollowsBelow, AddsClause}
 use Rattle.mono_steps.specs.Journals.{known_clauses, has_no_empty, chain_clauses, chain_count, lemma_steps, AddsLemmas}
-use Rattle.mono_search.specs.Stored.{held_after}
 use Rattle.mono_steps.specs.New.{IsNewClause, HasNewChains, AreNew}
 use Rattle.mono_trail.specs.Order.{OrderView, AllOpenWait}
 use Rattle.mono_search.specs.TheoryLists.{seen_of, IsCurrent, with_seen}
@@ -37,7 +36,8 @@ use Rattle.mono_search.proofs.Lists.{has_before, open_before, open-neg_back, qui
 use Rattle.mono_search.proofs.Trails.{not_before, decision_rises}
 use Rattle.mono_steps.proofs.NewSteps.{fresh-lemmas, fresh-chain}
 use Rattle.mono_steps.proofs.JournalSteps.{known-lemmas, known-chain, chains-lemmas, chain_clauses-append, after-append, no_empty-append, no_empty-lemmas, ends-last}
-use Rattle.mono_search.proofs.Journals.{held-lemmas, held-chain, held_below}
+use Rattle.mono_search.proofs.Holding.{held-chain}
+use Rattle.mono_search.proofs.Journals.{named_below}
 use Rattle.mono_steps.proofs.StepLists.{length_clauses}
 use Rattle.mono_search.proofs.Reasons.{reasons-having_seen, reasons-lowered, below-lowered, reasons-more, reasons-settled, below-settled, has_reasons}
 use Rattle.mono_base.proofs.Partials.{is_partial-take}
@@ -46,7 +46,7 @@ use Rattle.mono_clauses.proofs.FollowsKept.{follows_below_back}
 use Rattle.mono_search.proofs.Following.{settling_keeps_below}
 use Rattle.mono_search.proofs.Owners.{current-at}
 use Rattle.mono_search.proofs.Decisions.{wait-lowered}
-use Rattle.mono_search.proofs.Propagating.{state, journal-lemmas}
+use Rattle.mono_search.proofs.Propagating.{state, holds-lemmas, journal-lemmas}
 
 -- what the theories have seen once all have gone back
 pub lowered_shown : (b : TheoriesView) (t : TrailView) (level : ℕ) → IsSound t → HaveSeen (having_seen b t.lits (min b.handed (count_to level t.marks))) (lowered level t).lits
@@ -178,7 +178,7 @@ module _ {b : TheoriesView} {t u : TrailView} {s : StoreView} {steps new : List 
   more_clauses = omega (arith, number_is, length_clauses b.problem steps, length_clauses b.problem (steps ++ lemma_steps analysis.learns.lemmas), length-append steps (lemma_steps analysis.learns.lemmas))
 
   pub learned_rising : All (λ h. h.number < r.number) s.clauses
-  learned_rising = subst (λ (hs : List Held). All (λ (h : Held). h.number < r.number) hs) (sym analysis.conflict.whole.held.clauses) (held_below b.problem steps r.number more_clauses)
+  learned_rising = named_below (clauses_after b.problem steps) s.clauses r.number more_clauses analysis.conflict.whole.held.named
 
   pub learned_within : All (IsLitWithin s.vars) r.clause
   learned_within = λ k d lt.
@@ -189,13 +189,11 @@ module _ {b : TheoriesView} {t u : TrailView} {s : StoreView} {steps new : List 
         | inr d ↦ let i = analysis.learns.learnt.others l h d in in_vars l i.0 i.2
       ]
 
-  pub learned_held : (z : StoreView) → AddsClause s z r.number r.clause → HoldsKnown b.problem new z
-  learned_held z a = record {
-    vars = a.vars ∙ analysis.conflict.whole.held.vars;
-    clauses = a.clauses ∙ ap (λ (hs : List Held). hs ++ record { number = r.number; lits = r.clause } ∷ []) (analysis.conflict.whole.held.clauses ∙ sym (held-lemmas b.problem steps analysis.learns.lemmas))
-        ∙ ap (λ (k : ℕ). held_after b.problem (steps ++ lemma_steps analysis.learns.lemmas) ++ record { number = k; lits = r.clause } ∷ []) number_is
-        ∙ sym (held-chain b.problem (steps ++ lemma_steps analysis.learns.lemmas) (record { clause = r.clause; used = analysis.learns.used })) ∙ ap (held_after b.problem) (sym analysis.learns.pushed);
-  }
+  pub learned_held : (z : StoreView) → AddsClause s z r.number r.clause → HoldsKnown b.problem new b.given z
+  learned_held z a =
+      let between : List Step = steps ++ lemma_steps analysis.learns.lemmas in
+      let before : HoldsKnown b.problem between b.given s = holds-lemmas b.problem steps analysis.learns.lemmas b.given s analysis.conflict.whole.held in
+      subst (λ (ss : List Step). HoldsKnown b.problem ss b.given z) (sym analysis.learns.pushed) (held-chain b.problem between b.given s z r.number (record { clause = r.clause; used = analysis.learns.used }) before a number_is)
 
   known_now : known_clauses b.problem new ≡ known_clauses b.problem steps ++ r.clause ∷ []
   known_now = ap (known_clauses b.problem) analysis.learns.pushed ∙ known-chain b.problem (steps ++ lemma_steps analysis.learns.lemmas) (record { clause = r.clause; used = analysis.learns.used }) ∙ ap (λ (cs : List (List ℤ)). cs ++ r.clause ∷ []) (known-lemmas b.problem steps analysis.learns.lemmas)

@@ -16,7 +16,10 @@ pub mod Owners
 pub mod KnownOwners
 pub mod HandedOn
 pub mod Quiets
+pub mod Holding
+pub mod UnitLemmas
 pub mod Propagating
+pub mod Foreseen
 pub mod Decisions
 pub mod LearnedClauses
 pub mod Beginning
@@ -24,3 +27,4 @@ pub mod Resolved
 pub mod Counting
 pub mod MoreSteps
 pub mod Turned
+pub mod Advances

@@ -1,34 +1,34 @@
 -- What propagation keeps of a state: literals are handed on, forced literals join the trail, and lemmas the journal.
-use Rattle.std.proofs.Common.{suc, ◌≡◌, ℕ, ◌-◌, ◌<◌, ◌≤◌, List, [], ◌∷◌, ◌++◌, length, take, arith, refl, sym, ◌∙◌, ap, subst, ℤ, pos, All, length-append, add-one}
+use Rattle.std.proofs.Common.{suc, ◌≡◌, ℕ, ◌+◌, ◌-◌, ◌<◌, ◌≤◌, List, [], ◌∷◌, ◌++◌, length, map, take, arith, refl, sym, ◌∙◌, ap, subst, ℤ, pos, All, length-append, add-one}
 use Rattle.std.specs.Prelude.{Option, Some, None, MatchOption, IsTrue, Result, Ok, Err, IfOk, OnOk, OnErr}
 use Rattle.std.proofs.Math.Seq.{get_or-append_seam, take-append_seam}
 use Rattle.std.proofs.lemmas.List.{take_all}
 use Rattle.mono_base.specs.Literal.{has_lit, lit_at}
-use Rattle.mono_base.specs.Partial.{is_false_in}
+use Rattle.mono_base.specs.Partial.{is_false_in, unit_quiet}
 use Rattle.mono_problem.specs.Instance.{Instance, numbered}
 use Rattle.mono_problem.specs.WellFormed.{IsInstance}
 use Rattle.mono_steps.specs.declared.lemma.Lemma.{Lemma}
 use Rattle.mono_steps.specs.declared.step.Step.{Step}
-use Rattle.mono_steps.specs.Steps.{are_justified, clauses_after}
+use Rattle.mono_steps.specs.Steps.{are_justified, clause_of, clauses_after}
 use Rattle.mono_steps.specs.declared.step.Step.TheVariants as step
 use Rattle.mono_search.specs.declared.theories.Forced.{Forced}
 use Rattle.mono_trail.specs.declared.reason.Reason.TheVariants.{Late}
 use Rattle.mono_trail.specs.TrailView.{TrailView, IsSound, count_to}
 use Rattle.mono_trail.specs.Moves.{joined}
 use Rattle.mono_clauses.specs.Store.{StoreView}
-use Rattle.mono_steps.specs.Journals.{chain_count, lemma_steps}
+use Rattle.mono_steps.specs.Journals.{chain_count, known_clauses, lemma_steps}
 use Rattle.mono_trail.specs.Order.{OrderView}
 use Rattle.mono_search.specs.TheoryLists.{seen_of, shown_of, IsCurrent, IsQuietTheory, IsShort, AnyForces}
 use Rattle.mono_learn.specs.Explain.{AtomForces, IsExplanation}
 use Rattle.mono_learn.proofs.LitSets.{has-append_left}
 use Rattle.mono_theory.specs.Owners.{OwnsEach}
 use Rattle.mono_search.specs.Theories.{TheoriesView, HaveSeen, AtomsQuiet, having_seen}
-use Rattle.mono_search.specs.State.{StateView, WasLate, KeepsReasons, QuietBelow, IsJournal, IsSupported, IsOpenJournal, HoldsKnown, IsConsistent, IsReady, IsInConflict}
+use Rattle.mono_search.specs.State.{StateView, WasLate, KeepsReasons, QuietAt, QuietBelow, IsNamed, IsJournal, IsSupported, IsOpenJournal, HoldsKnown, IsConsistent, IsReady, IsInConflict}
 use Rattle.mono_search.specs.Runs.{CanImply, HasAdvanced}
 use Rattle.mono_search.proofs.Lists.{has-take, others_false-wider, false_whole}
 use Rattle.mono_steps.proofs.NewSteps.{fresh-lemmas}
 use Rattle.mono_steps.proofs.JournalSteps.{no_empty-append, no_empty-lemmas, known-lemmas, chains-lemmas, after-append}
-use Rattle.mono_search.proofs.Journals.{held-lemmas, numbered-last}
+use Rattle.mono_search.proofs.Journals.{named-left, numbered-last}
 use Rattle.mono_search.proofs.Reasons.{reasons-having_seen, reasons-more, seen_is_shown, shown-in}
 use Rattle.mono_search.proofs.Growing.{kept_from, supported_from, kept-joined, wait-grown, present_lit, quiet_at_start}
 use Rattle.mono_base.proofs.Partials.{is_partial-take}
@@ -129,8 +129,16 @@ journal-lemmas p steps ls just j = record { justified = just; fresh = fresh-lemm
 pub open-lemmas : (p : Instance) (steps : List Step) (ls : List Lemma) → IsTrue (are_justified p (steps ++ lemma_steps ls)) → IsOpenJournal p steps → IsOpenJournal p (steps ++ lemma_steps ls)
 open-lemmas p steps ls just g = record { journal = journal-lemmas p steps ls just g.journal; none_empty = no_empty-append steps (lemma_steps ls) g.none_empty (no_empty-lemmas ls) }
 
-pub holds-lemmas : (p : Instance) (steps : List Step) (ls : List Lemma) (s : StoreView) → HoldsKnown p steps s → HoldsKnown p (steps ++ lemma_steps ls) s
-holds-lemmas p steps ls s h = record { vars = h.vars; clauses = h.clauses ∙ sym (held-lemmas p steps ls) }
+pub holds-lemmas : (p : Instance) (steps : List Step) (ls : List Lemma) (given : ℕ) (s : StoreView) → HoldsKnown p steps given s → HoldsKnown p (steps ++ lemma_steps ls) given s
+holds-lemmas p steps ls given s h =
+    let known : known_clauses p (steps ++ lemma_steps ls) ≡ known_clauses p steps = known-lemmas p steps ls in
+    record {
+      vars = h.vars;
+      named = subst (λ (cs : List (List ℤ)). All (IsNamed cs) s.clauses) (sym (after-append p steps (lemma_steps ls))) (named-left (clauses_after p steps) (map clause_of (lemma_steps ls)) s.clauses h.named);
+      count = h.count ∙ ap (λ (n : ℕ). (length p.clauses + n) + given) (sym (ap length (chains-lemmas steps ls)));
+      units = λ t quiet. subst (λ (cs : List (List ℤ)). IsTrue (unit_quiet cs t)) (sym known) (h.units t quiet);
+      none_false = λ t d quiet. h.none_false t d (subst (λ (cs : List (List ℤ)). QuietAt p cs t) known quiet);
+    }
 
 pub supported-lemmas : (b : TheoriesView) (t : TrailView) (steps : List Step) (ls : List Lemma) → IsSupported b t steps → IsSupported b t (steps ++ lemma_steps ls)
 supported-lemmas b t steps ls f = record {
@@ -142,7 +150,7 @@ supported-lemmas b t steps ls f = record {
 }
 
 pub consistent-lemmas : (b : TheoriesView) (t : TrailView) (s : StoreView) (steps : List Step) (o : OrderView) (ls : List Lemma) → IsTrue (are_justified b.problem (steps ++ lemma_steps ls)) → IsConsistent (state b t s steps o) → IsConsistent (state b t s (steps ++ lemma_steps ls) o)
-consistent-lemmas b t s steps o ls just w = record { journal = open-lemmas b.problem steps ls just w.journal; held = holds-lemmas b.problem steps ls s w.held; trail = supported-lemmas b t steps ls w.trail; order = w.order }
+consistent-lemmas b t s steps o ls just w = record { journal = open-lemmas b.problem steps ls just w.journal; held = holds-lemmas b.problem steps ls b.given s w.held; trail = supported-lemmas b t steps ls w.trail; order = w.order }
 
 -- the lemma of a forced literal that is false is a conflict
 pub explained_conflict : (b : TheoriesView) (t : TrailView) (s : StoreView) (steps : List Step) (o : OrderView) (f : Forced) (m : Lemma) → IsInstance b.problem → IsReady (state b t s steps o) → CanImply (state b t s steps o) f → IsTrue (is_false_in t.lits f.lit)

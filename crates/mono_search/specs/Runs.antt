@@ -1,11 +1,13 @@
 -- What the calls of a state answer, and leave.
-use Rattle.std.specs.Prelude.{◌≡◌, ℕ, ◌+◌, ◌-◌, ◌<◌, ◌≤◌, Bool, false, max, ℤ, pos, int_lt, if◌then◌else◌, List, [], ◌∷◌, length, drop, replicate, slice_set, Option, Some, None, IsTrue}
+use Rattle.std.specs.Prelude.{◌≡◌, ℕ, ◌+◌, ◌-◌, ◌<◌, ◌≤◌, Bool, false, max, ℤ, pos, int_lt, if◌then◌else◌, List, [], ◌∷◌, length, drop, replicate, slice_set, Option, Some, None, IsTrue, All}
 use Rattle.mono_base.specs.Literal.{value_in, has_lit, var_of, IsLitWithin}
-use Rattle.mono_base.specs.Partial.{is_true_in, is_open_in, unit_quiet}
+use Rattle.mono_base.specs.Partial.{is_true_in, is_open_in, others_false, unit_quiet}
 use Rattle.mono_problem.specs.Instance.{Instance}
 use Rattle.mono_steps.specs.Journals.{known_clauses, chain_count}
 use Rattle.mono_steps.specs.Steps.{clauses_after}
 use Rattle.mono_steps.specs.Switching.{literal_of}
+use Rattle.mono_steps.specs.Witnesses.{justifies}
+use Rattle.mono_theory.specs.declared.theory.UnitLemma.{UnitLemma}
 use Rattle.mono_trail.specs.declared.reason.Reason.TheVariants.{Decided}
 use Rattle.mono_trail.specs.TrailView.{TrailView, IsSound, count_to}
 use Rattle.mono_trail.specs.Moves.{joined, lowered}
@@ -72,6 +74,14 @@ pub record CanImply (v : StateView) (f : Forced) : Type 0 where
   pub forces : AtomForces v.theories.problem (shown_of v.theories.facts v.trail.lits f.atom) f.atom f.lit
   pub not_yet : is_true_in v.trail.lits f.lit ≡ false
   pub within : IsLitWithin v.trail.vars f.lit
+
+-- the lemma is justified, and unit under the literals of the trail
+pub record IsUnitNow (v : StateView) (u : UnitLemma) : Type 0 where
+  pub justified : IsTrue (justifies v.theories.problem u.lemma)
+  pub within : All (IsLitWithin v.trail.vars) u.lemma.clause
+  pub has : IsTrue (has_lit u.lemma.clause u.lit)
+  pub is_open : IsTrue (is_open_in v.trail.lits u.lit)
+  pub others : IsTrue (others_false v.trail.lits u.lemma.clause u.lit)
 
 -- neither the clauses nor the theories have anything to do
 pub record IsQuietState (w : StateView) : Type 0 where

@@ -1,8 +1,8 @@
 -- What a search keeps while it goes on.
-use Rattle.std.specs.Prelude.{◌≡◌, ℕ, ◌+◌, ◌-◌, ◌*◌, ◌<◌, ◌≤◌, ℤ, List, length, take, IsTrue}
+use Rattle.std.specs.Prelude.{◌≡◌, ℕ, ◌+◌, ◌-◌, ◌*◌, ◌<◌, ◌≤◌, ℤ, List, length, take, Some, All, IsTrue}
 use Rattle.mono_base.specs.Literal.{lit_at}
-use Rattle.mono_base.specs.Partial.{unit_quiet}
-use Rattle.mono_problem.specs.Instance.{Instance}
+use Rattle.mono_base.specs.Partial.{is_false_clause, is_partial, unit_quiet}
+use Rattle.mono_problem.specs.Instance.{Instance, numbered}
 use Rattle.mono_steps.specs.declared.step.Step.{Step}
 use Rattle.mono_steps.specs.Steps.{are_justified, clauses_after}
 use Rattle.mono_steps.specs.Journals.{known_clauses, has_no_empty, chain_count}
@@ -13,10 +13,9 @@ use Rattle.mono_trail.specs.declared.reason.Reason.TheVariants.{Decided, Clause,
 use Rattle.mono_trail.specs.TrailView.{TrailView, IsSound}
 use Rattle.mono_trail.specs.Places.{reason_at}
 use Rattle.mono_trail.specs.Order.{OrderView, AllOpenWait}
-use Rattle.mono_clauses.specs.Store.{StoreView, Follows, FollowsBelow}
+use Rattle.mono_clauses.specs.Store.{Held, StoreView, Follows, FollowsBelow, lists_of}
 use Rattle.mono_learn.specs.Explain.{AtomForces}
 use Rattle.mono_learn.specs.Reasons.{WasUnit, IsFalseClause, IsConflict}
-use Rattle.mono_search.specs.Stored.{held_after}
 use Rattle.mono_search.specs.TheoryLists.{shown_of}
 use Rattle.mono_search.specs.Theories.{TheoriesView, HaveSeen, AtomsQuiet}
 
@@ -69,10 +68,18 @@ pub record StateView : Type 0 where
   pub steps : List Step
   pub order : OrderView
 
--- the store holds the problem's clauses and the learned ones, by their numbers
-pub record HoldsKnown (p : Instance) (steps : List Step) (s : StoreView) : Type 0 where
+-- the clause is the one of its number
+abbrev pub IsNamed : List (List ℤ) → Held → Type 0
+IsNamed cs h = numbered cs h.number ≡ Some h.lits
+
+-- The store holds the problem's clauses, the learned ones and those of so many lemmas, by their numbers. Where all that it holds
+-- are quiet, the problem's and the learned ones are; where these and the atoms are quiet, none that it holds is false.
+pub record HoldsKnown (p : Instance) (steps : List Step) (given : ℕ) (s : StoreView) : Type 0 where
   pub vars : s.vars ≡ p.vars
-  pub clauses : s.clauses ≡ held_after p steps
+  pub named : All (IsNamed (clauses_after p steps)) s.clauses
+  pub count : length s.clauses ≡ (length p.clauses + chain_count steps) + given
+  pub units : (t : List ℤ) → IsTrue (unit_quiet (lists_of s.clauses) t) → IsTrue (unit_quiet (known_clauses p steps) t)
+  pub none_false : (t : List ℤ) → IsTrue (is_partial t) → QuietAt p (known_clauses p steps) t → All (λ h. IsTrue (is_false_clause t h.lits) → ⊥) s.clauses
 
 -- what stands on the trail stands there for a reason, and decisions were made where all was quiet
 pub record IsSupported (b : TheoriesView) (t : TrailView) (steps : List Step) : Type 0 where
@@ -90,7 +97,7 @@ pub record OrderHasOpen (p : Instance) (o : OrderView) (t : TrailView) : Type 0 
 -- all but how the store follows the trail
 pub record IsConsistent (v : StateView) : Type 0 where
   pub journal : IsOpenJournal v.theories.problem v.steps
-  pub held : HoldsKnown v.theories.problem v.steps v.store
+  pub held : HoldsKnown v.theories.problem v.steps v.theories.given v.store
   pub trail : IsSupported v.theories v.trail v.steps
   pub order : OrderHasOpen v.theories.problem v.order v.trail
 

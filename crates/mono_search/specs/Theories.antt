@@ -6,15 +6,17 @@ use Rattle.mono_theory.specs.Owners.{OwnsEach}
 use Rattle.mono_theory.specs.Theories.{Facts}
 use Rattle.mono_search.specs.TheoryLists.{with_seen, IsCurrent, IsConcernTable, AreOwners, OthersAreQuiet}
 
--- as contracts see them. Each theory has seen what concerns it of the first `handed` literals of the trail
+-- as contracts see them. Each theory has seen what concerns it of the first `handed` literals of the trail, and so many lemmas of
+-- theirs were given to the clauses
 pub record TheoriesView : Type 0 where
   pub problem : Instance
   pub facts : List Facts
   pub handed : ℕ
+  pub given : ℕ
 
 -- what is kept of a problem and its theories: the table of whom each variable concerns, who is known to own an atom, a 0 for each
 -- theory, and which of them are to be asked
-pub record IsKept (p : Instance) (fs : List Facts) (table : List (List ℕ)) (owners : List (Option ℕ)) (counts : List ℕ)
+pub record AreTheoryTables (p : Instance) (fs : List Facts) (table : List (List ℕ)) (owners : List (Option ℕ)) (counts : List ℕ)
     (listed : List Bool) : Type 0 where
   pub owns : OwnsEach p fs
   pub concerned : IsConcernTable p.vars fs table

@@ -6,7 +6,8 @@ use Rattle.mono_base.specs.declared.limits.TheConstants.{MAX_VARS}
 use Rattle.mono_graph.specs.Digraph.{has}
 use Rattle.mono_problem.specs.Quiet.{TheoryQuiet}
 use Rattle.mono_steps.specs.declared.lemma.Lemma.{Lemma}
-use Rattle.mono_theory.specs.Theories.{Facts, concerns_of, owns_of, ForcesBy, IsLemmaOf, IsForced}
+use Rattle.mono_theory.specs.Theories.{Facts, concerns_of, owns_of, ForcesBy, IsLemmaOf, IsUnitLemma, IsForced}
+use Rattle.mono_theory.specs.declared.theory.UnitLemma.{UnitLemma}
 use Rattle.mono_search.specs.declared.theories.Forced.{Forced}
 
 -- ---- what a theory has seen
@@ -27,10 +28,7 @@ with_seen t f = record { graph = f.graph; atoms = f.atoms; seen = concerning f t
 abbrev pub handed_on : ℤ → Facts → Facts
 handed_on l f = record { graph = f.graph; atoms = f.atoms; seen = f.seen ++ concerning f (l ∷ []) }
 
--- the theory once it has seen the literal too, and without the last `count` literals that it has seen
-abbrev pub seeing : ℤ → Facts → Facts
-seeing l f = record { graph = f.graph; atoms = f.atoms; seen = f.seen ++ l ∷ [] }
-
+-- the theory without the last `count` literals that it has seen
 abbrev pub without_last : ℕ → Facts → Facts
 without_last count f = record { graph = f.graph; atoms = f.atoms; seen = take (length f.seen - count) f.seen }
 
@@ -114,6 +112,13 @@ pub record ForcesIt (r : Forced) (f : Facts) : Type 0 where
 
 abbrev pub AnyForces : List Facts → Forced → Type 0
 AnyForces fs r = Any (ForcesIt r) fs
+
+-- the lemma is one of a theory, and is unit under all that it has seen
+abbrev pub GivesIt : UnitLemma → Facts → Type 0
+GivesIt u f = IsUnitLemma f.graph f.atoms f.seen u.lit u.lemma
+
+abbrev pub AnyGives : List Facts → UnitLemma → Type 0
+AnyGives fs u = Any (GivesIt u) fs
 
 -- one of the theories forces it, or none forces anything
 abbrev pub IsAnswer : List Facts → Option Forced → Type 0

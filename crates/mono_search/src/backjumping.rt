@@ -48,13 +48,13 @@ pub(crate) fn backjump<T: Theory>(
     ensures order { Releases order.old order.new (drop (count_to level trail.old.marks) trail.old.lits) }
     ensures sound { IsSound trail.new }
 {
-    let _ = trail.level();
+    trail.known();
     let kept = trail.count_to(level);
     release(order, &trail.lits()[kept..]);
     let fewer = kept.min(theories.handed());
     theories.undo_to(trail.lits(), fewer);
     trail.backjump(level);
-    let _ = trail.level();
+    trail.known();
 }
 
 /// The variables of dropped literals wait to be decided again. Their signs are saved.

@@ -29,7 +29,7 @@ impl Inputs {
         let vars = problem.vars();
         let order = first_order(alloc, problem)?;
         let trail = Trail::new(alloc, vars)?;
-        let _ = trail.level();
+        trail.known();
         let store = input_store(alloc, problem, &trail)?;
         Ok(Inputs {
             trail,
@@ -77,7 +77,7 @@ fn hold_back_idle(order: &mut Order, problem: &Problem, named: &[bool])
     requires named { length named.now ≡ problem.now.vars }
     ensures { order.new ≡ order.old }
 {
-    let _ = problem.vars();
+    problem.known();
     for place in 0..problem.atom_count() {
         let var = problem.atom(place + 1).var;
         if !named[var as usize - 1] && !has_edge(problem.uses(var)) {

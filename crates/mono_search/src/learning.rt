@@ -71,7 +71,8 @@ impl<'p, T: Theory> State<'p, T> {
         requires { IsConsistent self.now }
         ensures { result ≡ chain_count self.now.steps }
     {
-        self.store.len() as u64 - u64::from(self.theories.problem().clause_count())
+        let joined = self.store.len() as u64 - u64::from(self.theories.problem().clause_count());
+        joined - self.theories.given() as u64
     }
 
     /// The clause that a conflict above level 0 teaches joins, and the search goes back to where it is unit, or to the
@@ -97,7 +98,7 @@ impl<'p, T: Theory> State<'p, T> {
             &mut self.theories,
             conflict,
         )?;
-        let _ = self.trail.level();
+        self.trail.known();
         bump_resolved(&mut self.order, problem, &self.journal);
         let level = level_after(restarts, learnt.back_to);
         backjump(&mut self.theories, &mut self.trail, &mut self.order, level);
@@ -136,7 +137,7 @@ fn bump_resolved(order: &mut Order, problem: &Problem, journal: &Journal)
     requires justified { IsTrue (are_justified problem.now journal.now) }
     ensures { order.new ≡ order.old }
 {
-    let _ = problem.vars();
+    problem.known();
     if let Some(Step::Chain(chain)) = journal.steps().last() {
         bump_clauses(order, problem, journal, chain.used.as_slice());
     }

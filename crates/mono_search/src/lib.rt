@@ -16,6 +16,8 @@ mod concerns;
 mod deciding;
 /// Which theory owns an atom, and its lemmas.
 mod explaining;
+/// Lemmas in good time.
+mod foreseeing;
 /// Handing literals to theories.
 mod handing;
 /// What a search begins with, beside its theories.

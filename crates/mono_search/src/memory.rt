@@ -2,8 +2,8 @@
 //!
 //! The signs of the longest quiet trail are remembered and saved when the search begins anew, since what was nearly a model
 //! is a good place to go on from. And where the stretch up to the next restart is a short one, it is a *probe*: it follows
-//! another judgement, and the main signs are put back behind it. So one bad judgement costs a few short stretches, and one
-//! that is right where the search's own is wrong gets its turn.
+//! another leaning, and the main signs are put back behind it. So one bad leaning costs a few short stretches, and one that
+//! is right where the search's own is wrong gets its turn.
 //!
 //! No answer rests on any of this. Signs are turned only of variables that had values after they were preferred.
 
@@ -23,7 +23,7 @@ const LONG: u64 = 4;
 
 /// What decisions follow up to the next restart.
 #[derive(Clone, Copy, Debug, PartialEq, Eq)]
-enum Judgement {
+enum Leaning {
     /// The search's own signs.
     Main,
     /// A probe: false signs, and true where a theory prefers that.
@@ -45,7 +45,7 @@ pub(crate) struct Memory {
     len: usize,
     /// The main signs, while a probe is under way.
     main: Vec<bool>,
-    judgement: Judgement,
+    leaning: Leaning,
     /// How many probes there were.
     probes: u32,
     /// Whether theories may prefer something.
@@ -62,7 +62,7 @@ impl Memory {
             longest,
             len: 0,
             main,
-            judgement: Judgement::Main,
+            leaning: Leaning::Main,
             probes: 0,
             has_theories: problem.atom_count() > 0,
         })
@@ -98,7 +98,7 @@ impl Memory {
         ensures waits { order.new.waits ≡ order.old.waits }
         ensures as_before { anew ≡ false → order.new ≡ order.old }
     {
-        let _ = trail.level();
+        trail.known();
         if anew {
             self.begin(order, trail.vars(), term);
         }
@@ -113,7 +113,7 @@ impl Memory {
         self.end_probe(order, vars);
         keep(&mut self.main, order, vars);
         self.choose(term == 1);
-        save_known(order, self.longest.as_slice(), self.judgement, vars);
+        save_known(order, self.longest.as_slice(), self.leaning, vars);
         if term >= LONG {
             self.len = 0;
         }
@@ -125,49 +125,58 @@ impl Memory {
         requires few { vars ≤ MAX_VARS }
         ensures { order.new.waits ≡ order.old.waits }
     {
-        if self.judgement != Judgement::Main {
+        if self.leaning != Leaning::Main {
             put_back(order, self.main.as_slice(), vars);
         }
     }
 
-    /// The judgement of a stretch, which is a probe where it is short: one after the other.
+    /// The leaning of a stretch, which is a probe where it is short: one after the other.
     fn choose(&mut self, is_short: bool) {
         if !is_short {
-            self.judgement = Judgement::Main;
+            self.leaning = Leaning::Main;
             return;
         }
-        self.judgement = probe(self.probes, self.has_theories);
+        self.leaning = probe(self.probes, self.has_theories);
         self.probes = self.probes.wrapping_add(1);
+    }
+
+    /// Whether the edges that theories want are decided first, and then whether those of the last theory come first.
+    pub(crate) fn leads(&self) -> Option<bool> {
+        match self.leaning {
+            Leaning::Witnesses => Some(false),
+            Leaning::Absent => Some(true),
+            Leaning::Main | Leaning::Present | Leaning::Longest => None,
+        }
     }
 
     /// Whether decisions follow what theories prefer, where the main ones do.
     pub(crate) fn follows(&self, main: bool) -> bool {
-        match self.judgement {
-            Judgement::Witnesses => true,
-            Judgement::Absent => false,
-            Judgement::Main | Judgement::Present | Judgement::Longest => main,
+        match self.leaning {
+            Leaning::Witnesses => true,
+            Leaning::Absent => false,
+            Leaning::Main | Leaning::Present | Leaning::Longest => main,
         }
     }
 }
 
-impl Judgement {
+impl Leaning {
     /// The sign by which a variable is decided first, from that on the longest quiet trail.
     fn sign(self, longest: bool) -> bool {
         match self {
-            Judgement::Main | Judgement::Longest => longest,
-            Judgement::Witnesses | Judgement::Absent => false,
-            Judgement::Present => true,
+            Leaning::Main | Leaning::Longest => longest,
+            Leaning::Witnesses | Leaning::Absent => false,
+            Leaning::Present => true,
         }
     }
 }
 
-/// The judgement of a probe, from how many there were before.
-fn probe(number: u32, has_theories: bool) -> Judgement {
+/// The leaning of a probe, from how many there were before.
+fn probe(number: u32, has_theories: bool) -> Leaning {
     match (number % 4, has_theories) {
-        (0, true) => Judgement::Witnesses,
-        (2, true) => Judgement::Absent,
-        (0 | 2, false) | (1, true) => Judgement::Present,
-        _ => Judgement::Longest,
+        (0, true) => Leaning::Witnesses,
+        (2, true) => Leaning::Absent,
+        (0 | 2, false) | (1, true) => Leaning::Present,
+        _ => Leaning::Longest,
     }
 }
 
@@ -210,8 +219,8 @@ fn put_back(order: &mut Order, main: &[bool], vars: u32)
     }
 }
 
-/// Of each variable whose sign on the longest quiet trail is known, that sign is saved, or what the judgement makes of it.
-fn save_known(order: &mut Order, longest: &[Option<bool>], judgement: Judgement, vars: u32)
+/// Of each variable whose sign on the longest quiet trail is known, that sign is saved, or what the leaning makes of it.
+fn save_known(order: &mut Order, longest: &[Option<bool>], leaning: Leaning, vars: u32)
     requires vars { length order.old.waits ≡ vars }
     requires few { vars ≤ MAX_VARS }
     ensures { order.new.waits ≡ order.old.waits }
@@ -219,7 +228,7 @@ fn save_known(order: &mut Order, longest: &[Option<bool>], judgement: Judgement,
     let count = longest.len().min(vars as usize);
     for place in 0..count {
         if let Some(sign) = longest[place] {
-            order.save(Lit::of(place as u32 + 1, judgement.sign(sign)));
+            order.save(Lit::of(place as u32 + 1, leaning.sign(sign)));
         }
     }
 }

@@ -57,17 +57,17 @@ impl<'p, T: Theory> State<'p, T> {
         ensures { ClausesPropagatedAs self.old self.new result }
     {
         let found = self.store.propagate(&mut self.trail);
-        let _ = self.trail.level();
+        self.trail.known();
         found
     }
 
     /// The theories are handed the literals that came since.
-    fn hand_on(&mut self)
+    pub(crate) fn hand_on(&mut self)
         requires { IsReady self.old }
         ensures handed { self.new ≡ record self.old { theories = having_seen self.old.theories self.old.trail.lits (length self.old.trail.lits) } }
         ensures ready { IsReady self.new }
     {
-        let _ = self.trail.level();
+        self.trail.known();
         self.theories.hand_on(self.trail.lits());
     }
 
@@ -78,9 +78,9 @@ impl<'p, T: Theory> State<'p, T> {
         ensures same { self.new ≡ self.old }
         ensures answer { IfOk result (λ r. MatchOption r (AtomsQuiet self.old.theories.problem self.old.trail.lits) (CanImply self.old)) }
     {
-        let _ = self.trail.level();
+        self.trail.known();
         let problem = self.theories.problem();
-        let _ = problem.vars();
+        problem.known();
         self.theories.force()
     }
 
@@ -100,7 +100,7 @@ impl<'p, T: Theory> State<'p, T> {
             Value::Unset => {
                 let Forced { atom, lit, kept } = forced;
                 self.trail.imply(lit, Reason::Late { atom, kept });
-                let _ = self.trail.level();
+                self.trail.known();
                 Ok(Propagated::Implied)
             }
         }
@@ -118,7 +118,7 @@ impl<'p, T: Theory> State<'p, T> {
         ensures chains { chain_count self.new.steps ≡ chain_count self.old.steps }
     {
         let problem = self.theories.problem();
-        let _ = problem.vars();
+        problem.known();
         let lemma = self.theories.explain(forced.atom, forced.lit, forced.kept)?;
         self.journal.push_lemma(problem, lemma)
     }

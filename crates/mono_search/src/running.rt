@@ -1,4 +1,4 @@
-//! Steps of the search until it ends: propagate, and then learn from a conflict, or decide.
+//! Steps of the search until it ends: propagate, and then learn from a conflict, or imply by a lemma in good time, or decide.
 
 ghost use Rattle.std.specs.Prelude.{◌≡◌, ◌≤◌, max, IfOk, OnErr, IsTrue};
 ghost use Rattle.mono_steps.specs.Journals.{chain_count};
@@ -58,6 +58,9 @@ impl<'p, T: Theory> State<'p, T> {
             Propagated::Implied => Ok(None),
             Propagated::Conflict(number) => self.resolve(alloc, restarts, budget, number),
             Propagated::Quiet => {
+                if self.foresee()? {
+                    return Ok(None);
+                }
                 if self.decide() {
                     return Ok(None);
                 }

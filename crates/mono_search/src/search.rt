@@ -114,7 +114,7 @@ impl<'p, T: Theory> Search<'p, T> {
     }
 
     /// The next decisions of these variables have the literals' signs, unless a theory prefers true, until a variable gets a
-    /// value again. Of two signs of one variable the later one counts. All else stays.
+    /// value again or the search begins anew. Of two signs of one variable the later one counts. All else stays.
     pub fn prefer(&mut self, lits: &[Lit])
         requires live { IsTrue self.old.live }
         requires within { All (IsLitWithin self.old.problem.vars) lits.now }

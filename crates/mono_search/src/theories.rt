@@ -4,16 +4,16 @@
 //! theory as a plain record of its graph, its atoms and the literals that it has seen, so a call changes the whole list of
 //! theories by one `map`. Together they explain the literals that were forced without a lemma.
 
-ghost use Rattle.std.specs.Prelude.{◌≡◌, ◌≤◌, length, All, IfOk, IsTrue};
+ghost use Rattle.std.specs.Prelude.{◌≡◌, ◌+◌, ◌<◌, ◌≤◌, length, All, IfOk, IfSome, IsTrue};
 ghost use Rattle.mono_base.specs.Literal.{IsLitWithin};
 ghost use Rattle.mono_base.specs.Partial.{is_partial};
 ghost use Rattle.mono_theory.specs.Owners.{facts_of};
 ghost use Rattle.mono_trail.specs.Moves.{IsVar};
-ghost use Rattle.mono_search.specs.TheoryLists.{seen_of, IsShort, IsAnswer};
+ghost use Rattle.mono_search.specs.TheoryLists.{seen_of, AnyGives, IsShort, IsAnswer};
 ghost use Rattle.mono_theory.specs.Owners.{OwnsEach};
 ghost use Rattle.mono_search.specs.Theories.{HaveSeen, having_seen};
 
-use crate::asking::{any_prefers, force_any};
+use crate::asking::{any_prefers, any_unit_lemma, any_wanted, force_any};
 use crate::concerns::concern_table;
 use crate::explaining::{explain_by_owner, no_owners};
 use crate::handing::hand_to;
@@ -22,7 +22,7 @@ use mono_base::{Buckets, Lit, Worklist};
 use mono_learn::Explainer;
 use mono_problem::Problem;
 use mono_steps::Lemma;
-use mono_theory::Theory;
+use mono_theory::{Theory, UnitLemma};
 use std::alloc::{AllocError, Global};
 use std::marker::Model;
 
@@ -32,6 +32,14 @@ pub struct Forced {
     pub atom: u32,
     pub lit: Lit,
     pub kept: u32,
+}
+
+/// One more than a number that is below another one.
+fn one_more(number: usize, above: usize) -> usize
+    requires { number < above }
+    ensures { result ≡ number + 1 }
+{
+    number + 1
 }
 
 /// A problem and its theories.
@@ -50,18 +58,20 @@ pub struct Theories<'p, T: Theory> {
     worklist: Worklist,
     /// So many literals of the trail were handed on.
     handed: usize,
+    /// How many of their lemmas were given to the clauses.
+    given: usize,
 }
 
 impl<'p, T: Theory> Model for Theories<'p, T> {
     ghost use Rattle.mono_theory.specs.Owners.{facts_of};
-    ghost use Rattle.mono_search.specs.Theories.{TheoriesView, IsKept};
+    ghost use Rattle.mono_search.specs.Theories.{TheoriesView, AreTheoryTables};
     ghost use Rattle.std.specs.Prelude.{length};
 
     ghost Value = { TheoriesView };
 
-    ghost view = { λ b. record { problem = b.problem.now; facts = facts_of T.graph T.atoms T.seen b.theories.items; handed = b.handed } };
+    ghost view = { λ b. record { problem = b.problem.now; facts = facts_of T.graph T.atoms T.seen b.theories.items; handed = b.handed; given = b.given } };
 
-    ghost invariant = { λ b. IsKept b.problem.now (facts_of T.graph T.atoms T.seen b.theories.items)
+    ghost invariant = { λ b. AreTheoryTables b.problem.now (facts_of T.graph T.atoms T.seen b.theories.items)
         b.concerned b.owners.items b.counts.items b.worklist.listed };
 }
 
@@ -73,7 +83,7 @@ impl<'p, T: Theory> Theories<'p, T> {
         theories: Vec<T>,
     ) -> Result<Theories<'p, T>, AllocError>
         requires owns { OwnsEach problem.now (facts_of T.graph T.atoms T.seen theories.items) }
-        ensures { IfOk result (λ b. b ≡ record { problem = problem.now; facts = facts_of T.graph T.atoms T.seen theories.items; handed = 0 }) }
+        ensures { IfOk result (λ b. b ≡ record { problem = problem.now; facts = facts_of T.graph T.atoms T.seen theories.items; handed = 0; given = 0 }) }
     {
         let concerned = concern_table(alloc, problem.vars(), theories.as_slice())?;
         let owners = no_owners(alloc, problem.atom_count())?;
@@ -87,6 +97,7 @@ impl<'p, T: Theory> Theories<'p, T> {
             counts,
             worklist,
             handed: 0,
+            given: 0,
         })
     }
 
@@ -150,6 +161,35 @@ impl<'p, T: Theory> Theories<'p, T> {
         any_prefers(self.theories.as_slice(), self.concerned.list(var), var)
     }
 
+    /// The variable of an edge that a theory would have decided true next, if there is one: the first theory's, or the last one's.
+    /// The answer is free.
+    pub fn wanted(&self, last_first: bool) -> Option<u32> {
+        any_wanted(self.theories.as_slice(), last_first)
+    }
+
+    /// A lemma that a theory has at hand and that is unit under the literals that it has seen.
+    pub fn unit_lemma(&mut self) -> Result<Option<UnitLemma>, AllocError>
+        ensures same { self.new ≡ self.old }
+        ensures lemma { IfOk result (λ r. IfSome r (AnyGives self.old.facts)) }
+    {
+        any_unit_lemma(&mut self.theories)
+    }
+
+    /// One lemma more was given to the clauses, which are so many now.
+    pub fn count_given(&mut self, clauses: usize)
+        requires { self.old.given < clauses }
+        ensures { self.new ≡ record self.old { given = self.old.given + 1 } }
+    {
+        self.given = one_more(self.given, clauses);
+    }
+
+    /// How many lemmas were given to the clauses.
+    pub fn given(&self) -> usize
+        ensures { result ≡ self.now.given }
+    {
+        self.given
+    }
+
     /// A literal that an atom forces, if there is one. Only theories that aren't known to be quiet are asked.
     pub fn force(&mut self) -> Result<Option<Forced>, AllocError>
         requires { All IsShort self.old.facts }
@@ -166,7 +206,7 @@ impl<'p, T: Theory> Explainer for Theories<'p, T> {
     ghost shown = { λ b n. seen_of b.facts n };
 
     fn explain(&mut self, atom: u32, lit: Lit, kept: u32) -> Result<Lemma, AllocError> {
-        let _vars = self.problem.vars();
+        self.problem.known();
         explain_by_owner(
             &mut self.theories,
             self.owners.as_slice(),

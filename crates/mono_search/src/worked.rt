@@ -1,8 +1,9 @@
 //! Worked rows: what the definitions make of saved signs, restarts, the numbers of learned clauses, spent budgets, outcomes, and
 //! solved problems.
 
-ghost use Rattle.std.specs.Prelude.{◌≡◌, ℕ, true, false, [], ◌∷◌, ◌++◌, pos, Some, None, Ok, Err};
+ghost use Rattle.std.specs.Prelude.{◌≡◌, ℕ, true, false, [], ◌∷◌, pos, Some, None, Ok, Err};
 ghost use Rattle.mono_graph.specs.Worked.{lone, round_trip};
+ghost use Rattle.mono_steps.specs.Steps.{clauses_after};
 ghost use Rattle.mono_steps.specs.WorkedLemmas.{barred, minus, chain};
 ghost use Rattle.mono_theory.specs.Worked.{reaches};
 ghost use Rattle.mono_search.specs.Outcomes.{EndsAs, HasModel, HasMoreSteps, IsSpent, beyond_budget, may_go_on, stays_live};
@@ -10,8 +11,7 @@ ghost use Rattle.mono_search.specs.Restarts.{CountedAfter, CountsClause};
 ghost use Rattle.mono_search.specs.Runs.{DecidesBySign, GoesBack, Releases, saved};
 ghost use Rattle.mono_search.specs.Signs.{AreSigns};
 ghost use Rattle.mono_search.specs.Solving.{AreTheoriesOf, IsSolved};
-ghost use Rattle.mono_search.specs.State.{StateView};
-ghost use Rattle.mono_search.specs.Stored.{held_after};
+ghost use Rattle.mono_search.specs.State.{IsNamed, StateView};
 ghost use Rattle.mono_trail.specs.declared.reason.Reason.TheVariants.{Decided};
 ghost use Rattle.mono_trail.specs.Moves.{joined};
 ghost use Rattle.mono_trail.specs.TrailView.{no_literals};
@@ -67,11 +67,14 @@ pub fn counted_from_the_beginning()
     ensures none_learned { CountedAfter 0 (after 1 0) → ⊥ }
 {}
 
-/// A learned clause is held by the number of its step. A lemma has a number too, and isn't held.
+/// A clause that is held is the one of its number. Lemmas have numbers too.
 pub fn numbers_of_learned_clauses()
-    ensures first { held_after two_clauses first_learned ≡ held_after two_clauses [] ++ record { number = 3; lits = pos 1 ∷ [] } ∷ [] }
-    ensures behind { held_after two_clauses learned_behind_a_lemma ≡ held_after two_clauses [] ++ record { number = 4; lits = pos 1 ∷ [] } ∷ [] }
-    ensures inputs { held_after two_clauses [] ≡ record { number = 1; lits = pos 1 ∷ pos 2 ∷ [] } ∷ record { number = 2; lits = pos 1 ∷ minus 2 ∷ [] } ∷ [] }
+    ensures first { IsNamed (clauses_after two_clauses first_learned) (record { number = 3; lits = pos 1 ∷ [] }) }
+    ensures behind { IsNamed (clauses_after two_clauses learned_behind_a_lemma) (record { number = 4; lits = pos 1 ∷ [] }) }
+    ensures lemma { IsNamed (clauses_after two_clauses learned_behind_a_lemma) (record { number = 3; lits = pos 2 ∷ [] }) }
+    ensures input { IsNamed (clauses_after two_clauses first_learned) (record { number = 2; lits = pos 1 ∷ minus 2 ∷ [] }) }
+    ensures another { IsNamed (clauses_after two_clauses learned_behind_a_lemma) (record { number = 3; lits = minus 2 ∷ [] }) → ⊥ }
+    ensures beyond { IsNamed (clauses_after two_clauses first_learned) (record { number = 4; lits = pos 1 ∷ [] }) → ⊥ }
 {}
 
 /// The budget is spent where as many clauses were learned, counted from the beginning.

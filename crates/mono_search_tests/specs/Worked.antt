@@ -97,7 +97,7 @@ keeping support shown watchers at = record { possible = true; supports = support
 
 -- rows of which only these numbers are told
 abbrev pub rows_told : ℕ → ℕ → EitherSide ℕ
-rows_told looked rows = side.Rows (record { bounds = record { vars = []; under = []; over = [] }; looked = looked; rows = rows; due = [] })
+rows_told looked rows = side.Rows (record { part = []; looked = looked; rows = rows; due = [] })
 
 -- one row, which the only atom has. Its walk is to lead to node 6
 abbrev pub one_row : ℕ → SureRowsView ℕ

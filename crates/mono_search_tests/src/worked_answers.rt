@@ -33,8 +33,8 @@ pub fn what_theories_find()
     ensures owed { TheoryQuiet (parallel 1 1) reaches (minus 1 ∷ minus 2 ∷ []) → ⊥ }
 {}
 
-/// Of two atoms, one of which falls as edges come, each has to be quiet. No literal of a lemma is true, and whether the other atom is
-/// quiet makes no difference.
+/// Of two atoms, one of which falls as edges come, each has to be quiet. A lemma is of an atom that forces one of its literals, and
+/// none of them is true. Whether the other atom is quiet makes no difference.
 pub fn what_theories_find_of_two_atoms()
     ensures quiet { FindingIs (parallel 1 1) reaches_without_cycles (pos 1 ∷ pos 3 ∷ pos 4 ∷ []) finding.Quiet }
     ensures first_owes { FindingIs (parallel 1 1) reaches_without_cycles (pos 1 ∷ pos 4 ∷ []) finding.Quiet → ⊥ }
@@ -42,6 +42,7 @@ pub fn what_theories_find_of_two_atoms()
     ensures lemma_of_one { FindingIs (parallel 1 1) reaches_without_cycles (pos 1 ∷ pos 4 ∷ []) (finding.Lemma (walk_along 1)) }
     ensures true_literal { FindingIs (parallel 1 1) reaches (pos 1 ∷ minus 2 ∷ [])
         (finding.Lemma (of_1 (minus 1 ∷ minus 2 ∷ pos 3 ∷ []) (by.Path (1 ∷ [])))) → ⊥ }
+    ensures of_a_quiet_atom { FindingIs (parallel 1 1) reaches_without_cycles (minus 3 ∷ []) (finding.Lemma (walk_along 1)) → ⊥ }
 {}
 
 /// An atom has forced what is true, or is nearly quiet.

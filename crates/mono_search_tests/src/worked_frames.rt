@@ -61,9 +61,9 @@ pub fn variables_that_concern()
 
 /// Bounds by place of a variable: whether it is true, and whether it isn't false.
 pub fn bounds_of_variables()
-    ensures theirs { IsBoundOf (record { vars = 1 ∷ 2 ∷ []; under = first_alone; over = both }) (1 ∷ 2 ∷ []) (pos 1 ∷ []) }
-    ensures absent { IsBoundOf (record { vars = 1 ∷ 2 ∷ []; under = neither; over = first_alone }) (1 ∷ 2 ∷ []) (minus 2 ∷ []) }
-    ensures of_others { IsBoundOf (record { vars = 1 ∷ 4 ∷ []; under = first_alone; over = both }) (1 ∷ 2 ∷ []) (pos 1 ∷ []) → ⊥ }
-    ensures not_surely { IsBoundOf (record { vars = 1 ∷ 2 ∷ []; under = both; over = both }) (1 ∷ 2 ∷ []) (pos 1 ∷ []) → ⊥ }
-    ensures not_possibly { IsBoundOf (record { vars = 1 ∷ 2 ∷ []; under = first_alone; over = first_alone }) (1 ∷ 2 ∷ []) (pos 1 ∷ []) → ⊥ }
+    ensures theirs { IsBoundOf (record { vars = 1 ∷ 2 ∷ []; places = 0 ∷ 1 ∷ []; under = first_alone; over = both }) (1 ∷ 2 ∷ []) (pos 1 ∷ []) }
+    ensures absent { IsBoundOf (record { vars = 1 ∷ 2 ∷ []; places = 0 ∷ 1 ∷ []; under = neither; over = first_alone }) (1 ∷ 2 ∷ []) (minus 2 ∷ []) }
+    ensures of_others { IsBoundOf (record { vars = 1 ∷ 4 ∷ []; places = 0 ∷ 1 ∷ []; under = first_alone; over = both }) (1 ∷ 2 ∷ []) (pos 1 ∷ []) → ⊥ }
+    ensures not_surely { IsBoundOf (record { vars = 1 ∷ 2 ∷ []; places = 0 ∷ 1 ∷ []; under = both; over = both }) (1 ∷ 2 ∷ []) (pos 1 ∷ []) → ⊥ }
+    ensures not_possibly { IsBoundOf (record { vars = 1 ∷ 2 ∷ []; places = 0 ∷ 1 ∷ []; under = first_alone; over = first_alone }) (1 ∷ 2 ∷ []) (pos 1 ∷ []) → ⊥ }
 {}

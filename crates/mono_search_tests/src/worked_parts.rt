@@ -36,11 +36,12 @@ pub fn parts_that_shrink()
     ensures once_it_grows { OnlyShrink second_brings_both 2 → ⊥ }
 {}
 
-/// After a search it is known of each target whether it is reached, and nothing is lacking where all were.
+/// After a search it is known of each target whether it is reached, and nothing is lacking exactly where all are.
 pub fn targets_that_are_settled()
     ensures all { IsSettledBy true (known_by (without_way 4) None None) (known_by (with_way 0 1) (Some 0) None) }
     ensures not_all { IsSettledBy false (known_by (without_way 4) None None) (known_by (without_way 4) (Some 0) None) }
     ensures one_lacking { IsSettledBy true (known_by (without_way 4) None None) (known_by (without_way 4) (Some 0) None) → ⊥ }
+    ensures none_lacking { IsSettledBy false (known_by (without_way 4) None None) (known_by (with_way 0 1) (Some 0) None) → ⊥ }
     ensures not_known { IsSettledBy true (known_by (without_way 4) None None) (known_by (with_way 0 1) None None) → ⊥ }
     ensures edge_lost { IsSettledBy false (known_by (without_way 4) None None) (known_by (with_way 0 1) (Some 0) (Some 1)) → ⊥ }
 {}

@@ -27,7 +27,7 @@ pub fn boards_of_rounds()
     ensures given_in_no_round { IsBoardOfRounds over_seven 2 0 first_learned → ⊥ }
     ensures few_variables { IsBoardOfRounds two_clauses 2 0 [] → ⊥ }
     ensures of_as_many { (p : Instance) (board : List Step) (workers rounds : ℕ) → IsBoardOfRounds p workers rounds board
-        → AreRounds 1000 p workers rounds [] [] board }
+        → (last : List ℕ) × AreRounds 1000 p workers rounds [] [] last board }
 {}
 
 /// A gift behind Unsat is a refutation, whichever worker gives it. No play has a model and Unsat, whichever comes first.

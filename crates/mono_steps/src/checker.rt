@@ -105,7 +105,7 @@ fn fault_in_graph(
         ∷ (not (shows_clause (graph_at problem.now atom.graph) atom set.now.members witness.now), fault.MissingLiteral) ∷ [])) }
     ensures kept { graphs.new.items ≡ graphs.old.items }
 {
-    let _ = problem.vars();
+    problem.known();
     let has_own = set.has(Lit::of(atom.var, is_positive(witness)));
     let lits = set.members();
     graphs[atom.graph as usize].fault(problem, atom, lits, has_own, witness, placed)

@@ -60,5 +60,5 @@ pub use journal::Journal;
 pub use lemma::{Lemma, Witness};
 pub use mono_graph::{Amount, Label};
 pub use renumbering::{named_by, new_numbers, renumber_steps};
-pub use step::{Chain, Step, copy_steps};
+pub use step::{Chain, Step};
 pub use trimming::trimmed;

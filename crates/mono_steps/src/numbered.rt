@@ -56,7 +56,7 @@ pub(crate) fn atom_at(problem: &Problem, number: u32) -> Option<Atom>
     ensures low { IfSome result (λ x. 0 < x.var) }
     ensures high { IfSome result (λ x. x.var ≤ problem.now.vars) }
 {
-    let _ = problem.vars();
+    problem.known();
     if number == 0 || number > problem.atom_count() {
         None
     } else {

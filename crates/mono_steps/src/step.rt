@@ -5,7 +5,7 @@ ghost use Rattle.mono_steps.specs.Steps.{clause_of, is_full_chain};
 
 use crate::{Clause, Lemma};
 use mono_base::Row;
-use std::alloc::{AllocError, Global};
+use std::alloc::AllocError;
 
 /// A clause that follows from earlier ones by resolution.
 #[derive(Drop)]
@@ -70,15 +70,4 @@ impl Step {
             Step::Chain(chain) => !chain.clause.lits().is_empty(),
         }
     }
-}
-
-/// Equal steps.
-pub fn copy_steps(alloc: Global, steps: &[Step]) -> Result<Vec<Step>, AllocError>
-    ensures { IfOk result (λ copies. copies.items ≡ steps.now) }
-{
-    let mut copies = Vec::with_capacity(alloc, steps.len())?;
-    for step in steps {
-        copies.push(step.copy()?)?;
-    }
-    Ok(copies)
 }

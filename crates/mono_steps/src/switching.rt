@@ -24,19 +24,6 @@ fn place_in(used: &Use, graph: u32) -> Option<u32>
     }
 }
 
-/// Puts the place into the part, or takes it out.
-fn set(part: &mut Part, place: u32, on: bool)
-    requires { place < length part.old }
-    ensures size { length part.new ≡ length part.old }
-    ensures places { (k : ℕ) → present part.new k ≡ (if k == place then on else present part.old k) }
-{
-    if on {
-        part.put(place);
-    } else {
-        part.take(place);
-    }
-}
-
 /// Puts the edges that a variable switches into a part of their graph, or takes them out.
 fn switch_uses(part: &mut Part, graph: u32, uses: &[Use], on: bool)
     requires known { (k : ℕ) → IsTrue (has_edge_use graph k uses.now) → k < length part.old }
@@ -45,7 +32,7 @@ fn switch_uses(part: &mut Part, graph: u32, uses: &[Use], on: bool)
 {
     for used in uses {
         if let Some(place) = place_in(used, graph) {
-            set(part, place, on);
+            part.set(place, on);
         }
     }
 }

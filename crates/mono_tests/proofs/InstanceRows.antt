@@ -7,6 +7,7 @@ use Rattle.mono_graph.specs.declared.edge.Edge.{Edge}
 use Rattle.mono_graph.specs.Digraph.{IsGraph, IsRising}
 use Rattle.mono_graph.specs.Worked.{edge, edge_of, pipe, single}
 use Rattle.mono_problem.specs.declared.atom.Atom.{Atom}
+use Rattle.mono_problem.specs.declared.atom.Predicate.TheVariants as kind
 use Rattle.mono_problem.specs.Instance.{identity_at, place_named}
 use Rattle.mono_problem.specs.WellFormed.{IsAtomAt, IsDeclared, IsInstance, IsLitWithin, count_numbered}
 use Rattle.mono_problem.specs.Worked.{minus, reaches_2}
@@ -112,11 +113,25 @@ none_of_a_variable_beyond p =
     let high : 7 ≤ 6 = (All-head (λ (e : Edge). (e.var ≤ 6) × (e.number ≤ 1)) (edge_of 1 0 1 7 7) [] g.within).0 in
     omega (arith, high)
 
+pub none_of_a_great_identity : IsInstance (of_graphs ((4294967296, single (edge_of 1 0 1 4 7)) ∷ [])) → ⊥
+none_of_a_great_identity p =
+    let low : 4294967296 < 4294967296 = (All-head (IsDeclared 6 1) (4294967296, single (edge_of 1 0 1 4 7)) [] p.graphs).identity in
+    omega (arith, low)
+
+pub none_of_an_edge_beyond : IsInstance (of_graphs ((5, single (edge_of 1 0 7 4 7)) ∷ [])) → ⊥
+none_of_an_edge_beyond p =
+    let g = All-head (IsDeclared 6 1) (5, single (edge_of 1 0 7 4 7)) [] p.graphs in
+    let low : 7 < 2 = (All-head (λ (e : Edge). (e.from < 2) × (e.to < 2)) (edge_of 1 0 7 4 7) [] g.graph.ends).1 in
+    omega (arith, low)
+
 pub none_of_a_second_predicate : IsInstance (asks_only over_second) → ⊥
 none_of_a_second_predicate p = let e : 2 ≡ 0 + 1 = (p.atoms 0 over_second (omega arith)).number in omega (arith, e)
 
 pub none_of_a_missing_graph : IsInstance (asks_only (record reaches_2 { graph = 2 })) → ⊥
 none_of_a_missing_graph p = let low : 2 < 2 = (p.atoms 0 over_second (omega arith)).graph in omega (arith, low)
+
+pub none_of_a_tree_of_no_graph : IsInstance (asks_only (record reaches_2 { graph = 2; predicate = kind.Tree (pos 9) })) → ⊥
+none_of_a_tree_of_no_graph p = let low : 2 < 2 = (p.atoms 0 over_second (omega arith)).graph in omega (arith, low)
 
 pub none_of_a_node_beyond : IsInstance (asks_only (record reaches_2 { graph = 1 })) → ⊥
 none_of_a_node_beyond p = let low : 2 < 2 = (p.atoms 0 over_second (omega arith)).over.1 in omega (arith, low)

@@ -5,7 +5,7 @@ use Rattle.mono_problem.specs.Instance.{Instance}
 use Rattle.mono_answer.specs.declared.item.Item.{Item}
 use Rattle.mono_answer.specs.declared.item.Item.TheVariants as item
 use Rattle.mono_answer.specs.Items.{items_of}
-use Rattle.mono_check.specs.Answers.{HasModel, values_item}
+use Rattle.mono_check.specs.Answers.{SaysModel, values_item}
 
 -- the numbers of lines of values
 abbrev pub numbers_in : List (Option Item) → List ℤ
@@ -43,13 +43,13 @@ abbrev pub behind : List (ℕ × Option Item) → List (Option Item)
 behind ls = map (λ l. l.1) (drop 1 ls)
 
 -- the literals are those of the text, without the ending 0
-pub lits_said : (p : Instance) (text : List ℕ) (values : List Bool) (h : HasModel p text values) → h.lits ≡ init (numbers_in (behind (items_of (length p.clauses) text)))
+pub lits_said : (p : Instance) (text : List ℕ) (values : List Bool) (h : SaysModel p text values) → h.lits ≡ init (numbers_in (behind (items_of (length p.clauses) text)))
 lits_said p text values h =
     let lines : behind (items_of (length p.clauses) text) ≡ map (λ l. l.1) h.lines = ap behind h.behind.1 in
     let numbers = ap numbers_in lines ∙ ap numbers_in h.alone ∙ numbers_of_rows h.rows ∙ h.numbers in
     sym (ap init numbers ∙ init_push h.lits (pos 0))
 
-pub lines_are_values : (p : Instance) (text : List ℕ) (values : List Bool) → HasModel p text values → all_values (behind (items_of (length p.clauses) text)) ≡ true
+pub lines_are_values : (p : Instance) (text : List ℕ) (values : List Bool) → SaysModel p text values → all_values (behind (items_of (length p.clauses) text)) ≡ true
 lines_are_values p text values h =
     let lines : behind (items_of (length p.clauses) text) ≡ map (λ l. l.1) h.lines = ap behind h.behind.1 in
     ap all_values lines ∙ ap all_values h.alone ∙ rows_are_values h.rows

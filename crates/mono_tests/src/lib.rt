@@ -9,6 +9,8 @@
 pub mod acyclic;
 /// Printed lines, and numbers that the format can't write.
 pub mod answers;
+/// Partial assignments, numbers in an order, and lists of places.
+pub mod assignments;
 /// Clauses that are unit or false, and stores of clauses.
 pub mod clauses;
 /// Cycles, and orders of the nodes.

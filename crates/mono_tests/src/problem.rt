@@ -130,8 +130,11 @@ pub fn whole_problems()
     ensures number_twice { IsInstance (of_graphs ((8, pipe 3 2) ∷ (5, single (edge_of 2 0 1 4 7)) ∷ [])) → ⊥ }
     ensures number_beyond { IsInstance (of_graphs ((5, single (edge_of 2 0 1 4 7)) ∷ [])) → ⊥ }
     ensures edges_variable_beyond { IsInstance (of_graphs ((5, single (edge_of 1 0 1 7 7)) ∷ [])) → ⊥ }
+    ensures identity_beyond { IsInstance (of_graphs ((4294967296, single (edge_of 1 0 1 4 7)) ∷ [])) → ⊥ }
+    ensures edge_to_no_node { IsInstance (of_graphs ((5, single (edge_of 1 0 7 4 7)) ∷ [])) → ⊥ }
     ensures second_predicate_alone { IsInstance (asks_only over_second) → ⊥ }
     ensures missing_graph { IsInstance (asks_only (record reaches_2 { graph = 2 })) → ⊥ }
+    ensures tree_of_no_graph { IsInstance (asks_only (record reaches_2 { graph = 2; predicate = kind.Tree (pos 9) })) → ⊥ }
     ensures node_of_another_graph { IsInstance (asks_only (record reaches_2 { graph = 1 })) → ⊥ }
     ensures variable_0 { IsInstance (asks_only (record reaches_2 { var = 0 })) → ⊥ }
     ensures variable_beyond { IsInstance (asks_only (record reaches_2 { var = 7 })) → ⊥ }

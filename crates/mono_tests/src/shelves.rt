@@ -1,9 +1,10 @@
 //! Worked rows: what reading a text from a shelf comes to.
 
-ghost use Rattle.std.specs.Prelude.{◌≡◌, ◌-◌, ◌^◌, [], ◌∷◌, true, false, codes, Some, None};
+ghost use Rattle.std.specs.Prelude.{◌≡◌, ◌-◌, ◌^◌, [], ◌∷◌, ℕ, true, false, codes, Some, None, Ok, Err};
 ghost use Rattle.mono_io.specs.declared.refusal.ReadRefusal.TheVariants as unread;
 ghost use Rattle.mono_io.specs.FaultPlan.{next_is_listed};
 ghost use Rattle.mono_io.specs.Reading.{IsGivenUp, IsNotRead, IsReadInto, IsTooLong};
+ghost use Rattle.mono_io.specs.Shelf.{ReadsNext};
 ghost use Rattle.mono_io.specs.Worked.{steady_shelf, two_texts};
 ghost use Rattle.mono_check.specs.declared.refusal.CheckRefusal.TheVariants as refusal;
 ghost use Rattle.mono_check.specs.FromShelf.{refusal_of};
@@ -23,6 +24,14 @@ pub fn names_begun_once()
     ensures too_long { ¬ IsTooLong (codes "f") 1 (steady_shelf two_texts [] None 0 0) (steady_shelf two_texts (codes "f") (Some 2) 2 0) }
     ensures not_read { ¬ IsNotRead (codes "h") 2 (steady_shelf two_texts [] None 0 0) (steady_shelf two_texts [] None 0 1) }
     ensures given_up { ¬ IsGivenUp 2 (steady_shelf two_texts [] None 0 0) (steady_shelf two_texts (codes "f") (Some 2) 2 0) }
+{}
+
+/// The next bytes of a told text come into the front of the buffer. Of one that isn't told nothing is said.
+pub fn bytes_that_are_read()
+    ensures next { ReadsNext {E = ℕ} (Some (codes "abc")) (Some 1) (codes "bcz") (Ok 2) }
+    ensures another { ReadsNext {E = ℕ} (Some (codes "abc")) (Some 1) (codes "bdz") (Ok 2) → ⊥ }
+    ensures untold { ReadsNext {E = ℕ} None (Some 1) (codes "bdz") (Ok 2) }
+    ensures failed { ReadsNext {E = ℕ} (Some (codes "abc")) (Some 1) (codes "bdz") (Err 0) }
 {}
 
 /// Why a text wasn't read is why there is no verdict on it.

@@ -135,6 +135,12 @@ pub fn clause_made_false()
     ensures { AreNew (clauses_over 2 ((minus 1 ∷ []) ∷ [])) (step.Lemma (of_1 (pos 1 ∷ []) (by.Path [])) ∷ chain (pos 1 ∷ []) (2 ∷ []) ∷ []) → ⊥ }
 {}
 
+/// No clause is new by an assignment that has both signs of a variable.
+pub fn both_signs_of_a_variable()
+    ensures { AreNew (clauses_over 2 ((pos 2 ∷ []) ∷ (minus 2 ∷ []) ∷ [])) (step.Lemma (of_1 (pos 1 ∷ []) (by.Path []))
+        ∷ chain (pos 1 ∷ []) (3 ∷ []) ∷ []) → ⊥ }
+{}
+
 /// 0 is no literal, and no clause is new by it.
 pub fn zero_alone()
     ensures { AreNew (clauses_over 2 ((pos 1 ∷ pos 2 ∷ []) ∷ [])) (step.Lemma (of_1 (pos 0 ∷ []) (by.Path [])) ∷ chain (pos 0 ∷ []) (2 ∷ []) ∷ []) → ⊥ }

@@ -9,7 +9,7 @@ ghost use Rattle.mono_steps.specs.declared.step.Step.TheVariants as step;
 ghost use Rattle.mono_steps.specs.WorkedLemmas.{chain, minus, of_1};
 ghost use Rattle.mono_answer.specs.declared.item.Item.TheVariants as item;
 ghost use Rattle.mono_answer.specs.declared.kind.Kind.TheVariants as kind;
-ghost use Rattle.mono_check.specs.Answers.{HasModel, HasSteps};
+ghost use Rattle.mono_check.specs.Answers.{SaysModel, HasSteps};
 ghost use Rattle.mono_check.specs.Atoms.{IsWrongAtom};
 ghost use Rattle.mono_check.specs.FromShelf.{IsVerdictFrom};
 ghost use Rattle.mono_check.specs.Names.{reason_name};
@@ -110,14 +110,14 @@ pub fn verdicts_from_a_shelf()
 
 /// The values of a text are those that its lines of values say: a literal over each variable, in any order, and the ending 0.
 pub fn values_of_a_text()
-    ensures values { HasModel (alone 2) (codes "s SATISFIABLE\nv -2\nv 1 0\n") (true ∷ false ∷ []) }
-    ensures other_values { HasModel (alone 2) (codes "s SATISFIABLE\nv -2\nv 1 0\n") (true ∷ true ∷ []) → ⊥ }
-    ensures variable_missing { HasModel (alone 2) (codes "s SATISFIABLE\nv 1 0\n") (true ∷ false ∷ []) → ⊥ }
-    ensures variable_twice { HasModel (alone 1) (codes "s SATISFIABLE\nv 1 -1 0\n") (true ∷ []) → ⊥ }
-    ensures variable_beyond { HasModel (alone 1) (codes "s SATISFIABLE\nv 1 2 0\n") (true ∷ []) → ⊥ }
-    ensures no_end { HasModel (alone 1) (codes "s SATISFIABLE\nv 1\n") (true ∷ []) → ⊥ }
-    ensures other_line { HasModel (alone 1) (codes "s SATISFIABLE\nv 1 0\nchain 1 0 1\n") (true ∷ []) → ⊥ }
-    ensures other_kind { HasModel (alone 1) (codes "s UNKNOWN\nv 1 0\n") (true ∷ []) → ⊥ }
+    ensures values { SaysModel (alone 2) (codes "s SATISFIABLE\nv -2\nv 1 0\n") (true ∷ false ∷ []) }
+    ensures other_values { SaysModel (alone 2) (codes "s SATISFIABLE\nv -2\nv 1 0\n") (true ∷ true ∷ []) → ⊥ }
+    ensures variable_missing { SaysModel (alone 2) (codes "s SATISFIABLE\nv 1 0\n") (true ∷ false ∷ []) → ⊥ }
+    ensures variable_twice { SaysModel (alone 1) (codes "s SATISFIABLE\nv 1 -1 0\n") (true ∷ []) → ⊥ }
+    ensures variable_beyond { SaysModel (alone 1) (codes "s SATISFIABLE\nv 1 2 0\n") (true ∷ []) → ⊥ }
+    ensures no_end { SaysModel (alone 1) (codes "s SATISFIABLE\nv 1\n") (true ∷ []) → ⊥ }
+    ensures other_line { SaysModel (alone 1) (codes "s SATISFIABLE\nv 1 0\nchain 1 0 1\n") (true ∷ []) → ⊥ }
+    ensures other_kind { SaysModel (alone 1) (codes "s UNKNOWN\nv 1 0\n") (true ∷ []) → ⊥ }
 {}
 
 /// The steps of a text are those of its lines behind a status line of that kind, in order and no more.

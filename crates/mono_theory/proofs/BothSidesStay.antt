@@ -2,8 +2,8 @@
 use Rattle.std.proofs.Common.{◌≡◌, ℕ, Bool, ℤ, List, length, sym, ap, subst, ◌∙◌}
 use Rattle.std.specs.Prelude.{Result, Ok, Err, IfOk}
 use Rattle.mono_problem.specs.declared.atom.Predicate.{Predicate}
-use Rattle.mono_theory.specs.Supports.{SideView, IsSide, IsSideFor, IsKept, IsKeptBy, gone_back}
-use Rattle.mono_theory.specs.Theories.{Facts, seeing, cut_to}
+use Rattle.mono_theory.specs.Supports.{SideView, IsSide, IsSideFor, IsKept, gone_back}
+use Rattle.mono_theory.specs.Theories.{Facts, cut_to}
 
 -- ---- one side
 
@@ -20,9 +20,6 @@ pub new_sign : {E : Type 0} (f : Facts) (b : Bool) (atoms edges : ℕ) (r : Resu
     → IfOk r (λ s. (h : Facts) → length h.atoms ≡ atoms → length h.graph.edges ≡ edges → IsSide h b s) → IfOk r (λ s. s.possible ≡ b)
 new_sign f b atoms edges (Ok s) few size right = (right f few size).sign
 new_sign f b atoms edges (Err e) few size right = tt
-
-pub side_pushed : {f : Facts} {thorough : Bool} {s : SideView} (l : ℤ) (r : SideView) → IsSide (seeing f l) r.possible r → IsKeptBy f.graph s.possible l s r → IsSideFor f s.possible thorough s → IsSideFor (seeing f l) r.possible thorough r
-side_pushed l r side kept h = record { side = side; thorough = ap (λ (x : SideView). x.thorough) kept.same ∙ h.thorough }
 
 pub side_gone_back : {f : Facts} {thorough : Bool} {s : SideView} (kept : ℕ) (r : SideView) → IsSide (cut_to kept f) r.possible r → r ≡ gone_back kept s → IsSideFor f s.possible thorough s → IsSideFor (cut_to kept f) r.possible thorough r
 side_gone_back kept r side is h = record { side = side; thorough = ap (λ (x : SideView). x.thorough) is ∙ h.thorough }

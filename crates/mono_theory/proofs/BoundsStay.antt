@@ -120,16 +120,38 @@ unassigned_is_bound b vs t (negsuc n) p f h = record {
       (λ x ne. ap not (has_lit-push_other t (negsuc n) (neg_ℤ (pos x)) (λ e. ne (neg_inj x n e))));
 }
 
-made : List ℕ → List Bool → List Bool → Bound
-made v u o = record { vars = v; under = u; over = o }
+abbrev pub made : List ℕ → List ℕ → List Bool → List Bool → Bound
+made v k u o = record { vars = v; places = k; under = u; over = o }
 
-made_same : (v w : List ℕ) (u x o y : List Bool) → v ≡ w → u ≡ x → o ≡ y → made v u o ≡ made w x y
-made_same v w u x o y e f g = ap (λ a. made a u o) e ∙ ap (λ a. made w a o) f ∙ ap (λ a. made w x a) g
+made_same : (v w j k : List ℕ) (u x o y : List Bool) → v ≡ w → j ≡ k → u ≡ x → o ≡ y → made v j u o ≡ made w k x y
+made_same v w j k u x o y e d f g = ap (λ a. made a j u o) e ∙ ap (λ a. made w a u o) d ∙ ap (λ a. made w k a o) f ∙ ap (λ a. made w k x a) g
 
--- the bounds of a list are one value
-pub bound_is_one : (b c : Bound) (vs : List ℕ) (t : List ℤ) → IsBoundOf b vs t → IsBoundOf c vs t → c ≡ b
-unfolding made
-bound_is_one b c vs t h k = made_same c.vars b.vars c.under b.under c.over b.over (k.vars ∙ sym h.vars) (k.surely ∙ sym h.surely) (k.possibly ∙ sym h.possibly)
+-- the bounds of a list over places in one order are one value
+pub bound_is_one : (b c : Bound) (vs : List ℕ) (t : List ℤ) → c.places ≡ b.places → IsBoundOf b vs t → IsBoundOf c vs t → c ≡ b
+bound_is_one b c vs t same h k =
+    made_same c.vars b.vars c.places b.places c.under b.under c.over b.over (k.vars ∙ sym h.vars) same (k.surely ∙ sym h.surely) (k.possibly ∙ sym h.possibly)
+
+-- ---- one part changes, by the literal's sign
+
+pub assigned_under : (vs ks : List ℕ) (u o : List Bool) (l : ℤ) (Q : List Bool) → int_lt (pos 0) l ≡ true → Q ≡ switched vs (nat_abs l) true u → made vs ks Q o ≡ assigned (made vs ks u o) l
+assigned_under vs ks u o l Q up is =
+    made_same vs vs ks ks Q (assigned (made vs ks u o) l).under o (assigned (made vs ks u o) l).over refl refl
+    (is ∙ sym (ap (λ b. cond b (switched vs (nat_abs l) true u) u) up)) (sym (ap (λ b. cond b o (switched vs (nat_abs l) false o)) up))
+
+pub assigned_over : (vs ks : List ℕ) (u o : List Bool) (l : ℤ) (Q : List Bool) → int_lt (pos 0) l ≡ false → Q ≡ switched vs (nat_abs l) false o → made vs ks u Q ≡ assigned (made vs ks u o) l
+assigned_over vs ks u o l Q down is =
+    made_same vs vs ks ks u (assigned (made vs ks u o) l).under Q (assigned (made vs ks u o) l).over refl refl
+    (sym (ap (λ b. cond b (switched vs (nat_abs l) true u) u) down)) (is ∙ sym (ap (λ b. cond b o (switched vs (nat_abs l) false o)) down))
+
+pub unassigned_under : (vs ks : List ℕ) (u o : List Bool) (l : ℤ) (Q : List Bool) → int_lt (pos 0) l ≡ true → Q ≡ switched vs (nat_abs l) false u → made vs ks Q o ≡ unassigned (made vs ks u o) l
+unassigned_under vs ks u o l Q up is =
+    made_same vs vs ks ks Q (unassigned (made vs ks u o) l).under o (unassigned (made vs ks u o) l).over refl refl
+    (is ∙ sym (ap (λ b. cond b (switched vs (nat_abs l) false u) u) up)) (sym (ap (λ b. cond b o (switched vs (nat_abs l) true o)) up))
+
+pub unassigned_over : (vs ks : List ℕ) (u o : List Bool) (l : ℤ) (Q : List Bool) → int_lt (pos 0) l ≡ false → Q ≡ switched vs (nat_abs l) true o → made vs ks u Q ≡ unassigned (made vs ks u o) l
+unassigned_over vs ks u o l Q down is =
+    made_same vs vs ks ks u (unassigned (made vs ks u o) l).under Q (unassigned (made vs ks u o) l).over refl refl
+    (sym (ap (λ b. cond b (switched vs (nat_abs l) false u) u) down)) (is ∙ sym (ap (λ b. cond b o (switched vs (nat_abs l) true o)) down))
 
 -- the bounds' own variables are those
 pub by_own_vars : {b : Bound} {vs : List ℕ} {t : List ℤ} → IsBoundOf b vs t → IsBoundOf b b.vars t

@@ -1,14 +1,14 @@
 -- Evidence decides its predicate, and the lemma that it makes is shown by the graph and the atom alone.
-use Rattle.std.proofs.Common.{◌≡◌, ℕ, zero, suc, ◌<◌, ◌≤◌, Bool, true, false, not, ◌&&◌, cond, List, [], ◌∷◌, length, map, get_or, eqb, eq-eqb, refl, sym, ap, subst, ◌∙◌, inl, inr, arith, ℤ, pos, neg_ℤ, nat_abs, int_lt, All}
+use Rattle.std.proofs.Common.{◌≡◌, ℕ, zero, suc, ◌<◌, ◌≤◌, Bool, true, false, not, ◌&&◌, cond, List, [], ◌∷◌, length, map, get_or, get_or-set_other, set, eqb, eq-eqb, refl, sym, ap, subst, ◌∙◌, inl, inr, arith, ℤ, pos, neg_ℤ, nat_abs, int_lt, All}
 use Rattle.std.specs.Prelude.{IsTrue, Option, Some, MatchOption}
 use Rattle.std.specs.List.{list_any}
 use Rattle.std.specs.Ordering.{int_eq}
 use Rattle.std.proofs.lemmas.Int.{ints}
-use Rattle.std.proofs.lemmas.Bool.{or_cases, or_left, or_right, and_from, and_parts, both_ways, not-true, false_from_ne_true, cases_Bool}
+use Rattle.std.proofs.lemmas.Bool.{cases_eq, or_cases, or_left, or_right, and_from, and_parts, both_ways, not-true, false_from_ne_true, cases_Bool}
 use Rattle.std.proofs.lemmas.List.Folds.{list_any_at}
 use Rattle.std.proofs.lemmas.List.FromFn.{get_or-map-range_with_len, length-map-range_with_len}
 use Rattle.mono_base.specs.Literal.{has_lit, var_of, without}
-use Rattle.mono_base.specs.Partial.{is_true_in, is_false_in, others_false}
+use Rattle.mono_base.specs.Partial.{is_true_in, is_false_in, is_open_in, others_false}
 use Rattle.mono_base.proofs.Partials.{neg-neg, var-neg}
 use Rattle.mono_base.proofs.Truth.{same_lit, lit_itself, from_each}
 use Rattle.mono_graph.specs.declared.edge.Edge.{Edge}
@@ -29,7 +29,7 @@ use Rattle.mono_steps.proofs.Sets.{has-without}
 use Rattle.mono_steps.specs.Switching.{literal_of}
 use Rattle.mono_steps.proofs.Witnessed.{positive_holds, negative_excludes, passing_serves, passes-larger, passes-smaller}
 use Rattle.mono_theory.specs.declared.evidence.Evidence.{Evidence}
-use Rattle.mono_theory.specs.Theories.{concerns_of, atom_of, IsLemmaOf}
+use Rattle.mono_theory.specs.Theories.{concerns_of, atom_of, IsLemmaOf, IsUnitLemma}
 use Rattle.mono_theory.specs.Evidences.{Decides, shown_by, only, all_but, IsEvidence, lemma_by, side}
 use Rattle.mono_theory.specs.Frames.{IsVar}
 use Rattle.mono_graph.proofs.Pigeons.{all_has}
@@ -245,6 +245,49 @@ sided_lemma {g = g} {e = e} x atoms t n s b found number own sign h = record {
   concerned = both (λ c. All (λ l. IsTrue (concerns_of g atoms (var_of l))) c) (clause_concerned g atoms x e.edges s b own (λ k u. (h.sided k u).0));
   has = both (λ c. IsTrue (has_lit c (literal_of s x.var))) (head_in g x e.edges s b);
   others = both (λ c. IsTrue (others_false t c (literal_of s x.var))) (edges_false g t x e.edges s b h.sided);
+}
+  where
+    both : (C : List ℤ → Type 0) → C (clause_at g x e.edges s b) → C (clause_at g x e.edges (is_positive e.witness) (rests_on_present e.witness))
+    both C c = subst (λ (r : Bool). C (clause_at g x e.edges r (rests_on_present e.witness))) (sym sign) (subst (λ (a : Bool). C (clause_at g x e.edges s a)) (sym h.rests) c)
+
+-- ---- a clause of which one literal is open
+
+open_literal : (t : List ℤ) (b : Bool) (v : ℕ) → IsTrue (is_open_in t (pos v)) → IsTrue (is_open_in t (literal_of b v))
+open_literal t true v h = h
+open_literal t false v h =
+    let a = and_parts (not (is_true_in t (pos v))) (not (is_false_in t (pos v))) h in
+    and_from (not (is_true_in t (neg_ℤ (pos v)))) (not (is_false_in t (neg_ℤ (pos v)))) a.1 (subst (λ (l : ℤ). IsTrue (not (has_lit t l))) (sym (neg-neg (pos v))) a.0)
+
+-- the edges but the one at the place k are as they are under the list
+others_but : (g : Digraph) (t : List ℤ) (x : Atom) (ks : List ℕ) (s b : Bool) (k : ℕ) → IsTrue (is_false_in t (literal_of s x.var)) → ((j : ℕ) → IsTrue (has ks j) → (j < length g.edges) × (present (set (sided_part g t b) k b) j ≡ b))
+    → IsTrue (others_false t (clause_at g x ks s b) (literal_of (not b) (edge_at g k).var))
+unfolding clause_at
+others_but g t x ks s b k denied sided =
+    let f : ℕ → ℤ = λ j. literal_of (not b) (edge_at g j).var in
+    from_each (is_false_in t) (without (clause_at g x ks s b) (f k)) (λ l h.
+    let a = and_parts (not (int_eq (f k) l)) (has_lit (clause_at g x ks s b) l) (sym (has-without (clause_at g x ks s b) (f k) l) ∙ h) in
+    elim (or_cases (int_eq l (literal_of s x.var)) (has_lit (map f ks) l) a.1) [
+      | inl e ↦ subst (λ (m : ℤ). IsTrue (is_false_in t m)) (sym (same_lit l (literal_of s x.var) e)) denied
+      | inr e ↦ (
+          let r = from_map f ks l e in
+          let here = sided r.place r.has in
+          elim (cases_eq r.place k) [
+            | inl same ↦ absurd (both_ways (int_eq (f k) l) (not-true (int_eq (f k) l) a.0) (subst (λ (m : ℤ). IsTrue (int_eq (f k) m)) (sym (r.is ∙ ap f same)) (lit_itself (f k))))
+            | inr other ↦ subst (λ (m : ℤ). IsTrue (is_false_in t m)) (sym r.is) (edge_false g t b r.place here.0 (sym (get_or-set_other (sided_part g t b) k r.place b false other) ∙ here.1))
+          ])
+    ])
+
+-- the lemma of evidence that one more edge makes right is unit where the edge is open and the atom's variable says otherwise
+pub sided_unit : {g : Digraph} {e : Evidence} (x : Atom) (atoms : List Atom) (t : List ℤ) (k : ℕ) (s b : Bool) → atom_of atoms x.number ≡ Some x → IsTrue (list_any (λ (y : Atom). eqb y.var x.var) atoms) → is_positive e.witness ≡ s
+    → IsSided g (set (cond b (under g t) (over g t)) k b) x.predicate e b → IsTrue (has e.edges k) → IsTrue (is_open_in t (pos (edge_at g k).var)) → IsTrue (is_false_in t (literal_of s x.var))
+    → IsUnitLemma g atoms t (literal_of (not b) (edge_at g k).var) (lemma_by g x e)
+unfolding sided_part clause_at
+sided_unit {g = g} {e = e} x atoms t k s b found own sign h used open_now denied = record {
+  shown = subst (λ (o : Option Atom). MatchOption o ⊥ (λ y. IsTrue (is_shown g y (lemma_by g x e)))) (sym found) (sided_shown x s b sign h);
+  concerned = both (λ c. All (λ l. IsTrue (concerns_of g atoms (var_of l))) c) (clause_concerned g atoms x e.edges s b own (λ j u. (h.sided j u).0));
+  has = both (λ c. IsTrue (has_lit c (literal_of (not b) (edge_at g k).var))) (in_clause g x e.edges s b k used);
+  is_open = open_literal t (not b) (edge_at g k).var open_now;
+  others = both (λ c. IsTrue (others_false t c (literal_of (not b) (edge_at g k).var))) (others_but g t x e.edges s b k denied h.sided);
 }
   where
     both : (C : List ℤ → Type 0) → C (clause_at g x e.edges s b) → C (clause_at g x e.edges (is_positive e.witness) (rests_on_present e.witness))

@@ -87,5 +87,7 @@ finding_by g atoms t n l m kept p u whole x =
             | inl e ↦ elim (others k hk) [ inl f ↦ e ∙ sym f | inr f ↦ absurd (open_not_false t k ok f) ]
             | inr e ↦ absurd (open_not_false t j oj e)
           ];
-      not_quiet = forced_is_loud g atoms t n l u;
+      lit = l;
+      has = s.has;
+      forced = subst (λ (k : ℕ). IsForced g atoms t k l) (sym s.number) u;
     }

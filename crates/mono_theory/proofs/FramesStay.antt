@@ -22,6 +22,7 @@ use Rattle.mono_theory.specs.Index.{IsPlaceOf}
 use Rattle.mono_theory.specs.Theories.{concerns_of, owns_of, atom_of}
 use Rattle.mono_theory.specs.Variables.{AreVarsOf}
 use Rattle.mono_theory.specs.Bound.{Bound, edge_vars, assigned, unassigned, IsBoundOf}
+use Rattle.mono_theory.specs.SeenBounds.{SeenBound, IsSeenBound}
 use Rattle.mono_theory.specs.Frames.{AreAtomsOf, IsVar, atom_vars, atom_numbers, IsFrame}
 use Rattle.mono_graph.proofs.Pigeons.{pigeon}
 use Rattle.mono_theory.proofs.BoundsStay.{assigned_is_bound, unassigned_is_bound}
@@ -96,9 +97,9 @@ concerned-push g atoms t l h c v m =
     ]
 
 -- nothing was seen yet
-pub IsFrame-new : {g : Digraph} {atoms : List Atom} {b o : Bound} {ns vs : List ℕ} {cells : ℕ} → IsGraph g → AreAtomsOf g atoms → length atoms ≤ MAX_ATOMS → IsBoundOf b (edge_vars g) [] → IsBoundOf o (atom_vars atoms) []
-    → ns ≡ atom_numbers atoms → AreVarsOf g atoms vs → length g.edges + length atoms ≤ cells → IsFrame g atoms [] b o ns vs cells
-IsFrame-new graph known few edges own numbered vars room = record {
+pub IsFrame-new : {g : Digraph} {atoms : List Atom} {b o : SeenBound} {ns vs : List ℕ} {cells : ℕ} → IsGraph g → AreAtomsOf g atoms → length atoms ≤ MAX_ATOMS → IsSeenBound b (edge_vars g) [] → IsSeenBound o (atom_vars atoms) []
+    → ns ≡ atom_numbers atoms → AreVarsOf g atoms vs → length g.edges + length atoms ≤ cells → length g.edges + length atoms ≤ b.cells → length g.edges + length atoms ≤ o.cells → IsFrame g atoms [] b o ns vs cells
+IsFrame-new graph known few edges own numbered vars room edge_room own_room = record {
   graph = graph;
   known = known;
   partial = refl;
@@ -108,10 +109,12 @@ IsFrame-new graph known few edges own numbered vars room = record {
   numbered = numbered;
   vars = vars;
   room = room;
+  edge_room = edge_room;
+  own_room = own_room;
   few = few;
 }
 
-pub seen_few : {g : Digraph} {atoms : List Atom} {t : List ℤ} {b o : Bound} {ns vs : List ℕ} {cells : ℕ} → IsFrame g atoms t b o ns vs cells → length t < 2 ^ 31
+pub seen_few : {g : Digraph} {atoms : List Atom} {t : List ℤ} {b o : SeenBound} {ns vs : List ℕ} {cells : ℕ} → IsFrame g atoms t b o ns vs cells → length t < 2 ^ 31
 seen_few {g = g} {atoms = atoms} {t = t} s =
     let few : length t ≤ length (vars_of g atoms) = few_vars t (vars_of g atoms) s.partial
     (λ v m. list_any-append (λ e. eqb e v) (edge_vars g) (atom_vars atoms) ∙ has-both g atoms v ∙ s.concerned v m) in
@@ -119,32 +122,36 @@ seen_few {g = g} {atoms = atoms} {t = t} s =
     let atoms_few = s.few in
     omega (arith, few, length-append (edge_vars g) (atom_vars atoms), length-map g.edges (λ e. e.var), length-map atoms (λ x. x.var), edges, atoms_few)
 
-pub room_for_one : {g : Digraph} {atoms : List Atom} {t : List ℤ} {b o : Bound} {ns vs : List ℕ} {cells : ℕ} (l : ℤ) → IsFrame g atoms t b o ns vs cells → IsTrue (concerns_of g atoms (var_of l)) → IsTrue (is_open_in t l) → length t + 1 ≤ cells
+-- the variable of a literal that concerns the frame isn't 0
+pub concerned_lit : {g : Digraph} {atoms : List Atom} {t : List ℤ} {b o : SeenBound} {ns vs : List ℕ} {cells : ℕ} (l : ℤ) → IsFrame g atoms t b o ns vs cells → IsTrue (concerns_of g atoms (var_of l)) → IsTrue (is_lit l)
+concerned_lit {g = g} {atoms = atoms} l s c = lit_by l (concerned_is_var g atoms (nat_abs l) s.graph s.known c)
+
+pub room_for_one : {g : Digraph} {atoms : List Atom} {t : List ℤ} {b o : SeenBound} {ns vs : List ℕ} {cells : ℕ} (l : ℤ) → IsFrame g atoms t b o ns vs cells → IsTrue (concerns_of g atoms (var_of l)) → IsTrue (is_open_in t l) → length t + 1 ≤ length g.edges + length atoms
 room_for_one {g = g} {atoms = atoms} {t = t} l s c f =
-    let few : length (t ++ l ∷ []) ≤ length (vars_of g atoms) = few_vars (t ++ l ∷ []) (vars_of g atoms) (is_partial-push t l s.partial (lit_by l (concerned_is_var g atoms (nat_abs l) s.graph s.known c)) (open_is_new t l f))
+    let few : length (t ++ l ∷ []) ≤ length (vars_of g atoms) = few_vars (t ++ l ∷ []) (vars_of g atoms) (is_partial-push t l s.partial (concerned_lit l s c) (open_is_new t l f))
     (λ v m. list_any-append (λ e. eqb e v) (edge_vars g) (atom_vars atoms) ∙ has-both g atoms v ∙ concerned-push g atoms t l s.concerned c v m) in
-    omega (arith, few, length-append (edge_vars g) (atom_vars atoms), length-map g.edges (λ e. e.var), length-map atoms (λ x. x.var), s.room, length-append t (l ∷ []))
+    omega (arith, few, length-append (edge_vars g) (atom_vars atoms), length-map g.edges (λ e. e.var), length-map atoms (λ x. x.var), length-append t (l ∷ []))
 
-pub IsFrame-push : {g : Digraph} {atoms : List Atom} {t : List ℤ} {b o : Bound} {ns vs : List ℕ} {cells : ℕ} (l : ℤ) (more : ℕ) → IsFrame g atoms t b o ns vs cells → IsTrue (concerns_of g atoms (var_of l)) → IsTrue (is_open_in t l) → cells ≤ more
-    → IsFrame g atoms (t ++ l ∷ []) (assigned b l) (assigned o l) ns vs more
-IsFrame-push {g = g} {atoms = atoms} {t = t} {b = b} {o = o} l more s c f wider =
-    let var : IsTrue (is_lit l) = lit_by l (concerned_is_var g atoms (nat_abs l) s.graph s.known c) in
-    record {
-      graph = s.graph;
-      known = s.known;
-      partial = is_partial-push t l s.partial var (open_is_new t l f);
-      concerned = concerned-push g atoms t l s.concerned c;
-      edges = assigned_is_bound b (edge_vars g) t l var s.edges;
-      own = assigned_is_bound o (atom_vars atoms) t l var s.own;
-      numbered = s.numbered;
-      vars = s.vars;
-      room = omega (arith, s.room, wider);
-      few = s.few;
-    }
+pub IsFrame-push : {g : Digraph} {atoms : List Atom} {t : List ℤ} {b o : SeenBound} {ns vs : List ℕ} {cells : ℕ} (b' o' : SeenBound) (l : ℤ) (more : ℕ) → IsFrame g atoms t b o ns vs cells → IsTrue (concerns_of g atoms (var_of l)) → IsTrue (is_open_in t l)
+    → IsSeenBound b' (edge_vars g) (t ++ l ∷ []) → IsSeenBound o' (atom_vars atoms) (t ++ l ∷ []) → b.cells ≤ b'.cells → o.cells ≤ o'.cells → cells ≤ more → IsFrame g atoms (t ++ l ∷ []) b' o' ns vs more
+IsFrame-push {g = g} {atoms = atoms} {t = t} b' o' l more s c f edges own edge_cells own_cells wider = record {
+  graph = s.graph;
+  known = s.known;
+  partial = is_partial-push t l s.partial (concerned_lit l s c) (open_is_new t l f);
+  concerned = concerned-push g atoms t l s.concerned c;
+  edges = edges;
+  own = own;
+  numbered = s.numbered;
+  vars = s.vars;
+  room = omega (arith, s.room, wider);
+  edge_room = omega (arith, s.edge_room, edge_cells);
+  own_room = omega (arith, s.own_room, own_cells);
+  few = s.few;
+}
 
-pub IsFrame-take : {g : Digraph} {atoms : List Atom} {t : List ℤ} {b o : Bound} {ns vs : List ℕ} {cells : ℕ} (b' o' : Bound) (k : ℕ) → IsFrame g atoms t b o ns vs cells → IsBoundOf b' (edge_vars g) (take k t) → IsBoundOf o' (atom_vars atoms) (take k t)
-    → IsFrame g atoms (take k t) b' o' ns vs cells
-IsFrame-take {t = t} b' o' k s h i = record {
+pub IsFrame-take : {g : Digraph} {atoms : List Atom} {t : List ℤ} {b o : SeenBound} {ns vs : List ℕ} {cells : ℕ} (b' o' : SeenBound) (k : ℕ) → IsFrame g atoms t b o ns vs cells
+    → IsSeenBound b' (edge_vars g) (take k t) → IsSeenBound o' (atom_vars atoms) (take k t) → b'.cells ≡ b.cells → o'.cells ≡ o.cells → IsFrame g atoms (take k t) b' o' ns vs cells
+IsFrame-take {t = t} b' o' k s h i edge_cells own_cells = record {
   graph = s.graph;
   known = s.known;
   partial = is_partial-take k t s.partial;
@@ -154,6 +161,8 @@ IsFrame-take {t = t} b' o' k s h i = record {
   numbered = s.numbered;
   vars = s.vars;
   room = s.room;
+  edge_room = omega (arith, s.edge_room, edge_cells);
+  own_room = omega (arith, s.own_room, own_cells);
   few = s.few;
 }
 

@@ -108,6 +108,12 @@ not_unlike true false h = absurd cc
 not_unlike false true h = absurd cc
 not_unlike false false h = refl
 
+pub not_alike : (a b : Bool) → not (beq a b) ≡ true → a ≡ not b
+not_alike true true h = absurd cc
+not_alike true false h = refl
+not_alike false true h = refl
+not_alike false false h = absurd cc
+
 pub like : (a b : Bool) → beq a b ≡ true → a ≡ b
 like true true h = refl
 like true false h = absurd cc

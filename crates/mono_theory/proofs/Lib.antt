@@ -2,6 +2,7 @@ pub mod EntryBuckets
 pub mod Switches
 pub mod IndexMade
 pub mod BoundsStay
+pub mod SpansStay
 pub mod SortedOnce
 pub mod FramesStay
 pub mod EvidenceDecides
@@ -18,10 +19,12 @@ pub mod FewerStand
 pub mod PartsOfSides
 pub mod KeptEvidenceDecides
 pub mod SidesStay
+pub mod LastSeen
 pub mod OneMoreSeen
 pub mod NoneWaiting
 pub mod BothSidesStay
 pub mod WorkedRows
+pub mod PartsFollow
 pub mod SureEdges
 pub mod DueStay
 mod RowsStay

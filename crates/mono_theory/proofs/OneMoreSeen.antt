@@ -15,8 +15,9 @@ use Rattle.mono_theory.specs.Index.{ArePlacesOf}
 use Rattle.mono_theory.specs.Sound.{IsRightIn, atom_at, evidence_at}
 use Rattle.mono_theory.specs.Stages.{stage_at}
 use Rattle.mono_theory.specs.Supports.{IsKeptBy, IsSettled, IsShown, IsSide, SideView, StageIs, part_of}
-use Rattle.mono_theory.specs.Theories.{Facts, seeing}
+use Rattle.mono_theory.specs.Theories.{Facts, but_last, last_seen, seeing}
 use Rattle.mono_theory.specs.Watching.{AreInvalidated, IsEdgeAt, NoneStandsOn, RestsAt, WatchesIts, watch_by, watching}
+use Rattle.mono_theory.proofs.LastSeen.{seeing_last}
 use Rattle.mono_theory.proofs.PartsOfSides.{other_sign, unswitched_at}
 use Rattle.mono_theory.proofs.KeptEvidenceDecides.{right_by}
 use Rattle.mono_theory.proofs.MoreWatch.{place_of_edge}
@@ -49,6 +50,10 @@ side_seen {f = f} {b = b} {s = s} l stages len right h = record {
     under_stages a stage.Waits is = tt
     under_stages a stage.Supported is = is
     under_stages a (stage.Forcing m) is = is
+
+-- the last literal is one more behind the others
+pub side_last : {b : Bool} {s : SideView} (f : Facts) → 0 < length f.seen → IsSide (seeing (but_last f) (last_seen f)) b s → IsSide f b s
+side_last {b = b} {s = s} f some h = subst (λ (e : Facts). IsSide e b s) (seeing_last f some) h
 
 -- ---- a literal that changes no edge of the side
 

@@ -1,27 +1,25 @@
 -- Rows and what is known of the atoms stay right while literals come, are looked at and go.
-use Rattle.std.proofs.Common.{◌≡◌, ◌≢◌, ℕ, ◌+◌, ◌<◌, ◌≤◌, ◌||◌, Bool, true, false, not, List, [], ◌∷◌, ◌++◌, length, take, get_or, set, sym, ap, subst, ◌∙◌, inl, inr, arith, ℤ, nat_abs, take-take}
+use Rattle.std.proofs.Common.{◌≡◌, ◌≢◌, ℕ, ◌+◌, ◌-◌, ◌<◌, ◌≤◌, ◌||◌, Bool, true, false, not, List, [], ◌∷◌, ◌++◌, length, take, get_or, set, sym, ap, subst, ◌∙◌, inl, inr, arith, ℤ, nat_abs, take-take}
 use Rattle.std.specs.Prelude.{IsTrue}
 use Rattle.std.proofs.lemmas.Bool.{both_ways, cases_eq, or_left, or_right, false_from_ne_true}
 use Rattle.std.proofs.lemmas.List.{get_or-map, get_or-set_other, length-map, length-set, length-take-le, take_more}
 use Rattle.mono_base.specs.Literal.{has_lit}
-use Rattle.mono_base.specs.Partial.{is_partial}
 use Rattle.mono_base.specs.Worklist.{is_listed}
 use Rattle.mono_graph.specs.Digraph.{has}
 use Rattle.mono_problem.specs.declared.atom.Atom.{Atom}
 use Rattle.mono_problem.specs.declared.atom.Predicate.{Predicate}
 use Rattle.mono_problem.specs.Read.{no_atom}
 use Rattle.mono_steps.specs.Switching.{literal_of}
-use Rattle.mono_theory.specs.Bound.{Bound, edge_vars, assigned, unassigned, IsBoundOf}
 use Rattle.mono_theory.specs.DueAtoms.{PutsDue}
 use Rattle.mono_theory.specs.Evidences.{shown_by}
 use Rattle.mono_theory.specs.Frames.{atom_vars}
 use Rattle.mono_theory.specs.Index.{ArePlacesOf}
 use Rattle.mono_theory.specs.RowSides.{AreRowsFor, AreSettledBut, RowsView}
-use Rattle.mono_theory.specs.Supports.{IsSettled, atom_at}
-use Rattle.mono_theory.specs.Theories.{Facts, cut_to}
+use Rattle.mono_theory.specs.Supports.{IsSettled, atom_at, part_of}
+use Rattle.mono_theory.specs.Theories.{Facts, but_last, cut_to}
 use Rattle.mono_theory.proofs.BoundsStay.{has_lit-push_other}
 use Rattle.mono_theory.proofs.EvidenceDecides.{literal_var}
-use Rattle.mono_theory.proofs.FramesStay.{one_on, one_back}
+use Rattle.mono_theory.proofs.LastSeen.{len_but_last, take_but_last}
 use Rattle.mono_theory.proofs.PartsOfSides.{has_lit-take}
 
 -- ---- the atoms that are due
@@ -87,11 +85,17 @@ rows_like : {R : Type 0} {covers : Predicate → Bool} {possible : Bool} {are_ri
     → AreRowsFor covers possible are_right shown (record { graph = f.graph; atoms = f.atoms; seen = t }) s
 rows_like {possible = possible} {are_right = are_right} {shown = shown} {f = f} {s = s} t same fits h = record {
   covered = h.covered;
-  bounds = subst (λ (u : List ℤ). IsBoundOf s.bounds (edge_vars f.graph) u) (sym same) h.bounds;
+  part = h.part ∙ ap (λ (u : List ℤ). part_of f.graph u possible) (sym same);
   looked = fits;
   rows = subst (λ (u : List ℤ). are_right s.rows (record { graph = f.graph; atoms = f.atoms; seen = u })) (sym same) h.rows;
   due = subst (λ (u : List ℤ). AreSettledBut u possible f.atoms (shown s.rows) s.due) (sym same) h.due;
 }
+
+-- one more literal was seen
+pub rows_seen : {R : Type 0} {covers : Predicate → Bool} {possible : Bool} {are_right : R → Facts → Type 0} {shown : R → ℕ → Bool} {f : Facts} {s : RowsView R} → AreRowsFor covers possible are_right shown (but_last f) s → AreRowsFor covers possible are_right shown f s
+rows_seen {f = f} {s = s} h =
+    let low : s.looked ≤ length f.seen - 1 = (let looked = h.looked in omega (arith, looked, len_but_last f)) in
+    rows_like {f = but_last f} f.seen (sym (take_but_last f s.looked low)) (omega (arith, low)) h
 
 -- literals go that weren't looked at
 pub rows_cut_later : {R : Type 0} {covers : Predicate → Bool} {possible : Bool} {are_right : R → Facts → Type 0} {shown : R → ℕ → Bool} {f : Facts} {s : RowsView R} (kept : ℕ) → s.looked ≤ kept → kept ≤ length f.seen → AreRowsFor covers possible are_right shown f s
@@ -99,42 +103,55 @@ pub rows_cut_later : {R : Type 0} {covers : Predicate → Bool} {possible : Bool
 rows_cut_later {f = f} {s = s} kept le fits h = rows_like (take kept f.seen) (take-take s.looked kept f.seen le) (omega (arith, le, length-take-le kept f.seen fits)) h
 
 -- literals go that were looked at
-pub rows_back : {R : Type 0} {covers : Predicate → Bool} {possible : Bool} {are_right : R → Facts → Type 0} {shown : R → ℕ → Bool} {f : Facts} {s : RowsView R} (kept : ℕ) (b : Bound) (rows : R) (due : List Bool) → kept ≤ s.looked → IsBoundOf b (edge_vars f.graph) (take kept f.seen)
+pub rows_back : {R : Type 0} {covers : Predicate → Bool} {possible : Bool} {are_right : R → Facts → Type 0} {shown : R → ℕ → Bool} {f : Facts} {s : RowsView R} (kept : ℕ) (part : List Bool) (rows : R) (due : List Bool) → kept ≤ s.looked → part ≡ part_of f.graph (take kept f.seen) possible
     → are_right rows (cut_to kept f) → ((a : ℕ) → a < length f.atoms → shown rows a ≡ true → shown s.rows a ≡ true) → AreSettledBut (take kept f.seen) possible f.atoms (shown s.rows) due
-    → AreRowsFor covers possible are_right shown f s → AreRowsFor covers possible are_right shown (cut_to kept f) (record { bounds = b; looked = kept; rows = rows; due = due })
-rows_back {R = R} {covers = covers} {possible = possible} {are_right = are_right} {shown = shown} {f = f} {s = s} kept b rows due le bound back less settled h =
+    → AreRowsFor covers possible are_right shown f s → AreRowsFor covers possible are_right shown (cut_to kept f) (record { part = part; looked = kept; rows = rows; due = due })
+rows_back {R = R} {covers = covers} {possible = possible} {are_right = are_right} {shown = shown} {f = f} {s = s} kept part rows due le is back less settled h =
     let fits = h.looked in
-    let r : RowsView R = record { bounds = b; looked = kept; rows = rows; due = due } in
+    let r : RowsView R = record { part = part; looked = kept; rows = rows; due = due } in
     let first : AreRowsFor covers possible are_right shown f r = record {
       covered = h.covered;
-      bounds = bound;
+      part = is;
       looked = omega (arith, le, fits);
       rows = back;
       due = settled_less less settled;
     } in
     rows_cut_later kept (omega arith) (omega (arith, le, fits)) first
 
+-- ---- other rows
+
+-- they show the same
+pub rows_alike : {R : Type 0} {covers : Predicate → Bool} {possible : Bool} {are_right : R → Facts → Type 0} {shown : R → ℕ → Bool} {f : Facts} {s : RowsView R} (rows : R) → are_right rows (cut_to s.looked f) → ((a : ℕ) → shown rows a ≡ shown s.rows a) → AreRowsFor covers possible are_right shown f s
+    → AreRowsFor covers possible are_right shown f (record { part = s.part; looked = s.looked; rows = rows; due = s.due })
+rows_alike rows now same h = record {
+  covered = h.covered;
+  part = h.part;
+  looked = h.looked;
+  rows = now;
+  due = settled_less (λ a lt on. sym (same a) ∙ on) h.due;
+}
+
 -- ---- the next literal
 
 -- it was looked at
-pub rows_looked : {R : Type 0} {covers : Predicate → Bool} {possible : Bool} {are_right : R → Facts → Type 0} {shown : R → ℕ → Bool} {f : Facts} {s : RowsView R} (l : ℤ) (rows : R) (due : List Bool) → s.looked < length f.seen → get_or f.seen s.looked l ≡ l → IsTrue (is_partial f.seen)
-    → are_right rows (cut_to (s.looked + 1) f) → PutsDue (length f.atoms) (shown s.rows) (shown rows) s.due due → AreRowsFor covers possible are_right shown f s
-    → AreRowsFor covers possible are_right shown f (record { bounds = assigned s.bounds l; looked = s.looked + 1; rows = rows; due = due })
-rows_looked {possible = possible} {f = f} {s = s} l rows due lt at partial now puts h = record {
+pub rows_looked : {R : Type 0} {covers : Predicate → Bool} {possible : Bool} {are_right : R → Facts → Type 0} {shown : R → ℕ → Bool} {f : Facts} {s : RowsView R} (part : List Bool) (rows : R) (due : List Bool) → s.looked < length f.seen
+    → part ≡ part_of f.graph (take (s.looked + 1) f.seen) possible → are_right rows (cut_to (s.looked + 1) f) → PutsDue (length f.atoms) (shown s.rows) (shown rows) s.due due → AreRowsFor covers possible are_right shown f s
+    → AreRowsFor covers possible are_right shown f (record { part = part; looked = s.looked + 1; rows = rows; due = due })
+rows_looked {possible = possible} {f = f} {s = s} part rows due lt is now puts h = record {
   covered = h.covered;
-  bounds = one_on s.bounds (edge_vars f.graph) f.seen s.looked l lt at partial h.bounds;
+  part = is;
   looked = omega (arith, lt);
   rows = now;
   due = settled_on (λ x. still_settled f.seen s.looked (s.looked + 1) possible x (omega arith)) puts h.due;
 }
 
 -- it couldn't be looked at
-pub rows_unlooked : {R : Type 0} {covers : Predicate → Bool} {possible : Bool} {are_right : R → Facts → Type 0} {shown : R → ℕ → Bool} {f : Facts} {s : RowsView R} (l : ℤ) (rows : R) (due : List Bool) → s.looked < length f.seen → get_or f.seen s.looked l ≡ l → IsTrue (is_partial f.seen)
-    → are_right rows (cut_to s.looked f) → PutsDue (length f.atoms) (shown s.rows) (shown rows) s.due due → AreRowsFor covers possible are_right shown f s
-    → AreRowsFor covers possible are_right shown f (record { bounds = unassigned (assigned s.bounds l) l; looked = s.looked; rows = rows; due = due })
-rows_unlooked {f = f} {s = s} l rows due lt at partial now puts h = record {
+pub rows_unlooked : {R : Type 0} {covers : Predicate → Bool} {possible : Bool} {are_right : R → Facts → Type 0} {shown : R → ℕ → Bool} {f : Facts} {s : RowsView R} (part : List Bool) (rows : R) (due : List Bool)
+    → part ≡ part_of f.graph (take s.looked f.seen) possible → are_right rows (cut_to s.looked f) → PutsDue (length f.atoms) (shown s.rows) (shown rows) s.due due → AreRowsFor covers possible are_right shown f s
+    → AreRowsFor covers possible are_right shown f (record { part = part; looked = s.looked; rows = rows; due = due })
+rows_unlooked part rows due is now puts h = record {
   covered = h.covered;
-  bounds = one_back (assigned s.bounds l) (edge_vars f.graph) f.seen s.looked l lt at partial (one_on s.bounds (edge_vars f.graph) f.seen s.looked l lt at partial h.bounds);
+  part = is;
   looked = h.looked;
   rows = now;
   due = settled_on (λ x its. its) puts h.due;

@@ -1,23 +1,23 @@
 -- The surely present edges of the first literals seen: how they grow, and what stays.
-use Rattle.std.proofs.Common.{◌≡◌, ℕ, zero, suc, ◌+◌, ◌<◌, ◌≤◌, ◌⊎◌, ◌||◌, Bool, true, false, not, cond, List, [], ◌∷◌, ◌++◌, length, map, take, get_or, eqb, refl, sym, ap, subst, ◌∙◌, inl, inr, arith, ℤ, pos, nat_abs, int_lt, take-take, All}
+use Rattle.std.proofs.Common.{◌≡◌, ℕ, zero, suc, ◌+◌, ◌<◌, ◌≤◌, ◌⊎◌, ◌||◌, Bool, true, false, cond, List, [], ◌∷◌, length, take, get_or, eqb, refl, sym, ap, subst, ◌∙◌, inl, inr, arith, ℤ, pos, nat_abs, int_lt, take-take, All}
 use Rattle.std.specs.Prelude.{IsTrue}
 use Rattle.std.specs.List.{list_all}
 use Rattle.std.proofs.lemmas.Bool.{cases_lt, cases_Bool, both_ways, and_parts, eq-eqb, eqb-true, ltb-true, false_from_ne_true}
 use Rattle.std.proofs.Math.ListN.{get_or-eq_default}
-use Rattle.std.proofs.lemmas.List.{length-map, length-take-le, take_all, take_more, take-append-le}
+use Rattle.std.proofs.lemmas.List.{length-take-le, take_all, take-append-le}
 use Rattle.mono_base.specs.Literal.{has_lit, is_lit}
-use Rattle.mono_base.specs.Partial.{is_true_in, is_false_in, is_partial}
+use Rattle.mono_base.specs.Partial.{is_true_in}
 use Rattle.mono_graph.specs.Digraph.{Digraph, IsSubpart, is_place, present, has}
 use Rattle.mono_graph.specs.Walks.{is_walk}
 use Rattle.mono_graph.proofs.Parts.{part_by-larger, in_part_by}
 use Rattle.mono_dynamic.specs.Arrivals.{IsGrown, GrowsAfter}
 use Rattle.mono_graph.proofs.GrownWalks.{walks}
 use Rattle.mono_problem.specs.Quiet.{under}
-use Rattle.mono_theory.specs.Bound.{Bound, edge_vars, assigned, IsBoundOf}
+use Rattle.mono_theory.specs.Bound.{edge_vars}
 use Rattle.mono_theory.specs.Index.{ArePlacesOf, switched}
 use Rattle.mono_theory.specs.Theories.{Facts, seeing, cut_to}
-use Rattle.mono_theory.proofs.FramesStay.{one_on, under_is}
-use Rattle.mono_theory.proofs.PartsOfSides.{has_lit-take, other_sign}
+use Rattle.mono_theory.proofs.PartsFollow.{IsNextOf, part_still, switched_on, vars_len}
+use Rattle.mono_theory.proofs.PartsOfSides.{has_lit-take}
 use Rattle.mono_theory.proofs.Switches.{switched-at, length-switched}
 use Rattle.mono_theory.specs.SureParts.{sure_parts}
 
@@ -62,37 +62,23 @@ switched_grows vs v P ks len h = record { each = λ k. at k (cases_lt k (length 
         get_or-eq_default (switched vs v true P) false (omega (arith, ge, length-switched vs v true P len))
         ∙ sym (ap (λ p. p || has ks k) (get_or-eq_default P false (omega (arith, ge, len))) ∙ none)
 
-bound_len : {b : Bound} {vs : List ℕ} {t : List ℤ} → IsBoundOf b vs t → length b.under ≡ length b.vars
-bound_len {b = b} {vs = vs} {t = t} h = ap length h.surely ∙ length-map vs (λ v. is_true_in t (pos v)) ∙ sym (ap length h.vars)
+-- a positive literal brings the edges of its variable
+pub sure_gains : (f : Facts) (n : ℕ) (l : ℤ) (ks : List ℕ) → IsNextOf f n l ks → int_lt (pos 0) l ≡ true → IsGrown (sure_parts f n) (sure_parts f (n + 1)) ks
+sure_gains f n l ks h up =
+    subst (λ (Q : List Bool). IsGrown (sure_parts f n) Q ks) (switched_on f n l false ks h up)
+    (switched_grows (edge_vars f.graph) (nat_abs l) (sure_parts f n) ks (vars_len f.graph (take n f.seen) false) h.places)
 
--- a positive literal brings the edges of its variable: `b` are the bounds before it
-pub sure_grown : (f : Facts) (n : ℕ) (l : ℤ) (b : Bound) (ks : List ℕ) → n < length f.seen → get_or f.seen n l ≡ l → IsTrue (is_partial f.seen) → IsBoundOf b (edge_vars f.graph) (take n f.seen)
-    → int_lt (pos 0) l ≡ true → ArePlacesOf b.vars (nat_abs l) ks → GrowsAfter (sure_parts f) n (n + 1) (assigned b l).under ks
-sure_grown f n l b ks lt at partial h up places = record {
+pub sure_grown : (f : Facts) (n : ℕ) (l : ℤ) (ks : List ℕ) (Q : List Bool) → IsNextOf f n l ks → int_lt (pos 0) l ≡ true → Q ≡ sure_parts f (n + 1) → GrowsAfter (sure_parts f) n (n + 1) Q ks
+sure_grown f n l ks Q h up is = record {
   later = omega arith;
   still = λ m low high. ap (sure_parts f) (omega (arith, low, high));
-  is = sym (under_is (assigned b l) f.graph (take (n + 1) f.seen) (one_on b (edge_vars f.graph) f.seen n l lt at partial h));
-  grown =
-      subst (λ (P : List Bool). IsGrown P (assigned b l).under ks) (under_is b f.graph (take n f.seen) h)
-      (subst (λ (Q : List Bool). IsGrown b.under Q ks) (sym (ap (λ c. cond c (switched b.vars (nat_abs l) true b.under) b.under) up)) (switched_grows b.vars (nat_abs l) b.under ks (bound_len h) places));
+  is = sym is;
+  grown = subst (λ (R : List Bool). IsGrown (sure_parts f n) R ks) (sym is) (sure_gains f n l ks h up);
 }
-
--- a positive literal brings the edges of its variable: `b` are the bounds that it leaves
-pub bounds_grown : (f : Facts) (n : ℕ) (l : ℤ) (b : Bound) (ks : List ℕ) → n < length f.seen → get_or f.seen n l ≡ l → IsTrue (is_partial f.seen) → IsBoundOf b (edge_vars f.graph) (take (n + 1) f.seen)
-    → int_lt (pos 0) l ≡ true → ArePlacesOf b.vars (nat_abs l) ks → GrowsAfter (sure_parts f) n (n + 1) b.under ks
-bounds_grown f n l b ks lt at partial h up places =
-    let t = take n f.seen in
-    let vs = edge_vars f.graph in
-    let before : Bound = record { vars = vs; under = map (λ v. is_true_in t (pos v)) vs; over = map (λ v. not (is_false_in t (pos v))) vs } in
-    let held : IsBoundOf before vs t = record { vars = refl; surely = refl; possibly = refl } in
-    let after : IsBoundOf (assigned before l) vs (take (n + 1) f.seen) = one_on before vs f.seen n l lt at partial held in
-    subst (λ (Q : List Bool). GrowsAfter (sure_parts f) n (n + 1) Q ks) (after.surely ∙ sym h.surely)
-    (sure_grown f n l before ks lt at partial held up (subst (λ (ws : List ℕ). ArePlacesOf ws (nat_abs l) ks) h.vars places))
 
 -- a negative literal brings no edge
 pub sure_still : (f : Facts) (n : ℕ) (l : ℤ) → n < length f.seen → get_or f.seen n l ≡ l → IsTrue (is_lit l) → int_lt (pos 0) l ≡ false → sure_parts f (n + 1) ≡ sure_parts f n
-sure_still f n l lt at lit down =
-    ap (under f.graph) (take_more f.seen n l lt ∙ ap (λ (m : ℤ). take n f.seen ++ m ∷ []) at) ∙ other_sign f.graph (take n f.seen) l false lit down
+sure_still f n l lt at lit down = part_still f n l false lt at lit down
 
 -- the edges that a literal leaves as they are are those from the literals before it on, up to it
 pub still_until : (f : Facts) (n : ℕ) → sure_parts f (n + 1) ≡ sure_parts f n → (m : ℕ) → n ≤ m → m ≤ n + 1 → sure_parts f m ≡ sure_parts f n

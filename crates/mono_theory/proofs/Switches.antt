@@ -1,5 +1,5 @@
 -- The places that the index lists for a key, and switching them all.
-use Rattle.std.proofs.Common.{◌≡◌, ◌≢◌, ℕ, zero, suc, ◌+◌, ◌-◌, ◌<◌, ◌≤◌, Bool, true, false, cond, List, [], ◌∷◌, length, take, drop, get_or, eqb, ◌⊎◌, refl, sym, ap, subst, ◌∙◌, inl, inr, arith}
+use Rattle.std.proofs.Common.{◌≡◌, ◌≢◌, ℕ, zero, suc, ◌+◌, ◌-◌, ◌<◌, ◌≤◌, Bool, true, false, cond, List, [], ◌∷◌, length, take, drop, get_or, eqb, ◌⊎◌, refl, sym, ap, subst, ◌∙◌, inl, inr, arith, map, All}
 use Rattle.std.specs.Prelude.{IsTrue}
 use Rattle.std.proofs.lemmas.Bool.{cases_lt}
 use Rattle.std.proofs.lemmas.List.{ext_get_or, get_or_default, get_or-take, get_or-drop, get_or-map, length-take-le, length-drop, length-map}
@@ -77,9 +77,30 @@ switched_by keys ks v on P Q places lenP lenQ done others =
     at k lt (inr ne) =
         others k (λ i fits is. ne.1 (places.each k (subst (λ (j : ℕ). IsTrue (has ks j)) is (has_get_or ks i 0 fits))).is) ∙ sym (ap (λ b. cond b on (get_or P k false)) ne.0)
 
+-- ---- the places that stand in a range
+
+within_len : (es : List Entry) (ks : List ℕ) (start end : ℕ) → ks ≡ map (λ (e : Entry). e.place) es → end ≤ length es → length (take (end - start) (drop start ks)) ≡ end - start
+within_len es ks start end is fits =
+    length-take-le (end - start) (drop start ks) (omega (arith, length-drop start ks, ap length is, length-map es (λ (e : Entry). e.place), fits))
+
+within_at : (es : List Entry) (ks : List ℕ) (start end i d : ℕ) → ks ≡ map (λ (e : Entry). e.place) es → end ≤ length es → i < end - start
+    → get_or (take (end - start) (drop start ks)) i d ≡ (entry_at es (start + i)).place
+within_at es ks start end i d is fits lt =
+    get_or-take (end - start) (drop start ks) i d lt ∙ get_or-drop start ks i d ∙ ap (λ xs. get_or xs (start + i) d) is
+    ∙ get_or-map (λ (e : Entry). e.place) es (start + i) no_entry d (omega (arith, fits, lt))
+
+-- they are places of the list of keys, whatever their keys
+pub span_held : (keys : List ℕ) (es : List Entry) (ks : List ℕ) (start end : ℕ) → IsIndexed keys es ks → end ≤ length es → All (λ k. k < length keys) (take (end - start) (drop start ks))
+span_held keys es ks start end ix fits = λ i d lt.
+    let inside : i < end - start = omega (arith, lt, within_len es ks start end ix.places fits) in
+    subst (λ (j : ℕ). j < length keys) (sym (within_at es ks start end i d ix.places fits inside)) (ix.index.known (start + i) no_entry (omega (arith, fits, inside))).0
+
+pub entries_len : {keys : List ℕ} {es : List Entry} {ks : List ℕ} → IsIndexed keys es ks → length ks ≡ length es
+entries_len {es = es} ix = ap length ix.places ∙ length-map es (λ (e : Entry). e.place)
+
 pub places_are : (keys : List ℕ) (es : List Entry) (ks : List ℕ) (v start end : ℕ) → IsIndexed keys es ks → IsRange es v start end → ArePlacesOf keys v (take (end - start) (drop start ks))
 places_are keys es ks v start end ix r = record {
-  held = λ i d lt. subst (λ (j : ℕ). j < length keys) (sym (at i d (inside i lt))) (is_place i (inside i lt)).held;
+  held = span_held keys es ks start end ix r.end_fits;
   each = λ k h.
       let w = index_of (take (end - start) (drop start ks)) k h in
       subst (IsPlaceOf keys v) (sym (at w.0 0 (inside w.0 w.1)) ∙ w.2) (is_place w.0 (inside w.0 w.1));
@@ -91,28 +112,20 @@ places_are keys es ks v start end ix r = record {
       let few : i < end - start = omega (arith, low, high) in
       let there : start + i ≡ w.entry = omega (arith, low) in
       subst (λ (j : ℕ). IsTrue (has (take (end - start) (drop start ks)) j)) (at i 0 few ∙ ap (λ j. (entry_at es j).place) there ∙ w.is)
-      (has_get_or (take (end - start) (drop start ks)) i 0 (omega (arith, few, len)));
+      (has_get_or (take (end - start) (drop start ks)) i 0 (omega (arith, few, within_len es ks start end ix.places r.end_fits)));
 }
   where
-    as_many : length ks ≡ length es
-    as_many = ap length ix.places ∙ length-map es (λ (e : Entry). e.place)
-
-    len : length (take (end - start) (drop start ks)) ≡ end - start
-    len = let fits = r.end_fits in length-take-le (end - start) (drop start ks) (omega (arith, length-drop start ks, as_many, fits))
-
     inside : (i : ℕ) → i < length (take (end - start) (drop start ks)) → i < end - start
-    inside i lt = omega (arith, lt, len)
-
-    fits : (i : ℕ) → i < end - start → start + i < length es
-    fits i lt = let f = r.end_fits in omega (arith, lt, f)
+    inside i lt = omega (arith, lt, within_len es ks start end ix.places r.end_fits)
 
     at : (i d : ℕ) → i < end - start → get_or (take (end - start) (drop start ks)) i d ≡ (entry_at es (start + i)).place
-    at i d lt = get_or-take (end - start) (drop start ks) i d lt ∙ get_or-drop start ks i d ∙ ap (λ xs. get_or xs (start + i) d) ix.places ∙ get_or-map (λ (e : Entry). e.place) es (start + i) no_entry d (fits i lt)
+    at i d lt = within_at es ks start end i d ix.places r.end_fits lt
 
     is_place : (i : ℕ) → i < end - start → IsPlaceOf keys v (entry_at es (start + i)).place
     is_place i lt =
-        let known = ix.index.known (start + i) no_entry (fits i lt) in
-        let a = r.from (start + i) no_entry (omega arith) (fits i lt) in
+        let fits = r.end_fits in
+        let known = ix.index.known (start + i) no_entry (omega (arith, fits, lt)) in
+        let a = r.from (start + i) no_entry (omega arith) (omega (arith, fits, lt)) in
         let b = r.up_to (start + i) no_entry (omega arith) (omega (arith, lt)) in
         let key : (entry_at es (start + i)).key ≡ v = omega (arith, a, b) in
         record { held = known.0; is = sym known.1 ∙ key }

@@ -15,9 +15,9 @@ use Rattle.mono_steps.specs.WorkedLemmas.{minus, of_1}
 use Rattle.mono_theory.specs.declared.stage.Stage.{Stage}
 use Rattle.mono_theory.specs.declared.stage.Stage.TheVariants as stage
 use Rattle.mono_theory.specs.Stages.{NoneWaits}
-use Rattle.mono_theory.specs.Theories.{IsForced, IsLemmaFor, IsLemmaOf, concerns_of}
+use Rattle.mono_theory.specs.Theories.{IsForced, IsLemmaFor, IsLemmaOf, IsUnitLemma, concerns_of}
 use Rattle.mono_theory.specs.Worked.{reaches, walk_along}
-use Rattle.mono_theory.proofs.ForcedAndExplained.{finding_by}
+use Rattle.mono_theory.proofs.ForcedAndExplained.{finding_by, forced_is_loud}
 
 their_vars : (i : ℕ) (d : ℤ) → i < 2 → IsTrue (concerns_of (parallel 1 1) reaches (var_of (get_or (walk_along 1).clause i d)))
 their_vars zero d lt = refl
@@ -44,13 +44,22 @@ quiet zero d lt = (λ holds. absurd (not_reached holds), λ e. absurd cc)
 quiet (suc i) d lt = absurd (omega (arith, lt))
 
 pub none_while_quiet : IsLemmaFor (parallel 1 1) reaches (minus 3 ∷ []) (walk_along 1) → ⊥
-none_while_quiet h = h.not_quiet quiet
+none_while_quiet h = forced_is_loud (parallel 1 1) reaches (minus 3 ∷ []) 1 h.lit h.forced quiet
 
 pub none_of_another_variable : IsLemmaFor (parallel 1 1) reaches (pos 1 ∷ minus 9 ∷ []) (of_1 (minus 1 ∷ pos 3 ∷ pos 9 ∷ []) (by.Path (1 ∷ []))) → ⊥
 none_of_another_variable h = let e = h.concerned 2 (pos 0) (omega arith) in absurd cc
 
 pub none_beside : IsLemmaOf (parallel 1 1) reaches (pos 1 ∷ minus 9 ∷ []) 1 (pos 3) (of_1 (minus 1 ∷ pos 3 ∷ pos 9 ∷ []) (by.Path (1 ∷ []))) → ⊥
 none_beside h = let e = h.concerned 2 (pos 0) (omega arith) in absurd cc
+
+pub unit_by_edge : IsUnitLemma (parallel 1 1) reaches (minus 3 ∷ []) (minus 1) (walk_along 1)
+unit_by_edge = record { shown = refl; concerned = their_vars; has = refl; is_open = refl; others = refl }
+
+pub unit_by_atom : IsUnitLemma (parallel 1 1) reaches (pos 1 ∷ []) (pos 3) (walk_along 1)
+unit_by_atom = record { shown = refl; concerned = their_vars; has = refl; is_open = refl; others = refl }
+
+pub no_unit_beside : IsUnitLemma (parallel 1 1) reaches (minus 3 ∷ minus 9 ∷ []) (minus 1) (of_1 (minus 1 ∷ pos 3 ∷ pos 9 ∷ []) (by.Path (1 ∷ []))) → ⊥
+no_unit_beside h = let e = h.concerned 2 (pos 0) (omega arith) in absurd cc
 
 -- ---- sides of one atom, and two rows
 

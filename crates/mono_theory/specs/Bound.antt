@@ -4,9 +4,10 @@ use Rattle.mono_base.specs.Partial.{is_true_in, is_false_in}
 use Rattle.mono_graph.specs.Digraph.{Digraph}
 use Rattle.mono_theory.specs.Index.{switched}
 
--- by place: the variables, which are true, and which aren't false
+-- by place: the variables, which are true, and which aren't false. Also the places in the order of their variables
 pub record Bound : Type 0 where
   pub vars : List ℕ
+  pub places : List ℕ
   pub under : List Bool
   pub over : List Bool
 
@@ -19,6 +20,7 @@ pub record HasPlaces (vars : List ℕ) (P Q : List Bool) : Type 0 where
 abbrev pub assigned : Bound → ℤ → Bound
 assigned b l = record {
   vars = b.vars;
+  places = b.places;
   under = (if int_lt (pos 0) l then switched b.vars (nat_abs l) true b.under else b.under);
   over = (if int_lt (pos 0) l then b.over else switched b.vars (nat_abs l) false b.over);
 }
@@ -27,6 +29,7 @@ assigned b l = record {
 abbrev pub unassigned : Bound → ℤ → Bound
 unassigned b l = record {
   vars = b.vars;
+  places = b.places;
   under = (if int_lt (pos 0) l then switched b.vars (nat_abs l) false b.under else b.under);
   over = (if int_lt (pos 0) l then b.over else switched b.vars (nat_abs l) true b.over);
 }

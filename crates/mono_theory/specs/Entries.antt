@@ -37,6 +37,7 @@ pub record AreAround (es : List Entry) (key low high : ℕ) : Type 0 where
 
 -- the entries from start to end are those of the key
 pub record IsRange (es : List Entry) (key start end : ℕ) : Type 0 where
+  pub order : start ≤ end
   pub below : AllWithin (λ e. e.key < key) es 0 start
   pub from : AllWithin (λ e. key ≤ e.key) es start (length es)
   pub up_to : AllWithin (λ e. e.key ≤ key) es 0 end

@@ -10,7 +10,8 @@ use Rattle.mono_problem.specs.Read.{atom_numbered, no_atom}
 use Rattle.mono_problem.specs.WellFormed.{IsOver}
 use Rattle.mono_theory.specs.Theories.{concerns_of, atom_of}
 use Rattle.mono_theory.specs.Variables.{AreVarsOf}
-use Rattle.mono_theory.specs.Bound.{Bound, edge_vars, IsBoundOf}
+use Rattle.mono_theory.specs.Bound.{edge_vars}
+use Rattle.mono_theory.specs.SeenBounds.{SeenBound, IsSeenBound}
 
 -- a variable's number is within the limits
 abbrev pub IsVar : ℕ → Type 0
@@ -35,16 +36,18 @@ atom_vars atoms = map (λ x. x.var) atoms
 abbrev pub atom_numbers : List Atom → List ℕ
 atom_numbers atoms = map (λ x. x.number) atoms
 
--- the literals are over different variables that concern the theory, the bounds are theirs, and there is room for one of each.
--- The variables that concern the theory stand in a list
-pub record IsFrame (g : Digraph) (atoms : List Atom) (t : List ℤ) (its_edges its_atoms : Bound) (numbers vs : List ℕ) (cells : ℕ) : Type 0 where
+-- The literals are over different variables that concern the theory, the bounds are theirs, and there is room for one of each.
+-- The variables that concern the theory stand in a list.
+pub record IsFrame (g : Digraph) (atoms : List Atom) (t : List ℤ) (its_edges its_atoms : SeenBound) (numbers vs : List ℕ) (cells : ℕ) : Type 0 where
   pub graph : IsGraph g
   pub known : AreAtomsOf g atoms
   pub partial : IsTrue (is_partial t)
   pub concerned : (v : ℕ) → IsTrue (has_var t v) → IsTrue (concerns_of g atoms v)
-  pub edges : IsBoundOf its_edges (edge_vars g) t
-  pub own : IsBoundOf its_atoms (atom_vars atoms) t
+  pub edges : IsSeenBound its_edges (edge_vars g) t
+  pub own : IsSeenBound its_atoms (atom_vars atoms) t
   pub numbered : numbers ≡ atom_numbers atoms
   pub vars : AreVarsOf g atoms vs
   pub room : length g.edges + length atoms ≤ cells
+  pub edge_room : length g.edges + length atoms ≤ its_edges.cells
+  pub own_room : length g.edges + length atoms ≤ its_atoms.cells
   pub few : length atoms ≤ MAX_ATOMS

@@ -4,6 +4,7 @@ pub mod Entries
 pub mod Variables
 pub mod Index
 pub mod Bound
+pub mod SeenBounds
 pub mod Evidences
 pub mod Frames
 pub mod Walked
@@ -12,7 +13,9 @@ pub mod Owners
 pub mod Stages
 pub mod Sound
 pub mod Watching
+pub mod Questions
 pub mod Supports
+pub mod Threats
 pub mod Worked
 pub mod DueAtoms
 pub mod RowSides

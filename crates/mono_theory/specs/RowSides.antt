@@ -3,14 +3,13 @@ use Rattle.std.specs.Prelude.{◌≡◌, ℕ, ◌<◌, ◌≤◌, Bool, true, fa
 use Rattle.mono_base.specs.Worklist.{is_listed}
 use Rattle.mono_problem.specs.declared.atom.Atom.{Atom}
 use Rattle.mono_problem.specs.declared.atom.Predicate.{Predicate}
-use Rattle.mono_theory.specs.Bound.{Bound, edge_vars, IsBoundOf}
 use Rattle.mono_theory.specs.Evidences.{Decides, shown_by}
 use Rattle.mono_theory.specs.Supports.{AreCovered, IsSettled, atom_at, part_of}
 use Rattle.mono_theory.specs.Theories.{Facts, cut_to}
 
--- The rows are of the first `looked` literals seen, and so are the bounds. Some atoms are due.
+-- The rows are of the first `looked` literals seen, and so is the part of the side. Some atoms are due.
 pub record RowsView (R : Type 0) : Type 0 where
-  pub bounds : Bound
+  pub part : List Bool
   pub looked : ℕ
   pub rows : R
   pub due : List Bool
@@ -25,12 +24,12 @@ pub record AreSettledBut (t : List ℤ) (possible : Bool) (atoms : List Atom) (s
   pub size : length due ≡ length atoms
   pub each : (a : ℕ) → a < length atoms → is_listed due a ≡ false → shown a ≡ true → IsSettled t possible (atom_at atoms a)
 
--- The atoms are of the kind, and the rows are right for the literals that were looked at. So are the bounds, and each atom of
--- which the rows show something is due or settled by these literals.
+-- The atoms are of the kind, and the rows are right for the literals that were looked at. The part is that of the side under
+-- these, and each atom of which the rows show something is due or settled by them.
 pub record AreRowsFor {R : Type 0} (covers : Predicate → Bool) (possible : Bool) (are_right : R → Facts → Type 0)
     (shown : R → ℕ → Bool) (f : Facts) (s : RowsView R) : Type 0 where
   pub covered : AreCovered covers f.atoms
-  pub bounds : IsBoundOf s.bounds (edge_vars f.graph) (take s.looked f.seen)
+  pub part : s.part ≡ part_of f.graph (take s.looked f.seen) possible
   pub looked : s.looked ≤ length f.seen
   pub rows : are_right s.rows (cut_to s.looked f)
   pub due : AreSettledBut (take s.looked f.seen) possible f.atoms (shown s.rows) s.due

@@ -1,5 +1,5 @@
 -- Theories: a graph, atoms over it, and the literals seen (Bayless et al. 2015).
-use Rattle.std.specs.Prelude.{◌≡◌, ℕ, ◌==◌, Bool, false, ◌||◌, ℤ, List, [], ◌∷◌, ◌++◌, take, find, Option, IsTrue, MatchOption, All}
+use Rattle.std.specs.Prelude.{◌≡◌, ℕ, ◌-◌, ◌==◌, Bool, false, ◌||◌, ℤ, pos, List, [], ◌∷◌, ◌++◌, length, take, find, slice_index_or, Option, IsTrue, MatchOption, All}
 use Rattle.std.specs.List.{list_any}
 use Rattle.mono_base.specs.Literal.{var_of, has_lit}
 use Rattle.mono_base.specs.Partial.{is_true_in, is_open_in, others_false}
@@ -26,6 +26,13 @@ seeing f l = record { graph = f.graph; atoms = f.atoms; seen = f.seen ++ l ∷ [
 abbrev pub cut_to : ℕ → Facts → Facts
 cut_to n f = record { graph = f.graph; atoms = f.atoms; seen = take n f.seen }
 
+-- all literals but the last, and the last one
+abbrev pub but_last : Facts → Facts
+but_last f = cut_to (length f.seen - 1) f
+
+abbrev pub last_seen : Facts → ℤ
+last_seen f = slice_index_or f.seen (length f.seen - 1) (pos 0)
+
 -- the variable is one of the graph's edges or of the atoms
 abbrev pub concerns_of : Digraph → List Atom → ℕ → Bool
 concerns_of g atoms v = list_any (λ e. e.var == v) g.edges || list_any (λ x. x.var == v) atoms
@@ -49,6 +56,14 @@ pub record IsLemmaOf (g : Digraph) (atoms : List Atom) (t : List ℤ) (n : ℕ) 
   pub has : IsTrue (has_lit m.clause l)
   pub others : IsTrue (others_false t m.clause l)
 
+-- the lemma is of one of the atoms, and graph and atom show it; one of its literals is open, and all others are false
+pub record IsUnitLemma (g : Digraph) (atoms : List Atom) (t : List ℤ) (l : ℤ) (m : Lemma) : Type 0 where
+  pub shown : MatchOption (atom_of atoms m.atom) ⊥ (λ x. IsTrue (is_shown g x m))
+  pub concerned : All (λ k. IsTrue (concerns_of g atoms (var_of k))) m.clause
+  pub has : IsTrue (has_lit m.clause l)
+  pub is_open : IsTrue (is_open_in t l)
+  pub others : IsTrue (others_false t m.clause l)
+
 -- an atom forces the literal, which isn't true
 pub record IsForced (g : Digraph) (atoms : List Atom) (t : List ℤ) (n : ℕ) (l : ℤ) : Type 0 where
   pub forces : ForcesBy g atoms t n l
@@ -58,13 +73,16 @@ abbrev pub ForceIs : Digraph → List Atom → List ℤ → Force → Type 0
 ForceIs g atoms t force.Quiet = TheoryQuiet g atoms t
 ForceIs g atoms t (force.Literal n l) = IsForced g atoms t n l
 
--- the lemma is of one of the atoms, and graph and atom show it; no literal of it is true, and at most one is open. The atoms aren't quiet
+-- The lemma is of one of the atoms, and graph and atom show it; no literal of it is true, and at most one is open. The atom forces
+-- one of its literals.
 pub record IsLemmaFor (g : Digraph) (atoms : List Atom) (t : List ℤ) (m : Lemma) : Type 0 where
   pub shown : MatchOption (atom_of atoms m.atom) ⊥ (λ x. IsTrue (is_shown g x m))
   pub concerned : All (λ k. IsTrue (concerns_of g atoms (var_of k))) m.clause
   pub none_true : (l : ℤ) → IsTrue (has_lit m.clause l) → is_true_in t l ≡ false
   pub one_open : (k l : ℤ) → IsTrue (has_lit m.clause k) → IsTrue (has_lit m.clause l) → IsTrue (is_open_in t k) → IsTrue (is_open_in t l) → k ≡ l
-  pub not_quiet : ¬ TheoryQuiet g atoms t
+  pub lit : ℤ
+  pub has : IsTrue (has_lit m.clause lit)
+  pub forced : IsForced g atoms t m.atom lit
 
 abbrev pub FindingIs : Digraph → List Atom → List ℤ → Finding → Type 0
 FindingIs g atoms t finding.Quiet = TheoryQuiet g atoms t

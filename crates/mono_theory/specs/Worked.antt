@@ -9,6 +9,7 @@ use Rattle.mono_steps.specs.declared.lemma.Lemma.{Lemma}
 use Rattle.mono_steps.specs.declared.lemma.Witness.TheVariants as by
 use Rattle.mono_steps.specs.WorkedLemmas.{minus, of_1}
 use Rattle.mono_theory.specs.declared.stage.Stage.{Stage}
+use Rattle.mono_theory.specs.declared.threat.Threat.{Threat}
 use Rattle.mono_theory.specs.Bound.{Bound}
 use Rattle.mono_theory.specs.PossibleRows.{PossibleView}
 use Rattle.mono_theory.specs.Supports.{SideView}
@@ -26,13 +27,17 @@ twice = record { number = 1; graph = 0; var = 3; predicate = kind.Reach 0 1 } �
 abbrev pub walk_along : ℕ → Lemma
 walk_along k = of_1 (minus k ∷ pos 3 ∷ []) (by.Path (k ∷ []))
 
+-- the edge at a place would break the atom, by the walk along the edge of a number, which stands at another place
+abbrev pub along : ℕ → ℕ → ℕ → Threat
+along edge place number = record { atom = 0; edge = edge; evidence = record { witness = by.Path (number ∷ []); edges = place ∷ [] } }
+
 -- over two edges from node 0 to node 1 these literals were seen
 abbrev pub seen_so_far : List ℤ → Facts
 seen_so_far t = record { graph = parallel 1 1; atoms = reaches; seen = t }
 
 -- three places, the first and the last of which are of variable 1
 abbrev pub bound_by : List Bool → List Bool → Bound
-bound_by under over = record { vars = 1 ∷ 2 ∷ 1 ∷ []; under = under; over = over }
+bound_by under over = record { vars = 1 ∷ 2 ∷ 1 ∷ []; places = 0 ∷ 2 ∷ 1 ∷ []; under = under; over = over }
 
 -- the side of the possibly present edges, where atoms are at these stages
 abbrev pub side_with : List Stage → SideView

@@ -1,13 +1,16 @@
 //! The edges of a graph that are surely present, and those that are possibly present.
 //!
-//! A literal comes and goes in proportion to the edges that its variable switches, and takes no memory.
+//! A literal comes and goes in proportion to the edges that its variable switches, and takes no memory. Whoever keeps where
+//! these edges stand needs no look-up for either.
 
-ghost use Rattle.std.specs.Prelude.{◌≡◌, ◌^◌, ◌<◌, [], length, IfOk};
+ghost use Rattle.std.specs.Prelude.{◌≡◌, ◌^◌, ◌<◌, ◌≤◌, [], length, IfOk};
+ghost use Rattle.mono_base.specs.Literal.{var_of};
 ghost use Rattle.mono_graph.specs.Digraph.{has};
 ghost use Rattle.mono_theory.specs.Bound.{assigned, unassigned, edge_vars, IsBoundOf};
-ghost use Rattle.mono_theory.specs.Index.{ArePlacesOf};
+ghost use Rattle.mono_theory.specs.Index.{within, ArePlacesOf, IsSpanOf};
 
 use crate::index::Index;
+use crate::span::Span;
 use mono_base::Lit;
 use mono_graph::{Graph, Part};
 use std::alloc::{AllocError, Global};
@@ -27,9 +30,9 @@ impl Model for Bounds {
 
     ghost Value = { Bound };
 
-    ghost view = { λ b. record { vars = b.vars; under = b.under; over = b.over } };
+    ghost view = { λ b. record { vars = b.vars.keys; places = b.vars.places; under = b.under; over = b.over } };
 
-    ghost invariant = { λ b. HasPlaces b.vars b.under b.over };
+    ghost invariant = { λ b. HasPlaces b.vars.keys b.under b.over };
 }
 
 /// The variables of the edges.
@@ -101,25 +104,58 @@ impl Bounds {
         &self.over
     }
 
+    /// Where the edges of a variable stand.
+    pub(crate) fn find(&self, var: u32) -> Span
+        ensures { IsSpanOf self.now.vars self.now.places var result }
+    {
+        self.vars.find(var)
+    }
+
+    /// The places of the edges that stand there.
+    pub(crate) fn places_at(&self, span: Span) -> &[u32]
+        requires { span.end ≤ length self.now.places }
+        ensures { result.now ≡ within self.now.places span }
+    {
+        self.vars.places_at(span)
+    }
+
+    /// The literal becomes true, the edges of whose variable stand there.
+    pub(crate) fn assign_at(&mut self, lit: Lit, span: Span)
+        requires { IsSpanOf self.old.vars self.old.places (var_of lit) span }
+        ensures { self.new ≡ assigned self.old lit }
+    {
+        if lit.is_positive() {
+            self.vars.switch(&mut self.under, span, true);
+        } else {
+            self.vars.switch(&mut self.over, span, false);
+        }
+    }
+
+    /// The variable of a literal that is true, whose edges stand there, has no value again.
+    pub(crate) fn undo_at(&mut self, lit: Lit, span: Span)
+        requires { IsSpanOf self.old.vars self.old.places (var_of lit) span }
+        ensures { self.new ≡ unassigned self.old lit }
+    {
+        if lit.is_positive() {
+            self.vars.switch(&mut self.under, span, false);
+        } else {
+            self.vars.switch(&mut self.over, span, true);
+        }
+    }
+
     /// The literal becomes true. Its variable has no value so far, or is no edge's, and then nothing changes.
     pub fn assign(&mut self, lit: Lit)
         ensures { self.new ≡ assigned self.old lit }
     {
-        if lit.is_positive() {
-            self.vars.switch(&mut self.under, lit.var(), true);
-        } else {
-            self.vars.switch(&mut self.over, lit.var(), false);
-        }
+        let span = self.find(lit.var());
+        self.assign_at(lit, span);
     }
 
     /// The variable of a literal that is true has no value again. Where it is no edge's, nothing changes.
     pub fn undo(&mut self, lit: Lit)
         ensures { self.new ≡ unassigned self.old lit }
     {
-        if lit.is_positive() {
-            self.vars.switch(&mut self.under, lit.var(), false);
-        } else {
-            self.vars.switch(&mut self.over, lit.var(), true);
-        }
+        let span = self.find(lit.var());
+        self.undo_at(lit, span);
     }
 }

@@ -4,8 +4,9 @@
 //! first nodes, that would be more than there is. What searches found takes memory for the atoms alone.
 
 use crate::rows_side::side_of_rows;
-use crate::{Evidence, Force, Frame, KeptSide, Kind, NewSide, Rows, RowsSide, Side};
-use mono_base::Lit;
+use crate::{
+    Evidence, Force, Frame, KeptSide, Kind, NewSide, Question, Rows, RowsSide, Side, Threat,
+};
 use std::alloc::{AllocError, Global};
 
 /// What is kept of the atoms on one side. It is chosen once, when nothing was seen.
@@ -30,10 +31,10 @@ impl<K: Kind, R: Rows<K>> Side<K> for EitherSide<R> {
 
     ghost decides = { λ s f. IsEitherDecided R.stand f s };
 
-    fn assign(&mut self, frame: &Frame, lit: Lit) {
+    fn assign(&mut self, frame: &Frame) {
         match self {
-            EitherSide::Rows(side) => <RowsSide<R> as Side<K>>::assign(side, frame, lit),
-            EitherSide::Searches(side) => <KeptSide as Side<K>>::assign(side, frame, lit),
+            EitherSide::Rows(side) => <RowsSide<R> as Side<K>>::assign(side, frame),
+            EitherSide::Searches(side) => <KeptSide as Side<K>>::assign(side, frame),
         }
     }
 
@@ -51,27 +52,27 @@ impl<K: Kind, R: Rows<K>> Side<K> for EitherSide<R> {
         }
     }
 
-    fn evidence(
-        &self,
-        alloc: Global,
-        frame: &Frame,
-        place: u32,
-        kept: usize,
-    ) -> Result<Option<Evidence>, AllocError> {
+    fn threat(&mut self, alloc: Global, frame: &Frame) -> Result<Option<Threat>, AllocError> {
         match self {
-            EitherSide::Rows(side) => {
-                <RowsSide<R> as Side<K>>::evidence(side, alloc, frame, place, kept)
-            }
-            EitherSide::Searches(side) => {
-                <KeptSide as Side<K>>::evidence(side, alloc, frame, place, kept)
-            }
+            EitherSide::Rows(side) => <RowsSide<R> as Side<K>>::threat(side, alloc, frame),
+            EitherSide::Searches(side) => <KeptSide as Side<K>>::threat(side, alloc, frame),
         }
     }
 
-    fn shown(&self, frame: &Frame, place: u32) -> Option<&Evidence> {
+    fn explain(
+        &self,
+        alloc: Global,
+        kind: &mut K,
+        frame: &mut Frame,
+        question: Question,
+    ) -> Result<Evidence, AllocError> {
         match self {
-            EitherSide::Rows(_) => None,
-            EitherSide::Searches(side) => <KeptSide as Side<K>>::shown(side, frame, place),
+            EitherSide::Rows(side) => {
+                <RowsSide<R> as Side<K>>::explain(side, alloc, kind, frame, question)
+            }
+            EitherSide::Searches(side) => {
+                <KeptSide as Side<K>>::explain(side, alloc, kind, frame, question)
+            }
         }
     }
 
@@ -79,6 +80,13 @@ impl<K: Kind, R: Rows<K>> Side<K> for EitherSide<R> {
         match self {
             EitherSide::Rows(side) => <RowsSide<R> as Side<K>>::prefers(side, frame, var),
             EitherSide::Searches(side) => <KeptSide as Side<K>>::prefers(side, frame, var),
+        }
+    }
+
+    fn wanted(&self, frame: &Frame, place: u32) -> Option<u32> {
+        match self {
+            EitherSide::Rows(side) => <RowsSide<R> as Side<K>>::wanted(side, frame, place),
+            EitherSide::Searches(side) => <KeptSide as Side<K>>::wanted(side, frame, place),
         }
     }
 }

@@ -148,7 +148,8 @@ fn first_from(entries: &[Entry], low: usize, high: usize, key: u64) -> usize
     requires end { high ≤ length entries.now }
     requires below { AllWithin (λ e. e.key < key) entries.now 0 low }
     requires from { AllWithin (λ e. key ≤ e.key) entries.now high (length entries.now) }
-    ensures order { result ≤ high }
+    ensures low { low ≤ result }
+    ensures high { result ≤ high }
     ensures below { AllWithin (λ e. e.key < key) entries.now 0 result }
     ensures from { AllWithin (λ e. key ≤ e.key) entries.now result (length entries.now) }
 {

@@ -1,17 +1,19 @@
 //! A graph, atoms over it, and the literals that were seen: all that a theory is over, whatever its kind.
 //!
 //! The literals are over different variables that concern the theory, the two bounds are theirs, of the edges and of the
-//! atoms' own variables, and the list has room for one literal of each variable. So a literal comes without memory.
+//! atoms' own variables, and the list has room for one literal of each variable. So a literal comes without memory. It is
+//! looked up once: where its edges and its atoms stand is kept.
 
-ghost use Rattle.std.specs.Prelude.{◌≡◌, ◌<◌, ◌≤◌, ◌++◌, ◌∷◌, ◌^◌, [], ℕ, pos, map, not, false, take, length, Some, IfOk, IfSome, IsSome, IsTrue, int_lt, slice_index_or, vec_len, vec_capacity};
+ghost use Rattle.std.specs.Prelude.{◌≡◌, ◌<◌, ◌≤◌, ◌+◌, ◌++◌, ◌∷◌, ◌^◌, [], ℕ, pos, map, not, false, take, length, Some, IfOk, IfSome, IsSome, IsTrue, int_lt, slice_index_or, vec_len, vec_capacity};
 ghost use Rattle.std.specs.List.Sorted.{IsStrictlyIncreasing};
 ghost use Rattle.mono_base.specs.Literal.{var_of};
 ghost use Rattle.mono_base.specs.Partial.{is_true_in, is_false_in, is_open_in, is_partial};
 ghost use Rattle.mono_graph.specs.Digraph.{IsGraph, has};
 ghost use Rattle.mono_problem.specs.Quiet.{under as under_of, over as over_of};
 ghost use Rattle.mono_problem.specs.Read.{no_atom};
-ghost use Rattle.mono_theory.specs.Bound.{edge_vars, IsBoundOf};
+ghost use Rattle.mono_theory.specs.Bound.{edge_vars};
 ghost use Rattle.mono_theory.specs.Index.{ArePlacesOf};
+ghost use Rattle.mono_theory.specs.SeenBounds.{IsSeenBound};
 ghost use Rattle.mono_steps.specs.Switching.{literal_of};
 ghost use Rattle.mono_theory.specs.Frames.{AreAtomsOf, IsFrame, atom_vars, atom_numbers};
 ghost use Rattle.mono_theory.specs.Variables.{AreVarsOf};
@@ -22,11 +24,12 @@ use crate::bounds::vars_of as edge_vars_of;
 use crate::evidence::shown_by;
 use crate::index::Index;
 use crate::past::evidence_by;
-use crate::{Bounds, Evidence, Kind};
+use crate::seen_bounds::SeenBounds;
+use crate::{Evidence, Kind, Question};
 use mono_base::Lit;
 use mono_base::limits::MAX_ATOMS;
 use mono_graph::{Graph, Part};
-use mono_problem::{Atom, Predicate};
+use mono_problem::Atom;
 use std::alloc::{AllocError, Global};
 use std::marker::Model;
 
@@ -39,8 +42,8 @@ pub struct Frame {
     atoms: Vec<Atom>,
     numbers: Index,
     lits: Vec<Lit>,
-    edges: Bounds,
-    own: Bounds,
+    edges: SeenBounds,
+    own: SeenBounds,
     vars: Vec<u32>,
 }
 
@@ -53,7 +56,7 @@ impl Model for Frame {
 
     ghost view = { λ s. record { graph = s.graph; atoms = s.atoms.items; seen = s.lits.items } };
 
-    ghost invariant = { λ s. IsFrame s.graph s.atoms.items s.lits.items s.edges s.own s.numbers s.vars.items (vec_capacity s.lits) };
+    ghost invariant = { λ s. IsFrame s.graph s.atoms.items s.lits.items s.edges s.own s.numbers.keys s.vars.items (vec_capacity s.lits) };
 }
 
 /// The variables of the atoms.
@@ -70,19 +73,29 @@ fn numbers_of(alloc: Global, atoms: &[Atom]) -> Result<Vec<u32>, AllocError>
     atoms.iter().map(|x| x.number).collect(alloc)
 }
 
+/// The bounds of the edges, none of whose variables has a value.
+fn edge_bounds(alloc: Global, graph: &Graph, cells: usize) -> Result<SeenBounds, AllocError>
+    ensures bounds { IfOk result (λ b. IsSeenBound b (edge_vars graph.now) []) }
+    ensures cells { IfOk result (λ b. cells ≤ b.cells) }
+{
+    let vars = edge_vars_of(alloc, graph)?;
+    SeenBounds::new(alloc, vars, cells)
+}
+
 /// The bounds of the atoms' own variables, none of which has a value.
-fn own_bounds(alloc: Global, atoms: &[Atom]) -> Result<Bounds, AllocError>
+fn own_bounds(alloc: Global, atoms: &[Atom], cells: usize) -> Result<SeenBounds, AllocError>
     requires { length atoms.now ≤ MAX_ATOMS }
-    ensures { IfOk result (λ b. IsBoundOf b (atom_vars atoms.now) []) }
+    ensures bounds { IfOk result (λ b. IsSeenBound b (atom_vars atoms.now) []) }
+    ensures cells { IfOk result (λ b. cells ≤ b.cells) }
 {
     let vars = vars_of(alloc, atoms)?;
-    Bounds::of_vars(alloc, vars)
+    SeenBounds::new(alloc, vars, cells)
 }
 
 /// The index of the atoms' numbers.
 fn number_index(alloc: Global, atoms: &[Atom]) -> Result<Index, AllocError>
     requires { length atoms.now ≤ MAX_ATOMS }
-    ensures { IfOk result (λ index. index ≡ atom_numbers atoms.now) }
+    ensures { IfOk result (λ index. index.keys ≡ atom_numbers atoms.now) }
 {
     let numbers = numbers_of(alloc, atoms)?;
     Index::new(alloc, numbers)
@@ -113,8 +126,8 @@ fn variables_of(alloc: Global, graph: &Graph, atoms: &[Atom]) -> Result<Vec<u32>
 struct Tables {
     numbers: Index,
     lits: Vec<Lit>,
-    edges: Bounds,
-    own: Bounds,
+    edges: SeenBounds,
+    own: SeenBounds,
     vars: Vec<u32>,
 }
 
@@ -123,14 +136,16 @@ fn tables_of(alloc: Global, graph: &Graph, atoms: &[Atom]) -> Result<Tables, All
     requires known { AreAtomsOf graph.now atoms.now }
     requires few { length atoms.now ≤ MAX_ATOMS }
     ensures unseen { IfOk result (λ t. t.lits.items ≡ []) }
-    ensures frame { IfOk result (λ t. IsFrame graph.now atoms.now [] t.edges t.own t.numbers t.vars.items (vec_capacity t.lits)) }
+    ensures frame { IfOk result (λ t. IsFrame graph.now atoms.now [] t.edges t.own t.numbers.keys t.vars.items (vec_capacity t.lits)) }
 {
     let _ = graph.nodes();
-    let lits = Vec::with_capacity(alloc, graph.edge_count() as usize + atoms.len())?;
+    let count = graph.edge_count() as usize;
+    let cells = count + atoms.len();
+    let lits = Vec::with_capacity(alloc, cells)?;
     let vars = variables_of(alloc, graph, atoms)?;
     let numbers = number_index(alloc, atoms)?;
-    let own = own_bounds(alloc, atoms)?;
-    let edges = Bounds::new(alloc, graph)?;
+    let own = own_bounds(alloc, atoms, cells)?;
+    let edges = edge_bounds(alloc, graph, cells)?;
     Ok(Tables {
         numbers,
         lits,
@@ -138,26 +153,6 @@ fn tables_of(alloc: Global, graph: &Graph, atoms: &[Atom]) -> Result<Tables, All
         own,
         vars,
     })
-}
-
-/// The first literals stay, and the bounds are theirs.
-fn undo_literals_to(lits: &mut Vec<Lit>, edges: &mut Bounds, own: &mut Bounds, kept: usize)
-    requires kept { kept ≤ length lits.old.items }
-    requires partial { IsTrue (is_partial lits.old.items) }
-    requires edges { IsBoundOf edges.old edges.old.vars lits.old.items }
-    requires own { IsBoundOf own.old own.old.vars lits.old.items }
-    ensures lits { lits.new.items ≡ take kept lits.old.items }
-    ensures capacity { vec_capacity lits.new ≡ vec_capacity lits.old }
-    ensures edges { IsBoundOf edges.new edges.old.vars (take kept lits.old.items) }
-    ensures own { IsBoundOf own.new own.old.vars (take kept lits.old.items) }
-{
-    'back: while lits.len() > kept {
-        let Some(lit) = lits.pop() else {
-            unreachable!()
-        };
-        edges.undo(lit);
-        own.undo(lit);
-    }
 }
 
 /// Puts a literal where there is room for it.
@@ -171,7 +166,7 @@ fn push_within(lits: &mut Vec<Lit>, lit: Lit)
 
 impl Frame {
     ghost use Rattle.mono_problem.specs.WellFormed.{IsOver};
-    ghost use Rattle.mono_theory.specs.Evidences.{IsEvidence, side};
+    ghost use Rattle.mono_theory.specs.Questions.{IsAnswer, predicate_in};
     ghost use Rattle.mono_theory.specs.Sound.{IsSound};
     ghost use Rattle.mono_theory.specs.Frames.{IsVar};
     ghost use Rattle.mono_theory.specs.Theories.{concerns_of, owns_of, atom_of};
@@ -200,7 +195,7 @@ impl Frame {
     pub fn concerns(&self, var: u32) -> bool
         ensures { result ≡ concerns_of self.now.graph self.now.atoms var }
     {
-        self.edges.has(var) || self.own.has(var)
+        self.edges.bounds().has(var) || self.own.bounds().has(var)
     }
 
     /// The variables of the edges and of the atoms, rising, each once.
@@ -227,18 +222,27 @@ impl Frame {
         self.lits[place]
     }
 
-    /// The places of the edges of a variable.
+    /// The places of the edges of a variable. It takes a look-up.
     pub fn edges_of(&self, var: u32) -> &[u32]
         ensures { ArePlacesOf (edge_vars self.now.graph) var result.now }
     {
-        self.edges.places_of(var)
+        self.edges.bounds().places_of(var)
     }
 
-    /// The places of the atoms of a variable.
-    pub fn atoms_of(&self, var: u32) -> &[u32]
-        ensures { ArePlacesOf (atom_vars self.now.atoms) var result.now }
+    /// The places of the edges of the variable of the literal at a place of the list.
+    pub fn edges_at(&self, place: usize) -> &[u32]
+        requires { place < length self.now.seen }
+        ensures { ArePlacesOf (edge_vars self.now.graph) (var_of (slice_index_or self.now.seen place (pos 0))) result.now }
     {
-        self.own.places_of(var)
+        self.edges.places(place)
+    }
+
+    /// The places of the atoms of the variable of the literal at a place of the list.
+    pub fn atoms_at(&self, place: usize) -> &[u32]
+        requires { place < length self.now.seen }
+        ensures { ArePlacesOf (atom_vars self.now.atoms) (var_of (slice_index_or self.now.seen place (pos 0))) result.now }
+    {
+        self.own.places(place)
     }
 
     /// Whether the atom of this number is one of these.
@@ -255,8 +259,11 @@ impl Frame {
         requires fresh { IsTrue (is_open_in self.old.seen lit) }
         ensures { self.new ≡ record self.old { seen = self.old.seen ++ lit ∷ [] } }
     {
-        self.edges.assign(lit);
-        self.own.assign(lit);
+        let var = lit.var();
+        let edges = self.edges.bounds().find(var);
+        let atoms = self.own.bounds().find(var);
+        self.edges.assign(lit, edges);
+        self.own.assign(lit, atoms);
         push_within(&mut self.lits, lit);
     }
 
@@ -265,7 +272,9 @@ impl Frame {
         requires { kept ≤ length self.old.seen }
         ensures { self.new ≡ record self.old { seen = take kept self.old.seen } }
     {
-        undo_literals_to(&mut self.lits, &mut self.edges, &mut self.own, kept);
+        self.edges.undo_to(self.lits.as_slice(), kept);
+        self.own.undo_to(self.lits.as_slice(), kept);
+        self.lits.truncate(kept);
     }
 
     /// How many atoms there are.
@@ -324,14 +333,14 @@ impl Frame {
     pub fn under(&self) -> &Part
         ensures { result.now ≡ under_of self.now.graph self.now.seen }
     {
-        self.edges.under()
+        self.edges.bounds().under()
     }
 
     /// The possibly present edges: those whose variable isn't false.
     pub fn over(&self) -> &Part
         ensures { result.now ≡ over_of self.now.graph self.now.seen }
     {
-        self.edges.over()
+        self.edges.bounds().over()
     }
 
     /// The possibly present edges, or the surely present ones.
@@ -364,7 +373,7 @@ impl Frame {
         requires { place < length self.now.atoms }
         ensures { result ≡ is_true_in self.now.seen (pos (slice_index_or self.now.atoms place no_atom).var) }
     {
-        self.own.under().has(place as u32)
+        self.own.bounds().under().has(place as u32)
     }
 
     /// Whether the variable of the atom at a place is false.
@@ -372,41 +381,40 @@ impl Frame {
         requires { place < length self.now.atoms }
         ensures { result ≡ is_false_in self.now.seen (pos (slice_index_or self.now.atoms place no_atom).var) }
     {
-        !self.own.over().has(place as u32)
+        !self.own.bounds().over().has(place as u32)
     }
 
-    /// What shows that the predicate holds or fails with the edges by which the literal is forced, under the first `kept`
-    /// literals: the evidence that is known, where it is right there, or else what a search finds. The bounds go back to these
-    /// literals and come again, also where memory is missing.
+    /// What answers a question: the evidence that is known, where it is right under the first literals, or else what a search
+    /// finds. The bounds go back to these literals and come again, also where memory is missing.
     pub fn evidence_at<K: Kind>(
         &mut self,
         alloc: Global,
         kind: &mut K,
         known: Option<&Evidence>,
-        predicate: Predicate,
-        lit: Lit,
-        kept: usize,
+        question: Question,
     ) -> Result<Evidence, AllocError>
         requires size { K.nodes kind.old ≡ self.old.graph.nodes }
-        requires within { kept ≤ length self.old.seen }
-        requires kind { IsTrue (K.covers predicate) }
-        requires over { IsOver self.old.graph predicate }
-        requires known { IfSome known (λ e. IsSound self.old.graph predicate (shown_by_of predicate (int_lt (pos 0) lit)) e.now) }
+        requires place { question.place < length self.old.atoms }
+        requires kept { question.kept ≤ length self.old.seen }
+        requires kind { IsTrue (K.covers (predicate_in self.old question)) }
+        requires known { IfSome known (λ e. IsSound self.old.graph (predicate_in self.old question)
+            (shown_by_of (predicate_in self.old question) (int_lt (pos 0) question.lit)) e.now) }
         ensures size { K.nodes kind.new ≡ K.nodes kind.old }
         ensures same { self.new ≡ self.old }
-        ensures evidence { IfOk result (IsEvidence self.old.graph (side self.old.graph predicate (take kept self.old.seen) lit) predicate) }
+        ensures evidence { IfOk result (IsAnswer self.old question) }
     {
+        let predicate = self.atom_at(question.place as usize).predicate;
         let lits = self.lits.as_slice();
+        let edges = &mut self.edges;
         evidence_by::<K>(
             alloc,
             kind,
             &self.graph,
+            edges,
             lits,
-            &mut self.edges,
             known,
             predicate,
-            lit,
-            kept,
+            question,
         )
     }
 }

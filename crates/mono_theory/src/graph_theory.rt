@@ -5,114 +5,89 @@
 //! rests. So a literal makes work only for the atoms that rest on its edges, and an undone one only for those that lost
 //! their support.
 
-ghost use Rattle.std.specs.Prelude.{◌≡◌, ◌<◌, ◌≤◌, ◌++◌, ◌∷◌, [], pos, int_lt, true, false, not, take, map, length, All, Some, IfOk, IsTrue};
+ghost use Rattle.std.specs.Prelude.{◌≡◌, ◌<◌, ◌≤◌, ◌++◌, ◌∷◌, [], ℕ, true, false, take, map, length, All, Some, IfOk, IsTrue};
 ghost use Rattle.mono_problem.specs.Instance.{graph_at};
 ghost use Rattle.mono_problem.specs.Read.{atom_numbered};
 ghost use Rattle.mono_theory.specs.Frames.{AreNumbersOf};
-ghost use Rattle.mono_theory.specs.Theories.{concerns_of, FindingIs, ForceIs, ForcesBy, IsLemmaOf};
+ghost use Rattle.mono_theory.specs.Theories.{atom_of, concerns_of, FindingIs, ForceIs, ForcesBy, IsLemmaOf};
 ghost use Rattle.mono_base.specs.Literal.{var_of};
 ghost use Rattle.mono_base.specs.Partial.{is_open_in};
-ghost use Rattle.mono_theory.specs.Evidences.{IsEvidence, side as side_of, shown_by as shown_by_of};
+ghost use Rattle.mono_theory.specs.Questions.{IsAnswer};
 ghost use Rattle.mono_theory.specs.Supports.{AreCovered, IsSideOf, atom_at, facts_in};
 
 use crate::evidence::{lemma_of, shown_by};
 use crate::frame::Frame;
-use crate::{Evidence, Finding, Force, KeptSide, Kind, NewSide, Side, Theory};
+use crate::threat::unit_lemma_of;
+use crate::{Evidence, Finding, Force, KeptSide, Kind, NewSide, Question, Side, Theory, UnitLemma};
 use mono_base::Lit;
 use mono_problem::{Atom, Problem};
 use mono_steps::Lemma;
 use std::alloc::{AllocError, Global};
 use std::marker::Model;
 
-/// What shows that the atom at a place forces the literal under the first literals, where the edges of this side force it. It is
-/// what is kept on the side, or else what a search finds.
-fn evidence_on<K: Kind, S: Side<K>>(
-    alloc: Global,
-    kind: &mut K,
-    side: &S,
-    frame: &mut Frame,
-    place: u32,
-    lit: Lit,
-    kept: usize,
-) -> Result<Evidence, AllocError>
-    requires size { K.nodes kind.old ≡ frame.old.graph.nodes }
-    requires right { S.is_right side.now frame.old }
-    requires sign { shown_by_of (atom_at frame.old.atoms place).predicate (int_lt (pos 0) lit) ≡ not (S.possible side.now) }
-    requires within { kept ≤ length frame.old.seen }
-    requires place { place < length frame.old.atoms }
-    requires kind { IsTrue (K.covers (atom_at frame.old.atoms place).predicate) }
-    ensures size { K.nodes kind.new ≡ K.nodes kind.old }
-    ensures same { frame.new ≡ frame.old }
-    ensures evidence { IfOk result (IsEvidence frame.old.graph
-        (side_of frame.old.graph (atom_at frame.old.atoms place).predicate (take kept frame.old.seen) lit)
-        (atom_at frame.old.atoms place).predicate) }
-{
-    match side.evidence(alloc, frame, place, kept)? {
-        Some(evidence) => Ok(evidence),
-        None => {
-            let known = side.shown(frame, place);
-            let predicate = frame.atom_at(place as usize).predicate;
-            frame.evidence_at::<K>(alloc, kind, known, predicate, lit, kept)
-        }
-    }
-}
-
-/// What shows that the atom at a place forces the literal under the first literals.
-fn evidence_for<K: Kind, S: Side<K>, P: Side<K>>(
+/// What answers a question, by the side whose edges force its literal.
+fn answer<K: Kind, S: Side<K>, P: Side<K>>(
     alloc: Global,
     kind: &mut K,
     surely: &S,
     possibly: &P,
     frame: &mut Frame,
-    place: u32,
-    lit: Lit,
-    kept: usize,
+    question: Question,
 ) -> Result<Evidence, AllocError>
     requires size { K.nodes kind.old ≡ frame.old.graph.nodes }
+    requires covered { AreCovered K.covers frame.old.atoms }
     requires surely { IsSideOf frame.old false (S.is_right surely.now) (S.possible surely.now) }
     requires possibly { IsSideOf frame.old true (P.is_right possibly.now) (P.possible possibly.now) }
-    requires within { kept ≤ length frame.old.seen }
-    requires place { place < length frame.old.atoms }
-    requires kind { IsTrue (K.covers (atom_at frame.old.atoms place).predicate) }
+    requires place { question.place < length frame.old.atoms }
+    requires kept { question.kept ≤ length frame.old.seen }
     ensures size { K.nodes kind.new ≡ K.nodes kind.old }
     ensures same { frame.new ≡ frame.old }
-    ensures evidence { IfOk result (IsEvidence frame.old.graph
-        (side_of frame.old.graph (atom_at frame.old.atoms place).predicate (take kept frame.old.seen) lit)
-        (atom_at frame.old.atoms place).predicate) }
+    ensures evidence { IfOk result (IsAnswer frame.old question) }
 {
-    let predicate = frame.atom_at(place as usize).predicate;
-    if shown_by(predicate, lit.is_positive()) {
-        evidence_on::<K, S>(alloc, kind, surely, frame, place, lit, kept)
+    let predicate = frame.atom_at(question.place as usize).predicate;
+    if shown_by(predicate, question.lit.is_positive()) {
+        surely.explain(alloc, kind, frame, question)
     } else {
-        evidence_on::<K, P>(alloc, kind, possibly, frame, place, lit, kept)
+        possibly.explain(alloc, kind, frame, question)
     }
 }
 
-/// The lemma by which the atom forces the literal under the first literals.
+/// The lemma by which an atom forces a literal, for any number under which it stands.
 fn explanation<K: Kind, S: Side<K>, P: Side<K>>(
     alloc: Global,
     kind: &mut K,
     surely: &S,
     possibly: &P,
     frame: &mut Frame,
-    number: u32,
-    lit: Lit,
-    kept: usize,
+    question: Question,
 ) -> Result<Lemma, AllocError>
     requires size { K.nodes kind.old ≡ frame.old.graph.nodes }
+    requires covered { AreCovered K.covers frame.old.atoms }
     requires surely { IsSideOf frame.old false (S.is_right surely.now) (S.possible surely.now) }
     requires possibly { IsSideOf frame.old true (P.is_right possibly.now) (P.possible possibly.now) }
-    requires within { kept ≤ length frame.old.seen }
-    requires forces { ForcesBy frame.old.graph frame.old.atoms (take kept frame.old.seen) number lit }
-    requires covered { AreCovered K.covers frame.old.atoms }
+    requires place { question.place < length frame.old.atoms }
+    requires kept { question.kept ≤ length frame.old.seen }
     ensures size { K.nodes kind.new ≡ K.nodes kind.old }
     ensures same { frame.new ≡ frame.old }
-    ensures lemma { IfOk result (IsLemmaOf frame.old.graph frame.old.atoms (take kept frame.old.seen) number lit) }
+    ensures lemma { (n : ℕ) → atom_of frame.old.atoms n ≡ Some (atom_at frame.old.atoms question.place)
+        → ForcesBy frame.old.graph frame.old.atoms (take question.kept frame.old.seen) n question.lit
+        → IfOk result (IsLemmaOf frame.old.graph frame.old.atoms (take question.kept frame.old.seen) n question.lit) }
 {
-    let place = frame.place_of(number);
-    let atom = frame.atom_at(place as usize);
-    let evidence = evidence_for::<K, S, P>(alloc, kind, surely, possibly, frame, place, lit, kept)?;
+    let atom = frame.atom_at(question.place as usize);
+    let evidence = answer::<K, S, P>(alloc, kind, surely, possibly, frame, question)?;
     lemma_of(alloc, frame.graph(), atom, evidence)
+}
+
+/// The variable of an open edge that the first atom which wants one would have present.
+fn first_wanted<K: Kind, S: Side<K>>(side: &S, frame: &Frame) -> Option<u32>
+    requires { S.is_right side.now frame.now }
+{
+    for place in 0..frame.atom_count() as u32 {
+        if let Some(var) = side.wanted(frame, place) {
+            return Some(var);
+        }
+    }
+    None
 }
 
 /// A theory of atoms of one kind over one graph.
@@ -261,7 +236,16 @@ impl<K: Kind, S: Side<K>, P: Side<K>> Theory for GraphTheory<K, S, P> {
     }
 
     fn prefers(&self, var: u32) -> bool {
-        self.explained < K::MOST_FOLLOWED && self.possibly.prefers(&self.frame, var)
+        self.explained < K::MOST_FOLLOWED
+            && self.frame.graph().edge_count() >= K::LEAST_FOLLOWED
+            && self.possibly.prefers(&self.frame, var)
+    }
+
+    fn wanted(&self) -> Option<u32> {
+        if K::MOST_FOLLOWED == 0 {
+            return None;
+        }
+        first_wanted::<K, P>(&self.possibly, &self.frame)
     }
 
     fn seen(&self) -> usize {
@@ -281,9 +265,9 @@ impl<K: Kind, S: Side<K>, P: Side<K>> Theory for GraphTheory<K, S, P> {
         ensures surely { S.keeps (facts_in self.old) lit self.old.surely self.new.surely }
         ensures possibly { P.keeps (facts_in self.old) lit self.old.possibly self.new.possibly }
     {
-        self.surely.assign(&self.frame, lit);
-        self.possibly.assign(&self.frame, lit);
         self.frame.assign(lit);
+        self.surely.assign(&self.frame);
+        self.possibly.assign(&self.frame);
     }
 
     fn undo_to(&mut self, kept: usize)
@@ -317,6 +301,14 @@ impl<K: Kind, S: Side<K>, P: Side<K>> Theory for GraphTheory<K, S, P> {
         }
     }
 
+    fn unit_lemma(&mut self) -> Result<Option<UnitLemma>, AllocError> {
+        let Some(threat) = self.surely.threat(self.alloc, &self.frame)? else {
+            return Ok(None);
+        };
+        let unit = unit_lemma_of(self.alloc, &self.frame, threat)?;
+        Ok(Some(unit))
+    }
+
     fn explain(&mut self, atom: u32, lit: Lit, kept: usize) -> Result<Lemma, AllocError>
         requires within { kept ≤ length self.old.seen }
         requires forces { ForcesBy self.old.graph self.old.atoms (take kept self.old.seen) atom lit }
@@ -328,15 +320,14 @@ impl<K: Kind, S: Side<K>, P: Side<K>> Theory for GraphTheory<K, S, P> {
         ensures possibly { self.new.possibly ≡ self.old.possibly }
     {
         self.explained = self.explained.saturating_add(1);
+        let place = self.frame.place_of(atom);
         explanation::<K, S, P>(
             self.alloc,
             &mut self.kind,
             &self.surely,
             &self.possibly,
             &mut self.frame,
-            atom,
-            lit,
-            kept,
+            Question { place, lit, kept },
         )
     }
 

@@ -1,16 +1,22 @@
 //! Places by key. The places stand in a list in the order of their keys, where those of one key stand side by side.
+//!
+//! Where they stand (`Span`) may be kept, so whoever looks a key up once needs no other look-up.
 
-ghost use Rattle.std.specs.Prelude.{◌≡◌, ◌≢◌, ◌<◌, ◌≤◌, ◌-◌, ◌^◌, ℕ, List, length, map, take, drop, All, IfOk, MatchOption, slice_index, false};
+ghost use Rattle.std.specs.Prelude.{[], ◌∷◌, ◌≡◌, ◌≢◌, ◌<◌, ◌≤◌, ◌-◌, ◌^◌, ℕ, length, map, take, drop, All, IfOk, MatchOption, slice_index, false};
 ghost use Rattle.mono_graph.specs.Digraph.{present, has};
-ghost use Rattle.mono_theory.specs.Entries.{entry_at};
-ghost use Rattle.mono_theory.specs.Index.{IsIndex, IsIndexed, IsPlaceOf, ArePlacesOf, switched};
+ghost use Rattle.mono_theory.specs.DueNodes.{PutsNodes};
+ghost use Rattle.mono_theory.specs.Entries.{entry_at, IsRange};
+ghost use Rattle.mono_theory.specs.Index.{within, IsIndex, IsPlaceOf, IsSpanOf, ArePlacesOf, switched};
 
 use crate::entries::{Entries, Entry};
+use crate::span::Span;
+use mono_base::Worklist;
 use mono_graph::Part;
 use std::alloc::{AllocError, Global};
 use std::marker::Model;
 
-/// The keys of some places, and the places of each key. Contracts see the list of the keys.
+/// The keys of some places, and the places of each key. Contracts see the key of each place, and the places in the order of
+/// their keys.
 #[derive(Drop)]
 pub(crate) struct Index {
     keys: Vec<u32>,
@@ -20,12 +26,11 @@ pub(crate) struct Index {
 }
 
 impl Model for Index {
-    ghost use Rattle.std.specs.Prelude.{List, ℕ};
-    ghost use Rattle.mono_theory.specs.Index.{IsIndexed};
+    ghost use Rattle.mono_theory.specs.Index.{IndexView, IsIndexed};
 
-    ghost Value = { List ℕ };
+    ghost Value = { IndexView };
 
-    ghost view = { λ i. i.keys.items };
+    ghost view = { λ i. record { keys = i.keys.items; places = i.places.items } };
 
     ghost invariant = { λ i. IsIndexed i.keys.items i.entries i.places.items };
 }
@@ -45,7 +50,7 @@ fn set(part: &mut Part, place: u32, on: bool)
 }
 
 /// Puts some places into the part, or takes them out.
-fn set_all(places: &[u32], part: &mut Part, on: bool)
+pub(crate) fn set_all(places: &[u32], part: &mut Part, on: bool)
     requires { All (λ k. k < length part.old) places.now }
     ensures size { length part.new ≡ length part.old }
     ensures done { (i : ℕ) → i < length places.now → present part.new (slice_index places.now i) ≡ on }
@@ -102,20 +107,23 @@ fn items_between(items: &[u32], start: usize, end: usize) -> &[u32]
     &items[start..end]
 }
 
-/// The places of a key.
-fn places_between<'a>(entries: &Entries, places: &'a [u32], key: u32) -> &'a [u32]
-    requires { length places.now ≡ length entries.now }
-    ensures { (keys : List ℕ) → IsIndexed keys entries.now places.now → ArePlacesOf keys key result.now }
+/// Where the entries of a key stand.
+fn span_in(entries: &Entries, key: u32) -> Span
+    requires { length entries.now < 2 ^ 32 }
+    ensures { IsRange entries.now key result.start result.end }
 {
     let (start, end) = entries.range_of(key);
-    items_between(places, start, end)
+    Span {
+        start: start as u32,
+        end: end as u32,
+    }
 }
 
 impl Index {
     /// The index of a list of keys.
     pub(crate) fn new(alloc: Global, keys: Vec<u32>) -> Result<Index, AllocError>
         requires { length keys.items < 2 ^ 32 }
-        ensures { IfOk result (λ index. index ≡ keys.items) }
+        ensures { IfOk result (λ index. index.keys ≡ keys.items) }
     {
         let entries = sorted_entries(alloc, keys.as_slice())?;
         let places = places_in_order(alloc, entries.as_slice())?;
@@ -126,9 +134,36 @@ impl Index {
         })
     }
 
+    /// Where the places of a key stand.
+    pub(crate) fn find(&self, key: u32) -> Span
+        ensures { IsSpanOf self.now.keys self.now.places key result }
+    {
+        span_in(&self.entries, key)
+    }
+
+    /// The places that stand there.
+    pub(crate) fn places_at(&self, span: Span) -> &[u32]
+        requires { span.end ≤ length self.now.places }
+        ensures places { result.now ≡ within self.now.places span }
+        ensures held { All (λ k. k < length self.now.keys) result.now }
+    {
+        items_between(
+            self.places.as_slice(),
+            span.start as usize,
+            span.end as usize,
+        )
+    }
+
+    /// The places of a key, each at least once.
+    pub(crate) fn places_of(&self, key: u32) -> &[u32]
+        ensures { ArePlacesOf self.now.keys key result.now }
+    {
+        self.places_at(self.find(key))
+    }
+
     /// A place that has the key.
     pub(crate) fn place(&self, key: u32) -> Option<u32>
-        ensures { MatchOption result (has self.now key ≡ false) (IsPlaceOf self.now key) }
+        ensures { MatchOption result (has self.now.keys key ≡ false) (IsPlaceOf self.now.keys key) }
     {
         let places = self.places_of(key);
         if places.is_empty() {
@@ -139,32 +174,27 @@ impl Index {
 
     /// Whether a place has the key.
     pub(crate) fn has(&self, key: u32) -> bool
-        ensures { result ≡ has self.now key }
+        ensures { result ≡ has self.now.keys key }
     {
         self.place(key).is_some()
     }
 
-    /// The keys, by place.
-    pub(crate) fn keys(&self) -> &[u32]
-        ensures { result.now ≡ self.now }
+    /// Puts the places of a key in `due`. It costs their number.
+    pub(crate) fn insert_places(&self, key: u32, due: &mut Worklist)
+        requires { length due.old.listed ≡ length self.now.keys }
+        ensures { PutsNodes self.now.keys (key ∷ []) due.old.listed due.new.listed }
     {
-        self.keys.as_slice()
+        due.insert_all(self.places_of(key));
     }
 
-    /// The places of a key, each at least once.
-    pub(crate) fn places_of(&self, key: u32) -> &[u32]
-        ensures { ArePlacesOf self.now key result.now }
-    {
-        places_between(&self.entries, self.places.as_slice(), key)
-    }
-
-    /// Puts all places of a key into a part with as many places, or takes them out.
-    pub(crate) fn switch(&self, part: &mut Part, key: u32, on: bool)
-        requires { length part.old ≡ length self.now }
-        ensures part { part.new ≡ switched self.now key on part.old }
+    /// Puts the places that stand there into a part with as many places, or takes them out.
+    pub(crate) fn switch(&self, part: &mut Part, span: Span, on: bool)
+        requires size { length part.old ≡ length self.now.keys }
+        requires fits { span.end ≤ length self.now.places }
         ensures size { length part.new ≡ length part.old }
+        ensures part { (key : ℕ) → ArePlacesOf self.now.keys key (within self.now.places span)
+            → part.new ≡ switched self.now.keys key on part.old }
     {
-        let places = self.places_of(key);
-        set_all(places, part, on);
+        set_all(self.places_at(span), part, on);
     }
 }

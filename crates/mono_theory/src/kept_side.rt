@@ -11,7 +11,7 @@ ghost use Rattle.mono_theory.specs.Evidences.{shown_by};
 ghost use Rattle.mono_theory.specs.Sound.{IsRightIn, IsSound, evidence_at};
 ghost use Rattle.mono_theory.specs.Stages.{NoneWaits};
 ghost use Rattle.mono_theory.specs.Supports.{IsAlike, IsFewer, IsKeptBy, IsNext, IsSide, IsSettled, SideView, atom_at, gone_back, part_of, with_watchers};
-ghost use Rattle.mono_theory.specs.Theories.{Facts, cut_to, seeing};
+ghost use Rattle.mono_theory.specs.Theories.{Facts, but_last, cut_to, last_seen};
 ghost use Rattle.mono_theory.specs.Watching.{AreWatched};
 
 use crate::frame::Frame;
@@ -19,10 +19,9 @@ use crate::invalidation::invalidate;
 use crate::kept_evidence::KeptEvidence;
 use crate::looking::force_by;
 use crate::stages::Stages;
-use crate::wanting::any_wants;
+use crate::wanting::{any_wants, first_open};
 use crate::watchers::Watchers;
-use crate::{Evidence, Force, Kind, NewSide, Side, Stage};
-use mono_base::Lit;
+use crate::{Evidence, Force, Kind, NewSide, Question, Side, Stage};
 use mono_graph::Part;
 use mono_steps::Witness;
 use std::alloc::{AllocError, Global};
@@ -91,16 +90,20 @@ impl KeptSide {
         })
     }
 
-    /// The frame is about to see one more literal. An atom waits where its support needs an edge that the literal changes.
-    fn assign(&mut self, frame: &Frame, lit: Lit)
-        requires side { IsSide frame.now self.old.possible self.old }
-        ensures side { IsSide (seeing frame.now lit) self.new.possible self.new }
-        ensures kept { IsKeptBy frame.now.graph self.old.possible lit self.old self.new }
+    /// The frame has seen one more literal, its last one. An atom waits where its support needs an edge that the literal changes.
+    fn assign(&mut self, frame: &Frame)
+        requires some { 0 < length frame.now.seen }
+        requires side { IsSide (but_last frame.now) self.old.possible self.old }
+        ensures side { IsSide frame.now self.new.possible self.new }
+        ensures kept { IsKeptBy frame.now.graph self.old.possible (last_seen frame.now) self.old self.new }
     {
         let _ = frame.graph();
-        let var = lit.var();
+        let seen = frame.seen();
+        let lit = frame.literal_at(seen - 1);
+        // The variable of a literal isn't 0.
+        let _ = lit.var();
         if lit.is_positive() != self.possible {
-            let edges = frame.edges_of(var);
+            let edges = frame.edges_at(seen - 1);
             invalidate(&self.supports, &self.watchers, &mut self.stages, edges);
         }
     }
@@ -120,6 +123,20 @@ impl KeptSide {
         let _ = frame.graph();
         let edges = frame.edges_of(var);
         any_wants(frame, &self.supports, &self.watchers, edges)
+    }
+
+    /// The variable of an open edge in the support of the atom, if the atom's variable is true.
+    fn wanted_by(&self, frame: &Frame, atom: u32) -> Option<u32>
+        requires side { IsSide frame.now self.now.possible self.now }
+        requires atom { atom < length frame.now.atoms }
+    {
+        if !frame.is_true(atom as usize) {
+            return None;
+        }
+        match self.support(frame, atom) {
+            Some(support) => first_open(frame, support.edges.as_slice()),
+            None => None,
+        }
     }
 
     /// Whether the side is that of the possibly present edges.
@@ -361,8 +378,8 @@ impl<K: Kind> Side<K> for KeptSide {
 
     ghost decides = { λ side _. NoneWaits side.stages };
 
-    fn assign(&mut self, frame: &Frame, lit: Lit) {
-        KeptSide::assign(self, frame, lit);
+    fn assign(&mut self, frame: &Frame) {
+        KeptSide::assign(self, frame);
     }
 
     fn undo_to(&mut self, frame: &Frame, kept: usize) {
@@ -374,13 +391,24 @@ impl<K: Kind> Side<K> for KeptSide {
         force_by::<K>(alloc, kind, frame, self)
     }
 
-    fn shown(&self, frame: &Frame, place: u32) -> Option<&Evidence> {
+    fn explain(
+        &self,
+        alloc: Global,
+        kind: &mut K,
+        frame: &mut Frame,
+        question: Question,
+    ) -> Result<Evidence, AllocError> {
         let _ = frame.seen();
-        self.shown_at(place).as_ref()
+        let known = self.shown_at(question.place).as_ref();
+        frame.evidence_at::<K>(alloc, kind, known, question)
     }
 
     fn prefers(&self, frame: &Frame, var: u32) -> bool {
         self.is_wanted(frame, var)
+    }
+
+    fn wanted(&self, frame: &Frame, place: u32) -> Option<u32> {
+        self.wanted_by(frame, place)
     }
 }
 

@@ -34,6 +34,9 @@ pub trait Kind: Drop {
     /// something that is kept. Where conflicts go on, following walks within bounds, and trees, makes more of them.
     const MOST_FOLLOWED: u32;
 
+    /// Decisions do so only in graphs with so many edges: in a small one it costs little to find something else.
+    const LEAST_FOLLOWED: u32;
+
     /// Room for graphs with this many nodes.
     fn with_nodes(alloc: Global, count: u32) -> Result<Self, AllocError>
         ensures { IfOk result (λ kind. nodes kind ≡ count) };

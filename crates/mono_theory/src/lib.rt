@@ -3,8 +3,6 @@
 
 /// What predicates ask for that ask for a walk.
 mod asked;
-/// Atoms by a node of theirs.
-mod atoms_by_node;
 /// The edges that are surely and possibly present.
 mod bounds;
 /// Places in the order of their keys.
@@ -37,12 +35,18 @@ mod past;
 mod either_side;
 /// Rows of the walks along the possibly present edges.
 mod possible_rows;
+/// Why a literal was forced.
+mod question;
 /// What is kept of searches along the edges of one side.
 mod rows;
 /// Rows and the literals that they are of.
 mod rows_side;
+/// The bounds of a list of literals.
+mod seen_bounds;
 /// What is kept of atoms on one side.
 mod side;
+/// Where the places of a key stand.
+mod span;
 /// What is known of an atom on one side.
 mod stage;
 /// The stages of the atoms, and which to look at next.
@@ -51,6 +55,8 @@ mod stages;
 mod sure_rows;
 /// What theories answer.
 mod theory;
+/// Open edges that would break an atom.
+mod threat;
 /// The edges that atoms would have present.
 mod wanting;
 /// An atom that watches an edge.
@@ -65,7 +71,6 @@ pub mod worked;
 pub mod worked_definitions;
 
 pub use asked::{Asked, AsksWalk, last_nodes, sources_of, targets_of};
-pub use atoms_by_node::AtomsByNode;
 pub use bounds::Bounds;
 pub use either_side::EitherSide;
 pub use evidence::{Evidence, literal, shown_by};
@@ -75,9 +80,11 @@ pub use kept_side::KeptSide;
 pub use kind::Kind;
 pub use node_marks::NodeMarks;
 pub use possible_rows::PossibleRows;
+pub use question::Question;
 pub use rows::Rows;
 pub use rows_side::RowsSide;
 pub use side::{NewSide, Side};
 pub use stage::Stage;
 pub use sure_rows::SureRows;
-pub use theory::{Finding, Force, Theory};
+pub use theory::{Finding, Force, Theory, UnitLemma};
+pub use threat::Threat;

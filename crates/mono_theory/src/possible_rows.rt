@@ -14,7 +14,8 @@ ghost use Rattle.mono_theory.specs.DueAtoms.{PutsDue};
 ghost use Rattle.mono_theory.specs.PossibleRows.{is_cut_off as is_cut_off_by, lacks_by, target_at, AreAsked, AreEach, AreSettledRows, IsFilledRow, IsRenewedRow};
 
 use crate::asked::{AsksWalk, sources_of, targets_of};
-use crate::{AtomsByNode, Bounds, Evidence, Frame, Rows};
+use crate::index::Index;
+use crate::{Evidence, Frame, Rows};
 use mono_base::{Lit, Worklist};
 use mono_dynamic::{Sources, TargetsBySource, WalkTarget};
 use mono_graph::{Graph, Part};
@@ -38,7 +39,7 @@ pub struct PossibleRows {
     /// By place of an atom its row.
     row_of: Vec<u32>,
     /// By row its atoms.
-    atoms: AtomsByNode,
+    atoms: Index,
     /// By place of an atom where its walk is to lead.
     targets: Vec<WalkTarget>,
 }
@@ -51,7 +52,7 @@ impl Model for PossibleRows {
 
     ghost view = { λ s. record { rows = s.rows; row_of = s.row_of.items; targets = s.targets.items } };
 
-    ghost invariant = { λ s. s.atoms ≡ s.row_of.items };
+    ghost invariant = { λ s. s.atoms.keys ≡ s.row_of.items };
 }
 
 /// The row of each atom is asked for the atom's walk.
@@ -78,7 +79,7 @@ fn add_targets(
 /// missing, nothing is known of the row.
 fn settle_row(
     rows: &mut TargetsBySource,
-    atoms: &AtomsByNode,
+    atoms: &Index,
     alloc: Global,
     row: usize,
     graph: &Graph,
@@ -90,13 +91,13 @@ fn settle_row(
     requires few { length rows.old.rows < 2 ^ 32 }
     requires nodes { rows.old.nodes ≡ graph.now.nodes }
     requires part { IsPartOf part.now graph.now }
-    requires size { length due.old.listed ≡ length atoms.now }
+    requires size { length due.old.listed ≡ length atoms.now.keys }
     ensures nodes { rows.new.nodes ≡ rows.old.nodes }
     ensures size { length due.new.listed ≡ length due.old.listed }
     ensures renewed { IsOneChanged (IsRenewedRow graph.now part.now number) rows.old.rows rows.new.rows row }
     ensures settled { OnOk result (is_settled (targets_at rows.new.rows row) ≡ true) }
-    ensures due { (targets : List WalkTarget) → AreAsked rows.old.rows atoms.now targets
-        → PutsDue (length atoms.now) (lacks_by rows.old.rows atoms.now targets) (lacks_by rows.new.rows atoms.now targets) due.old.listed due.new.listed }
+    ensures due { (targets : List WalkTarget) → AreAsked rows.old.rows atoms.now.keys targets
+        → PutsDue (length atoms.now.keys) (lacks_by rows.old.rows atoms.now.keys targets) (lacks_by rows.new.rows atoms.now.keys targets) due.old.listed due.new.listed }
 {
     if rows.is_settled(row) {
         return Ok(());
@@ -104,14 +105,14 @@ fn settle_row(
     if rows.search(alloc, row, graph, part, number)? {
         return Ok(());
     }
-    atoms.insert(row as u32, due);
+    atoms.insert_places(row as u32, due);
     Ok(())
 }
 
 /// Brings all rows up to date, up to the first for which memory is missing.
 fn settle_rows(
     rows: &mut TargetsBySource,
-    atoms: &AtomsByNode,
+    atoms: &Index,
     alloc: Global,
     graph: &Graph,
     part: &Part,
@@ -121,13 +122,13 @@ fn settle_rows(
     requires few { length rows.old.rows < 2 ^ 32 }
     requires nodes { rows.old.nodes ≡ graph.now.nodes }
     requires part { IsPartOf part.now graph.now }
-    requires size { length due.old.listed ≡ length atoms.now }
+    requires size { length due.old.listed ≡ length atoms.now.keys }
     ensures nodes { rows.new.nodes ≡ rows.old.nodes }
     ensures size { length due.new.listed ≡ length due.old.listed }
     ensures renewed { AreEach (IsRenewedRow graph.now part.now number) rows.old.rows rows.new.rows }
     ensures settled { OnOk result (AreSettledRows rows.new.rows) }
-    ensures due { (targets : List WalkTarget) → AreAsked rows.old.rows atoms.now targets
-        → PutsDue (length atoms.now) (lacks_by rows.old.rows atoms.now targets) (lacks_by rows.new.rows atoms.now targets) due.old.listed due.new.listed }
+    ensures due { (targets : List WalkTarget) → AreAsked rows.old.rows atoms.now.keys targets
+        → PutsDue (length atoms.now.keys) (lacks_by rows.old.rows atoms.now.keys targets) (lacks_by rows.new.rows atoms.now.keys targets) due.old.listed due.new.listed }
 {
     for row in 0..rows.count() {
         settle_row(rows, atoms, alloc, row, graph, part, number, due)?;
@@ -178,7 +179,7 @@ impl<K: AsksWalk> Rows<K> for PossibleRows {
         let Sources { rows, row_of } = sources;
         let mut rows = TargetsBySource::new(alloc, graph.nodes(), rows.as_slice())?;
         add_targets(&mut rows, row_of.as_slice(), targets.as_slice())?;
-        let atoms = AtomsByNode::new(alloc, Vec::from_slice(alloc, row_of.as_slice())?)?;
+        let atoms = Index::new(alloc, Vec::from_slice(alloc, row_of.as_slice())?)?;
         Ok(PossibleRows {
             rows,
             row_of,
@@ -190,7 +191,7 @@ impl<K: AsksWalk> Rows<K> for PossibleRows {
     fn look_at(
         &mut self,
         frame: &Frame,
-        bounds: &Bounds,
+        part: &Part,
         looked: usize,
         lit: Lit,
         due: &mut Worklist,
@@ -198,12 +199,12 @@ impl<K: AsksWalk> Rows<K> for PossibleRows {
         let _ = frame.seen();
         let _ = &*due;
         // The variable of a literal isn't 0.
-        let var = lit.var();
+        let _ = lit.var();
         if lit.is_positive() {
             return Ok(());
         }
         self.rows
-            .shrink(frame.graph(), bounds.places_of(var), looked as u32 + 1);
+            .shrink(frame.graph(), frame.edges_at(looked), looked as u32 + 1);
         Ok(())
     }
 
@@ -211,7 +212,7 @@ impl<K: AsksWalk> Rows<K> for PossibleRows {
         &mut self,
         alloc: Global,
         frame: &Frame,
-        bounds: &Bounds,
+        part: &Part,
         looked: usize,
         due: &mut Worklist,
     ) -> Result<(), AllocError> {
@@ -221,7 +222,7 @@ impl<K: AsksWalk> Rows<K> for PossibleRows {
             &self.atoms,
             alloc,
             frame.graph(),
-            bounds.over(),
+            part,
             looked as u32,
             due,
         )?;

@@ -2,8 +2,9 @@
 
 ghost use Rattle.std.specs.Prelude.{◌<◌, ◌≤◌, ◌+◌, ◌≡◌, false, not, length, slice_index_or, take, true, IfOk, IfSome, IsTrue, OnErr, OnOk};
 
-use crate::{Bounds, Evidence, Frame, Kind};
+use crate::{Evidence, Frame, Kind, Threat};
 use mono_base::{Lit, Worklist};
+use mono_graph::Part;
 use std::alloc::{AllocError, Global};
 
 /// Rows of what was found along the surely present edges, or along the possibly present ones, by the first nodes of the atoms of
@@ -15,12 +16,12 @@ use std::alloc::{AllocError, Global};
 /// those are put in a set of atoms that are due. Going back drops what came with the other literals, and shows nothing new.
 pub trait Rows<K: Kind>: Drop {
     ghost use Rattle.std.specs.Prelude.{Bool, ℕ};
-    ghost use Rattle.mono_theory.specs.Bound.{edge_vars, IsBoundOf};
     ghost use Rattle.mono_theory.specs.DueAtoms.{PutsDue};
     ghost use Rattle.mono_theory.specs.Evidences.{Decides, IsEvidence, shown_by};
     ghost use Rattle.mono_theory.specs.RowSides.{DecidesRest};
     ghost use Rattle.mono_theory.specs.Supports.{AreCovered, atom_at, part_of};
     ghost use Rattle.mono_theory.specs.Theories.{Facts, cut_to};
+    ghost use Rattle.mono_theory.specs.Threats.{IsThreat};
 
     /// Whether the rows are of the possibly present edges, else of the surely present ones.
     const IS_POSSIBLE: bool;
@@ -46,11 +47,11 @@ pub trait Rows<K: Kind>: Drop {
         ensures { IfOk result (λ rows. are_right rows (cut_to 0 frame.now)) };
 
     /// Looks at the next literal, the one at place `looked`, and puts the atoms in `due` of which it shows something new. The
-    /// bounds are those that the literal leaves. Where memory is missing, it is still to be looked at.
+    /// part is that of the side which the literal leaves. Where memory is missing, it is still to be looked at.
     fn look_at(
         &mut self,
         frame: &Frame,
-        bounds: &Bounds,
+        part: &Part,
         looked: usize,
         lit: Lit,
         due: &mut Worklist,
@@ -59,27 +60,27 @@ pub trait Rows<K: Kind>: Drop {
         requires covered { AreCovered K.covers frame.now.atoms }
         requires more { looked < length frame.now.seen }
         requires next { slice_index_or frame.now.seen looked lit ≡ lit }
-        requires bounds { IsBoundOf bounds.now (edge_vars frame.now.graph) (take (looked + 1) frame.now.seen) }
+        requires part { part.now ≡ part_of frame.now.graph (take (looked + 1) frame.now.seen) IS_POSSIBLE }
         requires size { length due.old.listed ≡ length frame.now.atoms }
         ensures looked { OnOk result (are_right self.new (cut_to (looked + 1) frame.now)) }
         ensures unlooked { OnErr result (are_right self.new (cut_to looked frame.now)) }
         ensures due { PutsDue (length frame.now.atoms) (shown self.old) (shown self.new) due.old.listed due.new.listed };
 
-    /// Brings the rows up to date for the first `looked` literals, whose bounds are given, and puts the atoms in `due` of which
-    /// that shows something new. What is shown of no atom is then decided the other way. Where memory is missing, some rows may
-    /// not be up to date.
+    /// Brings the rows up to date for the first `looked` literals, whose part is given, and puts the atoms in `due` of which that
+    /// shows something new. What is shown of no atom is then decided the other way. Where memory is missing, some rows may not be
+    /// up to date.
     fn settle(
         &mut self,
         alloc: Global,
         frame: &Frame,
-        bounds: &Bounds,
+        part: &Part,
         looked: usize,
         due: &mut Worklist,
     ) -> Result<(), AllocError>
         requires right { are_right self.old (cut_to looked frame.now) }
         requires covered { AreCovered K.covers frame.now.atoms }
         requires looked { looked ≤ length frame.now.seen }
-        requires bounds { IsBoundOf bounds.now (edge_vars frame.now.graph) (take looked frame.now.seen) }
+        requires part { part.now ≡ part_of frame.now.graph (take looked frame.now.seen) IS_POSSIBLE }
         requires size { length due.old.listed ≡ length frame.now.atoms }
         ensures right { are_right self.new (cut_to looked frame.now) }
         ensures stand { OnOk result (stand self.new (cut_to looked frame.now)) }
@@ -126,6 +127,25 @@ pub trait Rows<K: Kind>: Drop {
             (atom_at frame.now.atoms place).predicate)) }
     {
         let _ = (alloc, frame.seen(), looked, place, kept);
+        Ok(None)
+    }
+
+    /// An open edge that would break an atom if it were present, for rows of the surely present edges, or absent, for those of the
+    /// possibly present ones, if one is at hand. All literals were looked at.
+    fn threat(
+        &mut self,
+        alloc: Global,
+        frame: &Frame,
+        looked: usize,
+    ) -> Result<Option<Threat>, AllocError>
+        requires right { are_right self.old (cut_to looked frame.now) }
+        requires covered { AreCovered K.covers frame.now.atoms }
+        requires all { looked ≡ length frame.now.seen }
+        ensures right { are_right self.new (cut_to looked frame.now) }
+        ensures shown { (a : ℕ) → shown self.new a ≡ shown self.old a }
+        ensures threat { IfOk result (λ found. IfSome found (IsThreat frame.now IS_POSSIBLE)) }
+    {
+        let _ = (alloc, frame.seen(), looked);
         Ok(None)
     }
 

@@ -10,24 +10,25 @@
 ghost use Rattle.std.specs.Prelude.{[], ◌≡◌, ◌+◌, ◌<◌, ◌≤◌, ℕ, Bool, false, not, length, min, replicate, take, true, IfOk, IsTrue, OnOk};
 ghost use Rattle.mono_base.specs.Partial.{is_true_in};
 ghost use Rattle.mono_steps.specs.Switching.{literal_of};
-ghost use Rattle.mono_theory.specs.Bound.{IsBoundOf};
 ghost use Rattle.mono_theory.specs.Evidences.{Decides, shown_by as shown_by_of};
 ghost use Rattle.mono_theory.specs.RowSides.{AreRowsFor, AreSettledBut, DecidesRest};
 ghost use Rattle.mono_theory.specs.Supports.{AreCovered, IsSettled, SideIs, atom_at, part_of};
 ghost use Rattle.mono_theory.specs.Theories.{cut_to};
 
-use crate::{Bounds, Evidence, Force, Frame, Kind, Rows, Side, literal, shown_by};
-use mono_base::{Lit, Worklist};
+use crate::index::set_all;
+use crate::{Evidence, Force, Frame, Kind, Question, Rows, Side, Threat, literal, shown_by};
+use mono_base::Worklist;
+use mono_graph::{Graph, Part};
 use std::alloc::{AllocError, Global};
 use std::marker::Model;
 
 /// Rows of what was found along the edges of one side, and the literals that they are of.
 ///
-/// Contracts see the bounds that the literals looked at leave, how many these are, the rows, and which atoms are due.
+/// Contracts see the part of the side that the literals looked at leave, how many these are, the rows, and which atoms are due.
 #[derive(Drop)]
 pub struct RowsSide<R> {
-    /// The bounds that the literals looked at leave.
-    bounds: Bounds,
+    /// The part of the side that the literals looked at leave.
+    part: Part,
     /// So many first literals were looked at.
     looked: usize,
     rows: R,
@@ -40,21 +41,53 @@ impl<R> Model for RowsSide<R> {
 
     ghost Value = { RowsView R };
 
-    ghost view = { λ s. record { bounds = s.bounds; looked = s.looked; rows = s.rows; due = s.due.listed } };
+    ghost view = { λ s. record { part = s.part; looked = s.looked; rows = s.rows; due = s.due.listed } };
 }
 
-/// The bounds go back from the first literals to fewer.
-fn undo_bounds_to(frame: &Frame, bounds: &mut Bounds, looked: usize, kept: usize)
-    requires looked { looked ≤ length frame.now.seen }
-    requires bounds { IsBoundOf bounds.old bounds.old.vars (take looked frame.now.seen) }
-    requires kept { kept ≤ looked }
-    ensures { IsBoundOf bounds.new bounds.old.vars (take kept frame.now.seen) }
+/// The part of a side follows the literal at a place: true variables bring edges to the surely present ones, and false ones
+/// take edges from the possibly present ones.
+fn follow(frame: &Frame, part: &mut Part, place: usize, possible: bool)
+    requires place { place < length frame.now.seen }
+    requires part { part.old ≡ part_of frame.now.graph (take place frame.now.seen) possible }
+    ensures { part.new ≡ part_of frame.now.graph (take (place + 1) frame.now.seen) possible }
 {
     let _ = frame.seen();
+    let lit = frame.literal_at(place);
+    // The variable of a literal isn't 0.
+    let _ = lit.var();
+    if lit.is_positive() == possible {
+        return;
+    }
+    set_all(frame.edges_at(place), part, !possible);
+}
+
+/// The part of a side goes back over the literal at a place.
+fn follow_back(frame: &Frame, part: &mut Part, place: usize, possible: bool)
+    requires place { place < length frame.now.seen }
+    requires part { part.old ≡ part_of frame.now.graph (take (place + 1) frame.now.seen) possible }
+    ensures { part.new ≡ part_of frame.now.graph (take place frame.now.seen) possible }
+{
+    let _ = frame.seen();
+    let lit = frame.literal_at(place);
+    // The variable of a literal isn't 0.
+    let _ = lit.var();
+    if lit.is_positive() == possible {
+        return;
+    }
+    set_all(frame.edges_at(place), part, possible);
+}
+
+/// The part goes back from the first literals to fewer.
+fn undo_part_to(frame: &Frame, part: &mut Part, possible: bool, looked: usize, kept: usize)
+    requires looked { looked ≤ length frame.now.seen }
+    requires part { part.old ≡ part_of frame.now.graph (take looked frame.now.seen) possible }
+    requires kept { kept ≤ looked }
+    ensures { part.new ≡ part_of frame.now.graph (take kept frame.now.seen) possible }
+{
     let mut at = looked;
     'back: while at > kept {
         at -= 1;
-        bounds.undo(frame.literal_at(at));
+        follow_back(frame, part, at, possible);
     }
 }
 
@@ -70,8 +103,7 @@ fn undo_due_to(frame: &Frame, due: &mut Worklist, looked: usize, kept: usize)
     let mut at = looked;
     'back: while at > kept {
         at -= 1;
-        let lit = frame.literal_at(at);
-        due.insert_all(frame.atoms_of(lit.var()));
+        due.insert_all(frame.atoms_at(at));
     }
 }
 
@@ -87,17 +119,17 @@ fn look_at_next<K: Kind, R: Rows<K>>(
 {
     let _ = frame.seen();
     let lit = frame.literal_at(side.looked);
-    side.bounds.assign(lit);
+    follow(frame, &mut side.part, side.looked, R::IS_POSSIBLE);
     match side
         .rows
-        .look_at(frame, &side.bounds, side.looked, lit, &mut side.due)
+        .look_at(frame, &side.part, side.looked, lit, &mut side.due)
     {
         Ok(()) => {
             side.looked += 1;
             Ok(())
         }
         Err(error) => {
-            side.bounds.undo(lit);
+            follow_back(frame, &mut side.part, side.looked, R::IS_POSSIBLE);
             Err(error)
         }
     }
@@ -128,7 +160,7 @@ fn settle<K: Kind, R: Rows<K>>(
     ensures rest { OnOk result (DecidesRest (cut_to side.old.looked frame.now) R.IS_POSSIBLE (R.shown side.new.rows)) }
 {
     side.rows
-        .settle(alloc, frame, &side.bounds, side.looked, &mut side.due)
+        .settle(alloc, frame, &side.part, side.looked, &mut side.due)
 }
 
 /// Whether the rows show something of the atom at a place that its variable doesn't say.
@@ -195,6 +227,19 @@ fn all_due(alloc: Global, count: usize) -> Result<Worklist, AllocError>
     Ok(due)
 }
 
+/// The edges of a side before anything was seen: no edge is surely present, and all are possibly present.
+fn first_part(alloc: Global, graph: &Graph, possible: bool) -> Result<Part, AllocError>
+    ensures { IfOk result (λ part. part ≡ part_of graph.now [] possible) }
+{
+    let edges = graph.edge_count();
+    if possible {
+        let whole = Part::all(alloc, edges)?;
+        return Ok(whole);
+    }
+    let none = Part::none(alloc, edges)?;
+    Ok(none)
+}
+
 /// The rows of a frame that has seen nothing. All atoms are due.
 pub(crate) fn side_of_rows<K: Kind, R: Rows<K>>(
     alloc: Global,
@@ -204,11 +249,11 @@ pub(crate) fn side_of_rows<K: Kind, R: Rows<K>>(
     requires unseen { frame.now.seen ≡ [] }
     ensures { IfOk result (AreRowsFor K.covers R.IS_POSSIBLE R.are_right R.shown frame.now) }
 {
-    let bounds = Bounds::new(alloc, frame.graph())?;
+    let part = first_part(alloc, frame.graph(), R::IS_POSSIBLE)?;
     let due = all_due(alloc, frame.atom_count())?;
     let rows = R::of_frame(alloc, frame)?;
     Ok(RowsSide {
-        bounds,
+        part,
         looked: 0,
         rows,
         due,
@@ -228,8 +273,8 @@ impl<K: Kind, R: Rows<K>> Side<K> for RowsSide<R> {
 
     ghost decides = { λ s f. AreUpToDate R.stand f s };
 
-    fn assign(&mut self, frame: &Frame, lit: Lit) {
-        let _ = (frame.seen(), lit);
+    fn assign(&mut self, frame: &Frame) {
+        let _ = frame.seen();
     }
 
     fn undo_to(&mut self, frame: &Frame, kept: usize) {
@@ -237,7 +282,7 @@ impl<K: Kind, R: Rows<K>> Side<K> for RowsSide<R> {
         if self.looked <= kept {
             return;
         }
-        undo_bounds_to(frame, &mut self.bounds, self.looked, kept);
+        undo_part_to(frame, &mut self.part, R::IS_POSSIBLE, self.looked, kept);
         undo_due_to(frame, &mut self.due, self.looked, kept);
         self.rows.undo_to(frame, self.looked, kept);
         self.looked = kept;
@@ -249,15 +294,29 @@ impl<K: Kind, R: Rows<K>> Side<K> for RowsSide<R> {
         Ok(first_owed::<K, R>(&self.rows, frame, &mut self.due))
     }
 
-    fn evidence(
+    fn explain(
         &self,
         alloc: Global,
-        frame: &Frame,
-        place: u32,
-        kept: usize,
-    ) -> Result<Option<Evidence>, AllocError> {
-        let place = place as usize;
-        let found = self.rows.evidence(alloc, frame, self.looked, place, kept)?;
+        kind: &mut K,
+        frame: &mut Frame,
+        question: Question,
+    ) -> Result<Evidence, AllocError> {
+        let _ = frame.seen();
+        let place = question.place as usize;
+        match self
+            .rows
+            .evidence(alloc, frame, self.looked, place, question.kept)?
+        {
+            Some(evidence) => Ok(evidence),
+            None => frame.evidence_at::<K>(alloc, kind, None, question),
+        }
+    }
+
+    fn threat(&mut self, alloc: Global, frame: &Frame) -> Result<Option<Threat>, AllocError> {
+        if self.looked < frame.seen() {
+            return Ok(None);
+        }
+        let found = self.rows.threat(alloc, frame, self.looked)?;
         Ok(found)
     }
 

@@ -1,9 +1,8 @@
 //! What a theory keeps of its atoms with the surely present edges, or with the possibly present ones.
 
-ghost use Rattle.std.specs.Prelude.{◌≡◌, ◌<◌, ◌≤◌, [], take, length, not, IfOk, IfSome, IsTrue};
+ghost use Rattle.std.specs.Prelude.{◌≡◌, ◌<◌, ◌≤◌, [], length, not, pos, int_lt, IfOk, IfSome};
 
-use crate::{Evidence, Force, Frame, Kind};
-use mono_base::Lit;
+use crate::{Evidence, Force, Frame, Kind, Question, Threat};
 use std::alloc::{AllocError, Global};
 
 /// What is kept of the atoms of a frame on one side, from one question to the next.
@@ -14,12 +13,11 @@ use std::alloc::{AllocError, Global};
 /// came since.
 pub trait Side<K: Kind>: Drop {
     ghost use Rattle.std.specs.Prelude.{Bool, ℕ, ℤ};
-    ghost use Rattle.mono_base.specs.Literal.{var_of};
-    ghost use Rattle.mono_base.specs.Partial.{is_open_in};
-    ghost use Rattle.mono_theory.specs.Evidences.{IsEvidence};
-    ghost use Rattle.mono_theory.specs.Sound.{IsSound};
-    ghost use Rattle.mono_theory.specs.Supports.{AreCovered, SideIs, atom_at, part_of};
-    ghost use Rattle.mono_theory.specs.Theories.{Facts, concerns_of, seeing, cut_to};
+    ghost use Rattle.mono_theory.specs.Evidences.{shown_by};
+    ghost use Rattle.mono_theory.specs.Questions.{IsAnswer, predicate_in};
+    ghost use Rattle.mono_theory.specs.Supports.{AreCovered, SideIs};
+    ghost use Rattle.mono_theory.specs.Theories.{Facts, but_last, cut_to, last_seen};
+    ghost use Rattle.mono_theory.specs.Threats.{IsThreat};
 
     /// Whether the side is that of the possibly present edges.
     ghost possible: { Self → Bool };
@@ -36,14 +34,13 @@ pub trait Side<K: Kind>: Drop {
     /// What is kept decides of each atom what the edges of the side show of its predicate.
     ghost decides: { Self → Facts → Type 0 };
 
-    /// The frame is about to see one more literal. It takes no memory.
-    fn assign(&mut self, frame: &Frame, lit: Lit)
-        requires right { is_right self.old frame.now }
-        requires concerned { IsTrue (concerns_of frame.now.graph frame.now.atoms (var_of lit)) }
-        requires fresh { IsTrue (is_open_in frame.now.seen lit) }
+    /// The frame has seen one more literal, its last one. It takes no memory.
+    fn assign(&mut self, frame: &Frame)
+        requires some { 0 < length frame.now.seen }
+        requires right { is_right self.old (but_last frame.now) }
         ensures sign { possible self.new ≡ possible self.old }
-        ensures keeps { keeps frame.now lit self.old self.new }
-        ensures right { is_right self.new (seeing frame.now lit) };
+        ensures keeps { keeps (but_last frame.now) (last_seen frame.now) self.old self.new }
+        ensures right { is_right self.new frame.now };
 
     /// The frame is about to be cut to its first `kept` literals. It takes no memory.
     fn undo_to(&mut self, frame: &Frame, kept: usize)
@@ -64,35 +61,35 @@ pub trait Side<K: Kind>: Drop {
         ensures answer { IfOk result (SideIs frame.now (possible self.old)) }
         ensures decided { IfOk result (λ answer. answer ≡ Force.Quiet → decides self.new frame.now) };
 
-    /// What shows that the predicate of the atom at a place holds or fails with the edges of the side under the first `kept`
-    /// literals, where it is kept. Else a search finds it.
-    fn evidence(
+    /// What answers a question, where the edges of the side force its literal: what is kept, or else what a search finds.
+    fn explain(
         &self,
         alloc: Global,
-        frame: &Frame,
-        place: u32,
-        kept: usize,
-    ) -> Result<Option<Evidence>, AllocError>
-        requires right { is_right self.now frame.now }
-        requires place { place < length frame.now.atoms }
-        requires within { kept ≤ length frame.now.seen }
-        ensures evidence { IfOk result (λ found. IfSome found
-            (IsEvidence frame.now.graph (part_of frame.now.graph (take kept frame.now.seen) (possible self.now))
-            (atom_at frame.now.atoms place).predicate)) }
-    {
-        let _ = (alloc, frame.seen(), place, kept);
-        Ok(None)
-    }
+        kind: &mut K,
+        frame: &mut Frame,
+        question: Question,
+    ) -> Result<Evidence, AllocError>
+        requires size { K.nodes kind.old ≡ frame.old.graph.nodes }
+        requires covered { AreCovered K.covers frame.old.atoms }
+        requires right { is_right self.now frame.old }
+        requires place { question.place < length frame.old.atoms }
+        requires kept { question.kept ≤ length frame.old.seen }
+        requires its { shown_by (predicate_in frame.old question) (int_lt (pos 0) question.lit) ≡ not (possible self.now) }
+        ensures size { K.nodes kind.new ≡ K.nodes kind.old }
+        ensures same { frame.new ≡ frame.old }
+        ensures evidence { IfOk result (IsAnswer frame.old question) };
 
-    /// Evidence that is kept of the atom at a place, if there is some: on the side of the surely present edges it rests on present
-    /// edges, on that of the possibly present ones on absent edges. It is right wherever these edges are so.
-    fn shown(&self, frame: &Frame, place: u32) -> Option<&Evidence>
-        requires right { is_right self.now frame.now }
-        requires place { place < length frame.now.atoms }
-        ensures { IfSome result (λ e. IsSound frame.now.graph (atom_at frame.now.atoms place).predicate (not (possible self.now)) e.now) }
+    /// An open edge that would break an atom if it were present, on the side of the surely present edges, or absent, on the other
+    /// one, if one is at hand. No promise is made that one is found.
+    fn threat(&mut self, alloc: Global, frame: &Frame) -> Result<Option<Threat>, AllocError>
+        requires covered { AreCovered K.covers frame.now.atoms }
+        requires right { is_right self.old frame.now }
+        ensures sign { possible self.new ≡ possible self.old }
+        ensures right { is_right self.new frame.now }
+        ensures threat { IfOk result (λ found. IfSome found (IsThreat frame.now (possible self.old))) }
     {
-        let _ = (frame.seen(), place);
-        None
+        let _ = (alloc, frame.seen());
+        Ok(None)
     }
 
     /// Whether the variable would better be decided true. The answer is free: nothing rests on it but how long a search takes.
@@ -101,6 +98,16 @@ pub trait Side<K: Kind>: Drop {
     {
         let _ = (frame.seen(), var);
         false
+    }
+
+    /// The variable of an open edge that the atom at a place would have present, if it has to hold and there is one. The answer is
+    /// free: nothing rests on it but how long a search takes.
+    fn wanted(&self, frame: &Frame, place: u32) -> Option<u32>
+        requires right { is_right self.now frame.now }
+        requires place { place < length frame.now.atoms }
+    {
+        let _ = (frame.seen(), place);
+        None
     }
 }
 

@@ -4,17 +4,17 @@
 //! which each row grows, and going back takes from each row what came with later literals (Ramalingam and Reps 1996). What a
 //! row tells of a node changes only where the row says so, and then the atoms are due whose walks are to lead to that node.
 
-ghost use Rattle.std.specs.Prelude.{◌≡◌, ◌+◌, ◌<◌, ◌^◌, ℕ, List, All, IfOk, OnErr, OnOk, length, map, slice_index_or, take};
+ghost use Rattle.std.specs.Prelude.{◌≡◌, ◌+◌, ◌<◌, ◌^◌, All, IfOk, OnErr, OnOk, length, map, slice_index_or};
 ghost use Rattle.std.specs.List.{AllZip};
-ghost use Rattle.mono_theory.specs.Bound.{edge_vars, IsBoundOf};
 ghost use Rattle.mono_theory.specs.DueNodes.{PutsNodes, PutsRows};
-ghost use Rattle.mono_theory.specs.Index.{ArePlacesOf};
+ghost use Rattle.mono_theory.specs.SureParts.{sure_parts};
 ghost use Rattle.mono_theory.specs.SureRows.{row_of_atom, HaveLooked};
 
-use crate::{AtomsByNode, Bounds, Frame};
+use crate::Frame;
+use crate::index::Index;
 use mono_base::{Lit, Worklist};
 use mono_dynamic::{AtNode, BySource, Row};
-use mono_graph::Graph;
+use mono_graph::Part;
 use std::alloc::{AllocError, Global};
 use std::marker::Model;
 
@@ -25,7 +25,7 @@ pub struct SureRows<R> {
     /// By place of an atom its row.
     row_of: Vec<u32>,
     /// The atoms by their last nodes.
-    lasts: AtomsByNode,
+    lasts: Index,
 }
 
 impl<R> Model for SureRows<R> {
@@ -33,23 +33,23 @@ impl<R> Model for SureRows<R> {
 
     ghost Value = { SureRowsView R };
 
-    ghost view = { λ s. record { rows = s.rows; row_of = s.row_of.items; lasts = s.lasts } };
+    ghost view = { λ s. record { rows = s.rows; row_of = s.row_of.items; lasts = s.lasts.keys } };
 }
 
 /// Puts the atoms in `due` whose last nodes have changed in a row after the first `looked` steps.
-fn put_due<R: Row>(lasts: &AtomsByNode, row: &R, looked: u32, due: &mut Worklist)
-    requires { length due.old.listed ≡ length lasts.now }
-    ensures { PutsNodes lasts.now (map R.Change.node (R.changed_after looked row.now)) due.old.listed due.new.listed }
+fn put_due<R: Row>(lasts: &Index, row: &R, looked: u32, due: &mut Worklist)
+    requires { length due.old.listed ≡ length lasts.now.keys }
+    ensures { PutsNodes lasts.now.keys (map R.Change.node (R.changed_after looked row.now)) due.old.listed due.new.listed }
 {
     for change in row.changes_after(looked) {
-        lasts.insert(change.node(), due);
+        lasts.insert_places(change.node(), due);
     }
 }
 
 /// Puts the atoms in `due` whose last nodes have changed in some row after the first `looked` steps.
-fn put_each_due<R: Row>(lasts: &AtomsByNode, rows: &BySource<R>, looked: u32, due: &mut Worklist)
-    requires { length due.old.listed ≡ length lasts.now }
-    ensures { PutsRows lasts.now (λ r. map R.Change.node (R.changed_after looked r)) rows.now (length rows.now)
+fn put_each_due<R: Row>(lasts: &Index, rows: &BySource<R>, looked: u32, due: &mut Worklist)
+    requires { length due.old.listed ≡ length lasts.now.keys }
+    ensures { PutsRows lasts.now.keys (λ r. map R.Change.node (R.changed_after looked r)) rows.now (length rows.now)
         due.old.listed due.new.listed }
 {
     for i in 0..rows.count() {
@@ -71,7 +71,7 @@ impl<R: Row> SureRows<R> {
         ensures { IfOk result (λ s. s
             ≡ record { rows = map (R.at_first nodes) sources.now; row_of = row_of.items; lasts = lasts.items }) }
     {
-        let lasts = AtomsByNode::new(alloc, lasts)?;
+        let lasts = Index::new(alloc, lasts)?;
         let rows = BySource::new(alloc, nodes, sources)?;
         Ok(SureRows {
             rows,
@@ -89,35 +89,12 @@ impl<R: Row> SureRows<R> {
         self.rows.row(self.row_of[place] as usize)
     }
 
-    /// The edges of a variable have come, with the literal after the first `looked`, which leaves these bounds.
-    fn grow(
-        &mut self,
-        graph: &Graph,
-        bounds: &Bounds,
-        looked: usize,
-        var: u32,
-    ) -> Result<(), AllocError>
-        requires rows { All (R.fits graph.now.nodes looked) self.old.rows }
-        requires looked { looked + 1 < 2 ^ 32 }
-        requires vars { bounds.now.vars ≡ edge_vars graph.now }
-        ensures same { OnOk result (self.new ≡ record self.old { rows = self.new.rows }) }
-        ensures grown { OnOk result ((ks : List ℕ) × ArePlacesOf bounds.now.vars var ks
-            × AllZip (R.grown graph.now bounds.now.under ks looked) self.old.rows self.new.rows) }
-        ensures unchanged { OnErr result (self.new ≡ self.old) }
-    {
-        let _ = graph.nodes();
-        let places = bounds.places_of(var);
-        let part = bounds.under();
-        self.rows.grow(graph, part, places, looked as u32)?;
-        Ok(())
-    }
-
     /// Looks at the next literal, the one at place `looked`, and puts the atoms in `due` whose last nodes change in a row by it.
-    /// The bounds are those that the literal leaves. Where memory is missing, all is as before.
+    /// The part is that of the surely present edges which the literal leaves. Where memory is missing, all is as before.
     pub fn look_at(
         &mut self,
         frame: &Frame,
-        bounds: &Bounds,
+        part: &Part,
         looked: usize,
         lit: Lit,
         due: &mut Worklist,
@@ -125,7 +102,7 @@ impl<R: Row> SureRows<R> {
         requires rows { All (R.fits frame.now.graph.nodes looked) self.old.rows }
         requires more { looked < length frame.now.seen }
         requires next { slice_index_or frame.now.seen looked lit ≡ lit }
-        requires bounds { IsBoundOf bounds.now (edge_vars frame.now.graph) (take (looked + 1) frame.now.seen) }
+        requires part { part.now ≡ sure_parts frame.now (looked + 1) }
         requires size { length due.old.listed ≡ length self.old.lasts }
         ensures looked { OnOk result (HaveLooked R.grown (λ n r. map R.Change.node (R.changed_after n r)) frame.now looked
             self.old self.new due.old.listed due.new.listed) }
@@ -134,11 +111,14 @@ impl<R: Row> SureRows<R> {
     {
         let _ = frame.seen();
         // The variable of a literal isn't 0.
-        let var = lit.var();
+        let _ = lit.var();
         if !lit.is_positive() {
             return Ok(());
         }
-        self.grow(frame.graph(), bounds, looked, var)?;
+        let graph = frame.graph();
+        let _ = graph.nodes();
+        self.rows
+            .grow(graph, part, frame.edges_at(looked), looked as u32)?;
         put_each_due::<R>(&self.lasts, &self.rows, looked as u32, due);
         Ok(())
     }

@@ -28,6 +28,14 @@ pub enum Force {
     Literal { atom: u32, lit: Lit },
 }
 
+/// A lemma that is unit: one literal of its clause is open, and all others are false.
+#[derive(Drop)]
+pub struct UnitLemma {
+    /// The literal that is open.
+    pub lit: Lit,
+    pub lemma: Lemma,
+}
+
 /// Atoms over one graph that see a list of literals over different variables, each of which concerns them.
 ///
 /// No call changes the graph or the atoms. A call that finds no memory leaves the list, and may be made again.
@@ -37,7 +45,7 @@ pub trait Theory: Drop {
     ghost use Rattle.mono_base.specs.Partial.{is_open_in};
     ghost use Rattle.mono_graph.specs.Digraph.{Digraph};
     ghost use Rattle.mono_problem.specs.declared.atom.Atom.{Atom};
-    ghost use Rattle.mono_theory.specs.Theories.{concerns_of, owns_of, ForcesBy, IsLemmaOf, ForceIs, FindingIs};
+    ghost use Rattle.mono_theory.specs.Theories.{concerns_of, owns_of, ForcesBy, IsLemmaOf, IsUnitLemma, ForceIs, FindingIs};
     ghost use Rattle.mono_theory.specs.Variables.{AreVarsOf};
 
     /// The graph.
@@ -63,6 +71,12 @@ pub trait Theory: Drop {
     fn prefers(&self, var: u32) -> bool {
         let _ = var;
         false
+    }
+
+    /// The variable of an edge that would better be decided true next, if there is one. The answer is free: nothing rests on it
+    /// but how long a search takes.
+    fn wanted(&self) -> Option<u32> {
+        None
     }
 
     /// How many literals were seen.
@@ -95,6 +109,17 @@ pub trait Theory: Drop {
         ensures atoms { atoms self.new ≡ atoms self.old }
         ensures seen { seen self.new ≡ seen self.old }
         ensures answer { IfOk result (ForceIs (graph self.old) (atoms self.old) (seen self.old)) };
+
+    /// A lemma of one of the atoms that is unit under the literals seen, if one is at hand: in good time, before its open literal
+    /// makes an atom force what is false. No promise is made that one is found.
+    fn unit_lemma(&mut self) -> Result<Option<UnitLemma>, AllocError>
+        ensures graph { graph self.new ≡ graph self.old }
+        ensures atoms { atoms self.new ≡ atoms self.old }
+        ensures seen { seen self.new ≡ seen self.old }
+        ensures lemma { IfOk result (λ found. IfSome found (λ u. IsUnitLemma (graph self.old) (atoms self.old) (seen self.old) u.lit u.lemma)) }
+    {
+        Ok(None)
+    }
 
     /// The lemma of a literal that the atom forces by the first `kept` literals seen: it has that literal, and under those
     /// literals its others are false.

@@ -39,3 +39,15 @@ pub(crate) fn any_wants(
     }
     false
 }
+
+/// The variable of the first of these edges that is open.
+pub(crate) fn first_open(frame: &Frame, edges: &[u32]) -> Option<u32>
+    requires { All (λ k. k < length frame.now.graph.edges) edges.now }
+{
+    for edge in edges {
+        if frame.part(true).has(*edge) && !frame.part(false).has(*edge) {
+            return Some(frame.graph().edge(*edge).var);
+        }
+    }
+    None
+}

@@ -12,7 +12,7 @@ use Rattle.mono_base.proofs.Partials.{open_is_new, is_partial-push, is_partial-t
 use Rattle.mono_trail.specs.declared.reason.Mark.{Mark}
 use Rattle.mono_trail.specs.declared.reason.Reason.{Reason}
 use Rattle.mono_trail.specs.declared.reason.Reason.TheVariants.{Clause, Late}
-use Rattle.mono_trail.specs.Kept.{IsKept, starts_after, unvalued}
+use Rattle.mono_trail.specs.Kept.{HoldTrail, starts_after, unvalued}
 use Rattle.mono_trail.specs.Moves.{joined, lowered, settled, settled_at, HasLate}
 use Rattle.mono_trail.specs.Places.{no_mark, level_at, reason_at}
 use Rattle.mono_trail.specs.TrailView.{TrailView, IsSound, count_to, next_level}
@@ -49,9 +49,9 @@ has_room t l s r o =
       level = omega (arith, climbs_bound 0 t.marks t.level s.climbs, s.as_many);
     }
 
-pub kept_join : (t u : TrailView) (values values' : List Value) (places places' starts starts' : List ℕ) (a b c a' b' c' : ℕ) (l : ℤ) (why : Reason) → IsKept t values places starts a b c → IsLitWithin t.vars l → IsTrue (is_open_in t.lits l)
+pub kept_join : (t u : TrailView) (values values' : List Value) (places places' starts starts' : List ℕ) (a b c a' b' c' : ℕ) (l : ℤ) (why : Reason) → HoldTrail t values places starts a b c → IsLitWithin t.vars l → IsTrue (is_open_in t.lits l)
     → u ≡ joined t l why → values' ≡ set (set values (slot l) Yes) (slot (neg_ℤ l)) No → places' ≡ set places (var_of l) (length t.lits) → starts' ≡ starts_after why starts (length t.lits)
-    → a ≤ a' → b ≤ b' → c ≤ c' → IsKept u values' places' starts' a' b' c'
+    → a ≤ a' → b ≤ b' → c ≤ c' → HoldTrail u values' places' starts' a' b' c'
 kept_join t u values values' places places' starts starts' a b c a' b' c' l why k r o eu ev ep es la lb lc =
     rw (eu, ev, ep, es) (record {
       sound = sound_join t l why k.sound r o;
@@ -78,9 +78,9 @@ sound_back t level s le =
       given_in = omega (arith, s.given_in, length-take n t.lits, s.as_many, count_within level t.marks);
     }
 
-pub kept_back : (t u : TrailView) (values values' : List Value) (places starts starts' : List ℕ) (a b c a' b' c' level : ℕ) → IsKept t values places starts a b c → level ≤ t.level
+pub kept_back : (t u : TrailView) (values values' : List Value) (places starts starts' : List ℕ) (a b c a' b' c' level : ℕ) → HoldTrail t values places starts a b c → level ≤ t.level
     → u ≡ lowered level t → values' ≡ unvalued (drop (count_to level t.marks) t.lits) values → starts' ≡ take level starts
-    → a ≤ a' → b ≤ b' → c ≤ c' → IsKept u values' places starts' a' b' c'
+    → a ≤ a' → b ≤ b' → c ≤ c' → HoldTrail u values' places starts' a' b' c'
 kept_back t u values values' places starts starts' a b c a' b' c' level k le eu ev es la lb lc =
     rw (eu, ev, es) (record {
       sound = sound_back t level k.sound le;
@@ -106,13 +106,13 @@ sound_settle t k a q n s e = record {
 }
 
 -- where the table says that the variable stands, there its late reason is
-pub late_at : {t : TrailView} {values : List Value} {places starts : List ℕ} {a b c : ℕ} (v k : ℕ) → IsKept t values places starts a b c → v ≤ t.vars → (late : HasLate t v) → k ≡ get_or places v k → k ≡ late.place
+pub late_at : {t : TrailView} {values : List Value} {places starts : List ℕ} {a b c : ℕ} (v k : ℕ) → HoldTrail t values places starts a b c → v ≤ t.vars → (late : HasLate t v) → k ≡ get_or places v k → k ≡ late.place
 late_at {t} {values} {places} v k kept high late e = get_or_read places v k (omega (arith, high, kept.places_are.slots)) e 0 ∙ place_read t.vars t.lits places v late.place kept.places_are late.is
 
-pub late_within : {t : TrailView} {values : List Value} {places starts : List ℕ} {a b c : ℕ} (v k : ℕ) → IsKept t values places starts a b c → v ≤ t.vars → HasLate t v → k ≡ get_or places v k → k < length t.marks
+pub late_within : {t : TrailView} {values : List Value} {places starts : List ℕ} {a b c : ℕ} (v k : ℕ) → HoldTrail t values places starts a b c → v ≤ t.vars → HasLate t v → k ≡ get_or places v k → k < length t.marks
 late_within v k kept high late e = omega (arith, late_at v k kept high late e, mark_within v late.place kept.sound late.is)
 
-pub settles : {t : TrailView} {values : List Value} {places starts : List ℕ} {a b c : ℕ} (v k n : ℕ) (m : Mark) → IsKept t values places starts a b c → v ≤ t.vars → HasLate t v → k ≡ get_or places v k → m ≡ get_or t.marks k m
+pub settles : {t : TrailView} {values : List Value} {places starts : List ℕ} {a b c : ℕ} (v k n : ℕ) (m : Mark) → HoldTrail t values places starts a b c → v ≤ t.vars → HasLate t v → k ≡ get_or places v k → m ≡ get_or t.marks k m
     → record t { marks = set t.marks k (record { level = m.level; reason = Clause n }) } ≡ settled t v n
 settles {t} v k n m kept high late e f =
     let at = late_at v k kept high late e in
@@ -120,7 +120,7 @@ settles {t} v k n m kept high late e f =
     rw late.is (subst (λ (j : ℕ). record t { marks = set t.marks j (record { level = m.level; reason = Clause n }) } ≡ settled_at t late.place n) (sym at)
     (ap (λ (l : ℕ). record t { marks = set t.marks late.place (record { level = l; reason = Clause n }) }) (ap (λ (q : Mark). q.level) mark)))
 
-pub kept_settle : {t : TrailView} {values : List Value} {places starts : List ℕ} {a b c : ℕ} (v n : ℕ) → IsKept t values places starts a b c → HasLate t v → IsKept (settled t v n) values places starts a b c
+pub kept_settle : {t : TrailView} {values : List Value} {places starts : List ℕ} {a b c : ℕ} (v n : ℕ) → HoldTrail t values places starts a b c → HasLate t v → HoldTrail (settled t v n) values places starts a b c
 kept_settle {t} v n kept late =
     rw late.is (record {
       sound = sound_settle t late.place late.atom late.kept n kept.sound late.late;

@@ -1,9 +1,18 @@
--- Which variables stand in an order after one is given back.
+-- Which variables stand in an order after some left it, and after one is given back.
 use Rattle.std.proofs.Common.{◌≡◌, ℕ, zero, suc, ◌+◌, ◌<◌, ◌≤◌, Bool, true, false, List, [], ◌∷◌, length, get_or, set, refl, arith, inl, inr, subst}
-use Rattle.std.specs.Prelude.{IsTrue}
+use Rattle.std.specs.Prelude.{ℤ, pos, IsTrue}
 use Rattle.std.proofs.lemmas.List.{get_or-set_same}
 use Rattle.std.proofs.lemmas.Bool.{cases_eq}
 use Rattle.mono_base.specs.Literal.{value_in}
+use Rattle.mono_base.specs.Partial.{is_open_in}
+use Rattle.mono_trail.specs.Order.{OrderView}
+
+-- some variables left the order, all of which have values
+pub record AssignedLeft (o r : OrderView) (t : List ℤ) : Type 0 where
+  pub as_many : length r.waits ≡ length o.waits
+  pub phases : r.phases ≡ o.phases
+  pub stay : (w : ℕ) → IsTrue (is_open_in t (pos w)) → IsTrue (value_in o.waits w) → IsTrue (value_in r.waits w)
+  pub none_new : (w : ℕ) → IsTrue (value_in r.waits w) → IsTrue (value_in o.waits w)
 
 set_true : (ws : List Bool) (i k : ℕ) → get_or ws k false ≡ true → get_or (set ws i true) k false ≡ true
 set_true [] i k h = h

@@ -31,7 +31,7 @@ starts_after (Clause n) starts place = starts
 starts_after (Late atom kept) starts place = starts
 
 -- what the fields keep
-pub record IsKept (t : TrailView) (values : List Value) (places starts : List ℕ) (lit_room mark_room start_room : ℕ) : Type 0 where
+pub record HoldTrail (t : TrailView) (values : List Value) (places starts : List ℕ) (lit_room mark_room start_room : ℕ) : Type 0 where
   pub sound : IsSound t
   pub values_are : AreValues t.vars t.lits values
   pub places_are : ArePlaces t.vars t.lits places

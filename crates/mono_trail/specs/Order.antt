@@ -17,13 +17,6 @@ all_wait vars = record { waits = replicate vars true; phases = replicate vars fa
 pub record AllOpenWait (o : OrderView) (t : List ℤ) : Type 0 where
   pub at : (v : ℕ) → IsVar (length o.waits) v → IsTrue (is_open_in t (pos v)) → IsTrue (value_in o.waits v)
 
--- some variables left the order, all of which have values
-pub record AssignedLeft (o r : OrderView) (t : List ℤ) : Type 0 where
-  pub as_many : length r.waits ≡ length o.waits
-  pub phases : r.phases ≡ o.phases
-  pub stay : (w : ℕ) → IsTrue (is_open_in t (pos w)) → IsTrue (value_in o.waits w) → IsTrue (value_in r.waits w)
-  pub none_new : (w : ℕ) → IsTrue (value_in r.waits w) → IsTrue (value_in o.waits w)
-
 -- the open variable v leaves the order, and of the others only some that have values
 pub record Leaves (o r : OrderView) (t : List ℤ) (v : ℕ) : Type 0 where
   pub as_many : length r.waits ≡ length o.waits

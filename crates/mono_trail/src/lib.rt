@@ -7,12 +7,12 @@
 mod heap;
 /// What holds of the definitions alone.
 pub mod laws;
+mod luby_sequence;
 mod order;
 mod reason;
-mod restarts;
 mod trail;
 
+pub use luby_sequence::luby;
 pub use order::Order;
 pub use reason::{Mark, Reason};
-pub use restarts::luby;
 pub use trail::Trail;

@@ -46,7 +46,7 @@ pub struct Trail {
 
 impl Model for Trail {
     ghost use Rattle.std.specs.Prelude.{vec_capacity};
-    ghost use Rattle.mono_trail.specs.Kept.{IsKept};
+    ghost use Rattle.mono_trail.specs.Kept.{HoldTrail};
     ghost use Rattle.mono_trail.specs.Seen.{IsUnseen};
     ghost use Rattle.mono_trail.specs.TrailView.{TrailView};
 
@@ -54,7 +54,7 @@ impl Model for Trail {
 
     ghost view = { λ s. record { vars = s.vars; lits = s.lits.items; marks = s.marks.items; level = s.level; given = s.given } };
 
-    ghost invariant = { λ s. IsKept (record {
+    ghost invariant = { λ s. HoldTrail (record {
       vars = s.vars;
       lits = s.lits.items;
       marks = s.marks.items;
@@ -113,6 +113,13 @@ impl Trail {
         ensures sound { IsSound self.now }
     {
         self.level
+    }
+
+    /// What holds of every trail. Nothing is computed: it is there for the clause.
+    pub fn known(&self)
+        ensures sound { IsSound self.now }
+    {
+        let _ = &self.level;
     }
 
     /// The literals, in the order in which they came.

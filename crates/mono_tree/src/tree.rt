@@ -132,6 +132,8 @@ impl Kind for Tree {
 
     const MOST_FOLLOWED: u32 = 1;
 
+    const LEAST_FOLLOWED: u32 = 5_000;
+
     fn with_nodes(alloc: Global, count: u32) -> Result<Self, AllocError> {
         let finder = TreeFinder::new(alloc, count)?;
         let marks = NodeMarks::new(alloc, count)?;

@@ -10,3 +10,4 @@ pub mod Going
 pub mod Sweeping
 pub mod Decides
 pub mod Collecting
+pub mod LabelLists

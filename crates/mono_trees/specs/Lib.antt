@@ -7,3 +7,4 @@ pub mod Found
 pub mod Swept
 pub mod Checker
 pub mod Unbridged
+pub mod Lists

@@ -8,7 +8,7 @@ ghost use Rattle.std.specs.Prelude.{◌≡◌, ◌≢◌, ◌==◌, ◌<◌, ◌
 ghost use Rattle.std.specs.List.{list_all, range_with_len};
 ghost use Rattle.mono_graph.specs.declared.edge.Edge.{Edge};
 ghost use Rattle.mono_graph.specs.Digraph.{has};
-ghost use Rattle.mono_base.specs.Buckets.{lists_of};
+ghost use Rattle.mono_trees.specs.Lists.{lists_of};
 ghost use Rattle.mono_trees.specs.Kept.{AreLists, moved_label};
 ghost use Rattle.mono_trees.specs.Tells.{Tells, same_label};
 
@@ -27,7 +27,7 @@ pub struct Components {
 
 impl Model for Components {
     ghost use Rattle.std.specs.Prelude.{List, ℕ};
-    ghost use Rattle.mono_base.specs.Buckets.{lists_of};
+    ghost use Rattle.mono_trees.specs.Lists.{lists_of};
     ghost use Rattle.mono_trees.specs.Kept.{AreLists, moved_label};
 
     ghost Value = { List ℕ };

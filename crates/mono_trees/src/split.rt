@@ -116,7 +116,7 @@ pub fn is_split(
     ensures marked { (u : ℕ) → IsTrue (slice_index_or seen.new.items u false) → IsTrue (has nodes.now u) }
 {
     // The edges of a graph lead to its nodes.
-    let _ = graph.nodes();
+    graph.known();
     if nodes.is_empty() {
         return false;
     }

@@ -97,7 +97,7 @@ fn found_over_one(alloc: Global, problem: &Problem) -> Result<Option<bool>, Allo
     requires graph { (atom_numbered problem.now 1).graph ≡ 0 }
     requires walk { IsTrue (is_reach (atom_numbered problem.now 1).predicate) }
 {
-    let _ = problem.vars();
+    problem.known();
     let theory = ReachTheory::new(alloc, problem, 0, &[1])?;
     let mut theories = Vec::new(alloc);
     theories.push(Wrapped { theory })?;

@@ -13,7 +13,7 @@ use Rattle.mono_best.proofs.improving.best.Goals as goal
 
 pub returns-in-Spent : goal.returns-in-Spent
 returns-in-Spent g c =
-    c.spent.ensures c.args.budget (subst (λ (r : Reply). IsReply c.args.problem.now c.args.atom c.args.budget c.loop-signs.number r) c.in-Spent.is c.in_ok-steps.ensures)
+    c.spent.ensures c.args.budget c.loop-signs.met c.loop-signs.invariant.1 (subst (λ (r : Reply). IsReply c.args.problem.now c.args.atom c.args.budget c.loop-signs.number r) c.in-Spent.is c.in_ok-steps.ensures)
 
 pub returns-in-Refuted : goal.returns-in-Refuted
 returns-in-Refuted g c = c.refuted.ensures c.args.budget

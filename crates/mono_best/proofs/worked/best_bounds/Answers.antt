@@ -1,18 +1,16 @@
-use Rattle.std.proofs.Common.{ℕ, zero, suc, Bool, [], ◌∷◌, refl, arith, pos, ◌↔◌}
+use Rattle.std.proofs.Common.{ℕ, Bool, [], ◌∷◌, refl, arith, pos, ◌↔◌}
 use Rattle.std.specs.Prelude.{IsTrue}
 use Rattle.std.proofs.lemmas.Int.{ints}
 use Rattle.std.proofs.lemmas.List.Elements.{All-cons, All-nil}
-use Rattle.mono_graph.specs.Digraph.{enabled, present}
-use Rattle.mono_graph.specs.declared.limit.Limit.TheVariants as limit
-use Rattle.mono_graph.specs.Worked.{label, pipe, both}
+use Rattle.mono_graph.specs.Digraph.{enabled}
+use Rattle.mono_graph.specs.Worked.{pipe}
 use Rattle.mono_problem.specs.declared.atom.Atom.{Atom}
 use Rattle.mono_problem.specs.declared.atom.Predicate.TheVariants as kind
-use Rattle.mono_problem.specs.Holds.{Holds, HoldsAtom, Satisfies}
+use Rattle.mono_problem.specs.Holds.{HoldsAtom, Satisfies}
 use Rattle.mono_problem.specs.Worked.{only}
-use Rattle.mono_problem.proofs.Monotone.{Holds-larger}
-use Rattle.mono_graph.proofs.CutsBoundWalks.{labelling_excludes}
 use Rattle.mono_best.specs.Worked.{weighed, distance_to_2}
 use Rattle.mono_best.proofs.Optimal.{next_met}
+use Rattle.mono_best.proofs.WorkedBest.{none_of_four}
 use Rattle.mono_best.proofs.worked.best_bounds.Goals as goal
 
 -- both edges are there
@@ -24,17 +22,6 @@ satisfied =
     let P : Atom → Type 0 = λ x. IsTrue (all x.var) ↔ HoldsAtom (weighed []) all x in
     let one : P (distance_to_2 1 5 (pos 9)) = ((λ e. (0 ∷ 1 ∷ [], refl)), (λ h. refl)) in
     (refl, All-cons P (distance_to_2 1 5 (pos 9)) [] one (All-nil P))
-
--- with some of the edges no walk weighs 4 or less
-in_both : (x y : Bool) (k : ℕ) → IsTrue (present (x ∷ y ∷ []) k) → IsTrue (present both k)
-in_both x y zero h = refl
-in_both x y (suc zero) h = refl
-in_both x y (suc (suc k)) h = h
-
-none_of_four : (a : ℕ → Bool) → Holds (pipe 3 2) (enabled a (pipe 3 2)) (kind.Distance 0 2 (pos 4)) → ⊥
-none_of_four a h =
-    let larger = Holds-larger (pipe 3 2) (enabled a (pipe 3 2)) both (record { keeps = in_both (a 1) (a 2) }) (kind.Distance 0 2 (pos 4)) refl h in
-    labelling_excludes (pipe 3 2) both 0 2 (limit.Weight (pos 4)) (label 0 0 ∷ label 1 3 ∷ label 2 5 ∷ []) larger.0 (λ e. cc) refl larger.1
 
 pub returns-clause-five : goal.returns-clause-five
 returns-clause-five c = record {

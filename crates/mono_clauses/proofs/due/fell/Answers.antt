@@ -15,5 +15,5 @@ returns-in-Some c = by_test (leb c.args.level c.in-Some.own) refl
     own = c.in-Some.ensures ∙ ap (λ (v : ℕ). option_map (level_at c.args.trail.now.marks) (place_in c.args.trail.now.lits v)) c.var.ensures.value
 
     by_test : (b : Bool) → leb c.args.level c.in-Some.own ≡ b → OnTrue b (FellAt c.args.trail.now c.args.level c.args.lit)
-    by_test true e = fell_at c.args.trail.now c.in-Some.own c.args.level c.args.lit c.level.ensures.sound own (leb-true c.args.level c.in-Some.own e)
+    by_test true e = fell_at c.args.trail.now c.in-Some.own c.args.level c.args.lit c.known.ensures.sound own (leb-true c.args.level c.in-Some.own e)
     by_test false e = tt

@@ -14,4 +14,4 @@ returns-clause-yes c =
     let two : IsAnotherUnfalse c.args.trail.now.lits c.literals-clause.result.now c.in-Some.first c.in-Some-another_unfalse.second = c.in-Some-another_unfalse.ensures.some in
     let one_here : IsUnfalse c.args.trail.now.lits (clause_at c.args.clauses.now.list c.args.place).lits c.in-Some.first = subst (λ (d : List ℤ). IsUnfalse c.args.trail.now.lits d c.in-Some.first) c.literals-clause.ensures.value one in
     let two_here : IsAnotherUnfalse c.args.trail.now.lits (clause_at c.args.clauses.now.list c.args.place).lits c.in-Some.first c.in-Some-another_unfalse.second = subst (λ (d : List ℤ). IsAnotherUnfalse c.args.trail.now.lits d c.in-Some.first c.in-Some-another_unfalse.second) c.literals-clause.ensures.value two in
-    attach_watched c.args.clauses.now.list c.args.watches.now c.attach_both.new.self c.args.trail.now c.args.place c.in-Some.first c.in-Some-another_unfalse.second c.level.ensures.sound c.requires.following c.requires.in_range one_here two_here c.attach_both.ensures
+    attach_watched c.args.clauses.now.list c.args.watches.now c.attach_both.new.self c.args.trail.now c.args.place c.in-Some.first c.in-Some-another_unfalse.second c.known.ensures.sound c.requires.following c.requires.in_range one_here two_here c.attach_both.ensures

@@ -27,10 +27,10 @@ attach_both-requires-2-clause-both c = second_idle c.args.clauses.now.list c.arg
 
 pub returns-in_default-late : goal.returns-in_default-late
 returns-in_default-late c =
-    attach_alone c.args.clauses.now.list c.args.watches.now c.attach_both.new.self c.args.trail.now c.args.place c.in-Some.level c.args.first c.level.ensures.sound c.requires.following c.requires.in_range c.requires.has c.requires.holds (own (goal.at.returns-in_default-late c).In-Some) (omega arith) c.attach_both.ensures
+    attach_alone c.args.clauses.now.list c.args.watches.now c.attach_both.new.self c.args.trail.now c.args.place c.in-Some.level c.args.first c.known.ensures.sound c.requires.following c.requires.in_range c.requires.has c.requires.holds (own (goal.at.returns-in_default-late c).In-Some) (omega arith) c.attach_both.ensures
 
 pub returns : goal.returns
 returns c =
     let l : IsLate c.args.trail.now c.literals-clause.result.now c.args.first c.in-Some.level c.in-Some-late.second = c.in-Some-late.ensures in
     let here : IsLate c.args.trail.now (clause_at c.args.clauses.now.list c.args.place).lits c.args.first c.in-Some.level c.in-Some-late.second = subst (λ (d : List ℤ). IsLate c.args.trail.now d c.args.first c.in-Some.level c.in-Some-late.second) c.literals-clause.ensures.value l in
-    attach_late c.args.clauses.now.list c.args.watches.now c.attach_both-2.new.self c.args.trail.now c.args.place c.in-Some.level c.args.first c.in-Some-late.second c.level.ensures.sound c.requires.following c.requires.in_range c.requires.has c.requires.holds (own (goal.at.returns c).In-Some) here c.attach_both-2.ensures
+    attach_late c.args.clauses.now.list c.args.watches.now c.attach_both-2.new.self c.args.trail.now c.args.place c.in-Some.level c.args.first c.in-Some-late.second c.known.ensures.sound c.requires.following c.requires.in_range c.requires.has c.requires.holds (own (goal.at.returns c).In-Some) here c.attach_both-2.ensures

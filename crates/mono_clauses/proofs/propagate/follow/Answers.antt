@@ -9,21 +9,21 @@ use Rattle.mono_clauses.specs.Propagation.{same as nothing}
 use Rattle.mono_clauses.specs.Visits.{Visited, Failed, IsDue}
 use Rattle.mono_trail.specs.TrailView.{TrailView}
 use Rattle.mono_clauses.proofs.propagate.follow.Goals as goal
-use Rattle.mono_clauses.proofs.propagate.follow.Goals.{After-level}
+use Rattle.mono_clauses.proofs.propagate.follow.Goals.{After-known}
 
 pub queue-init : goal.queue-init
 queue-init c = record { same = refl; vars = refl; following = c.requires.following; grows = nothing c.args.trail.now refl; before = NoneBefore-same c.args.watches.now.watched }
 
-range : (c : After-level) → IsLitWithin c.next_due.new.self.vars (neg_ℤ c.in-Some.lit)
-range c = due_range c.next_due.new.self c.in-Some.lit c.level.ensures.sound (given_stands c.queue.trail c.next_due.new.self c.in-Some.lit c.in-Some.ensures.some.0 c.in-Some.ensures.some.1 c.in-Some.ensures.some.2)
+range : (c : After-known) → IsLitWithin c.next_due.new.self.vars (neg_ℤ c.in-Some.lit)
+range c = due_range c.next_due.new.self c.in-Some.lit c.known.ensures.sound (given_stands c.queue.trail c.next_due.new.self c.in-Some.lit c.in-Some.ensures.some.0 c.in-Some.ensures.some.1 c.in-Some.ensures.some.2)
 
 pub visit_watchers-requires-clause-due : goal.visit_watchers-requires-clause-due
 visit_watchers-requires-clause-due c =
-    subst (λ (q : ClausesView). IsDue q.list c.queue.watches c.next_due.new.self c.negated.result) (sym c.queue.invariant.same) (rw c.negated.ensures (due_now c.args.clauses.now.list c.queue.watches c.queue.trail c.next_due.new.self c.in-Some.lit c.level.ensures.sound c.in-Some.ensures.some.0 c.queue.invariant.following c.in-Some.ensures.some.1 c.in-Some.ensures.some.2))
+    subst (λ (q : ClausesView). IsDue q.list c.queue.watches c.next_due.new.self c.negated.result) (sym c.queue.invariant.same) (rw c.negated.ensures (due_now c.args.clauses.now.list c.queue.watches c.queue.trail c.next_due.new.self c.in-Some.lit c.known.ensures.sound c.in-Some.ensures.some.0 c.queue.invariant.following c.in-Some.ensures.some.1 c.in-Some.ensures.some.2))
 
 pub visit_watchers-requires-clause-in_range : goal.visit_watchers-requires-clause-in_range
 visit_watchers-requires-clause-in_range c =
-    let r = range (goal.at.visit_watchers-requires-clause-in_range c).After-level in
+    let r = range (goal.at.visit_watchers-requires-clause-in_range c).After-known in
     let v : c.next_due.new.self.vars ≡ c.queue.watches.vars = ap (λ (q : TrailView). q.vars) c.in-Some.ensures.some.0 ∙ sym c.queue.invariant.following.vars in
     rw c.negated.ensures (subst (λ (n : ℕ). IsLitWithin n (neg_ℤ c.in-Some.lit)) v r)
 
@@ -36,7 +36,7 @@ returns-in-Some-visit_watchers-clause-some c =
 pub queue-smaller : goal.queue-smaller
 queue-smaller c =
     let v : Visited c.args.clauses.now.list c.queue.watches c.visit_watchers.new.watches c.next_due.new.self c.visit_watchers.new.trail = subst (λ (q : ClausesView). Visited q.list c.queue.watches c.visit_watchers.new.watches c.next_due.new.self c.visit_watchers.new.trail) c.queue.invariant.same c.in_default-visit_watchers.ensures.none in
-    queue_falls c.args.clauses.now.list c.queue.trail c.next_due.new.self c.visit_watchers.new.trail c.level.ensures.sound c.in-Some.ensures.some.0 c.in-Some.ensures.some.1 v.grows v.given
+    queue_falls c.args.clauses.now.list c.queue.trail c.next_due.new.self c.visit_watchers.new.trail c.known.ensures.sound c.in-Some.ensures.some.0 c.in-Some.ensures.some.1 v.grows v.given
 
 pub queue-preserved : goal.queue-preserved
 queue-preserved c =

@@ -9,4 +9,4 @@ returns-in-Ok-write_whole-clause-writes g c =
     let before = g.K.Sink.written c.args.out.now in
     let now = g.K.Sink.written c.write_whole.new.sink in
     writes_whole c.args.ending c.status-status.result before now c.in-Ok.ensures.found c.status-status.ensures
-    (subst (λ (text : List ℕ). Appends before now text) (c.as_slice.ensures.value ∙ c.in-Ok.ensures.ok) c.in-Ok-write_whole.ensures.whole)
+    (subst (λ (text : List ℕ). Appends before now text) (c.as_slice.ensures ∙ c.in-Ok.ensures.ok) c.in-Ok-write_whole.ensures.whole)

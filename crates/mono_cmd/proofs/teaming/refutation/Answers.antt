@@ -6,6 +6,6 @@ use Rattle.mono_cmd.proofs.TeamSolutions.{team_refutation_solves}
 use Rattle.mono_cmd.proofs.teaming.refutation.Goals as goal
 
 pub returns : goal.returns
-returns c = λ workers rounds.
+returns c = λ workers rounds refuted.
     subst (λ (steps : List Step). IsTeamSolution c.args.problem.now workers rounds (answer.Refutation steps)) (sym c.from_vec.ensures)
-    (team_refutation_solves c.args.problem.now workers rounds c.in_ok-steps.steps.items c.requires.problem (omega (arith, c.in_ok-steps.steps.small)) c.in_ok-steps.ensures.trim)
+    (team_refutation_solves c.args.problem.now workers rounds c.args.steps.now c.in_ok-steps.steps.items c.requires.problem (omega (arith, c.in_ok-steps.steps.small)) refuted c.in_ok-steps.ensures)

@@ -70,11 +70,11 @@ returns-clause-half_of_the_budget c = λ h. let e : ◌≡◌ {A = ℕ} 1 2 = h.
 pub returns-clause-no_literal : goal.returns-clause-no_literal
 returns-clause-no_literal c = λ h. let low = (h.literals 0 (pos 0) (omega arith)).0 in omega (arith, low)
 
-pub returns-clause-beyond_clauses : goal.returns-clause-beyond_clauses
-returns-clause-beyond_clauses c = λ p is. ((λ room. let few = room.clauses in omega (arith, is, few)), refl)
+pub returns-clause-no_room_for_clauses : goal.returns-clause-no_room_for_clauses
+returns-clause-no_room_for_clauses c = λ p is. ((λ room. let few = room.clauses in omega (arith, is, few)), refl)
 
-pub returns-clause-beyond_literals : goal.returns-clause-beyond_literals
-returns-clause-beyond_literals c = λ p is. ((λ room. let few = room.literals in omega (arith, is, few)), refl)
+pub returns-clause-no_room_for_literals : goal.returns-clause-no_room_for_literals
+returns-clause-no_room_for_literals c = λ p is. ((λ room. let few = room.literals in omega (arith, is, few)), refl)
 
 pub returns-clause-room : goal.returns-clause-room
 returns-clause-room c = λ h. h.0 (record { clauses = omega arith; literals = omega arith })

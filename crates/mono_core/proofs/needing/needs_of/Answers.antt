@@ -1,7 +1,9 @@
-use Rattle.std.proofs.Common.{◌≡◌, ◌+◌, ◌<◌, ◌++◌, ◌∷◌, [], List, Option, None, Vec, Global, take, sym, ap, ◌∙◌, subst, length, arith, length-append}
+use Rattle.std.proofs.Common.{◌≡◌, ◌+◌, ◌<◌, ◌++◌, ◌∷◌, [], List, Option, None, true, false, Vec, Global, take, sym, ap, ◌∙◌, subst, length, arith, length-append}
+use Rattle.std.specs.Prelude.{MatchOption}
 use Rattle.std.specs.Option.{option_to_list}
 use Rattle.mono_core.specs.declared.outcome.Need.{Need}
-use Rattle.mono_core.specs.Cores.{AreNeeds, AreFound, IsNeed, IsKeptNeed}
+use Rattle.mono_steps.specs.Needed.{is_set}
+use Rattle.mono_core.specs.Cores.{AreNeeds, AreFound, IsNeed}
 use Rattle.mono_core.proofs.Needs.{need_more, need_none, found_before, found_last}
 use Rattle.mono_core.proofs.needing.needs_of.Goals as goal
 use Rattle.mono_core.proofs.needing.needs_of.Goals.{in-Some-2+in_ok-push, in_default-2}
@@ -18,6 +20,7 @@ loop-place-preserved c =
     let within : place < length kept = omega (arith, c.requires.kept, c.loop-place-test.true) in (
       len,
       λ budget found.
+          let Its = λ (o : Option Need). MatchOption o (is_set kept place ≡ false) (λ (n : Need). (is_set kept place ≡ true) × IsNeed p budget assumed kept place n) in
           let before = c.loop-place.invariant.1 budget found in
           let all = subst (λ (os : List (Option Need)). AreFound p budget assumed kept os) items before.0 in
           let one = c.in_ok-need.ensures budget (found_last p budget assumed kept rest place c.in-Some.one len all) in (
@@ -25,11 +28,11 @@ loop-place-preserved c =
             elim c.match-branch-2.branch [
               | in-Some-2+in_ok-push w ↦ (
                   let items : c.match-branch-2.needs.items ≡ c.loop-place.needs.items ++ w.in-Some-2.need ∷ [] = ap (λ (v : Vec Need Global). v.items) w.needs-is ∙ w.in_ok-push.ensures.items in
-                  let is_kept = subst (λ (o : Option Need). IsKeptNeed (IsNeed p budget assumed kept) kept place o) w.in-Some-2.is one in
-                  subst (λ (ns : List Need). AreNeeds (IsNeed p budget assumed kept) 0 (take (place + 1) kept) ns) (sym items) (need_more (IsNeed p budget assumed kept) kept place c.loop-place.needs.items w.in-Some-2.need within before.1 is_kept))
+                  let its : (is_set kept place ≡ true) × IsNeed p budget assumed kept place w.in-Some-2.need = subst Its w.in-Some-2.is one in
+                  subst (λ (ns : List Need). AreNeeds (IsNeed p budget assumed kept) 0 (take (place + 1) kept) ns) (sym items) (need_more (IsNeed p budget assumed kept) kept place c.loop-place.needs.items w.in-Some-2.need within before.1 its.0 its.1))
               | in_default-2 w ↦ (
                   let none : c.in_ok-need.field-0 ≡ None = w.in_default-2.is in
-                  let is_off = subst (λ (o : Option Need). IsKeptNeed (IsNeed p budget assumed kept) kept place o) none one in
+                  let is_off : is_set kept place ≡ false = subst Its none one in
                   subst (λ (ns : List Need). AreNeeds (IsNeed p budget assumed kept) 0 (take (place + 1) kept) ns) (sym (ap (λ (v : Vec Need Global). v.items) w.needs-is)) (need_none (IsNeed p budget assumed kept) kept place c.loop-place.needs.items within before.1 is_off))
             ],
           ),

@@ -51,7 +51,7 @@ returns-then-are_over-clause-refuted c =
     } in
     let narrow : AreNarrowed kept named new = subst (λ (bs : List Bool). AreNarrowed bs named new) c.as_slice-3.ensures.value (subst (λ (bs : List Bool). AreNarrowed c.as_slice-3.result.now bs new) c.as_slice-4.ensures.value c.in_ok-new.ensures) in
     let some : c.as_slice-6.result.now ≡ pick new assumed = c.as_slice-6.ensures.value ∙ (c.in_ok-fewer.ensures ∙ ap (λ (bs : List Bool). pick bs assumed) c.as_slice-5.ensures.value) in
-    let vars : c.greatest_var-vars.result ≡ most = c.greatest_var-vars.ensures ∙ (ap (λ (v : ℕ). greatest_var v c.as_slice-6.result.now) c.vars-2.ensures.vars ∙ ap (λ (ls : List ℤ). greatest_var p.vars ls) some) in
+    let vars : c.greatest_var-vars.result ≡ most = c.greatest_var-vars.ensures ∙ (ap (λ (v : ℕ). greatest_var v c.as_slice-6.result.now) c.vars.ensures.vars ∙ ap (λ (ls : List ℤ). greatest_var p.vars ls) some) in
     let over : c.are_over.result ≡ are_over most steps = c.are_over.ensures ∙ (ap (λ (v : ℕ). are_over v c.as_slice-7.result.now) vars ∙ ap (λ (ss : List Step). are_over most ss) c.as_slice-7.ensures) in
     let yes : IsTrue (are_over most steps) = subst (λ (b : Bool). IsTrue b) (sym c.if-are_over.true ∙ over) refl in
     let is : c.from_vec-steps.result ≡ steps_without (length p.clauses) named steps =

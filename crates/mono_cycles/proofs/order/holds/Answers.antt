@@ -12,5 +12,5 @@ pub returns : goal.returns
 returns c =
     let same : (u : ℕ) → u < length c.rank.new.ranks → get_or c.rank.new.ranks u 0 ≡ rank_in c.args.nodes.now u = λ u lt. c.rank.ensures.ranks c.if-not-rank.false u (let e = c.rank.auto.ranks in omega arith) in
     c.all_rise.ensures
-    ∙ order_decided c.args.graph.now c.args.part.now c.args.nodes.now c.rank.new.ranks c.nodes.ensures.graph.ends (c.rank.auto.ranks ∙ c.requires.ranks) same
+    ∙ order_decided c.args.graph.now c.args.part.now c.args.nodes.now c.rank.new.ranks c.known.ensures.graph.ends (c.rank.auto.ranks ∙ c.requires.ranks) same
     (sym c.rank.ensures.once ∙ c.if-not-rank.false) (sym c.all_below.ensures ∙ c.if-not-all_below.false)

@@ -19,7 +19,7 @@ returns-then-are_balanced-clause-passes c =
     c.is_enough_at.ensures
     ∙ (ap (λ (z : ℤ). int_le z (pos (get_or leaving n.source 0) -ℤ pos (get_or entering n.source 0))) (to_z-of_z w64 c.args.least c.ranges.least)
     ∙ (sym (ap (λ (b : Bool). b && int_le c.args.least (pos (get_or leaving n.source 0) -ℤ pos (get_or entering n.source 0))) balanced)
-    ∙ flow_answer n.graph.now n.part.now n.source n.sink c.args.least c.args.amounts.now leaving entering c.nodes.ensures.graph.ends c.requires.known (sym c.mark_edges.ensures.passes ∙ c.if-not-mark_edges.false)
+    ∙ flow_answer n.graph.now n.part.now n.source n.sink c.args.least c.args.amounts.now leaving entering c.known.ensures.graph.ends c.requires.known (sym c.mark_edges.ensures.passes ∙ c.if-not-mark_edges.false)
     (record { leaving = c.add_amounts.ensures.listed.leaving; entering = c.add_amounts.ensures.listed.entering })))
 
 pub returns-else-are_balanced-clause-passes : goal.returns-else-are_balanced-clause-passes
@@ -30,5 +30,5 @@ returns-else-are_balanced-clause-passes c =
     let unbalanced : list_all (has_balanced_ends n.graph.now leaving entering n.source n.sink) c.args.amounts.now ≡ false = sym c.are_balanced.ensures ∙ c.if-are_balanced.false in
     c.if-are_balanced.false
     ∙ (sym (ap (λ (b : Bool). b && int_le c.args.least (pos (get_or leaving n.source 0) -ℤ pos (get_or entering n.source 0))) unbalanced)
-    ∙ flow_answer n.graph.now n.part.now n.source n.sink c.args.least c.args.amounts.now leaving entering c.nodes.ensures.graph.ends c.requires.known (sym c.mark_edges.ensures.passes ∙ c.if-not-mark_edges.false)
+    ∙ flow_answer n.graph.now n.part.now n.source n.sink c.args.least c.args.amounts.now leaving entering c.known.ensures.graph.ends c.requires.known (sym c.mark_edges.ensures.passes ∙ c.if-not-mark_edges.false)
     (record { leaving = c.add_amounts.ensures.listed.leaving; entering = c.add_amounts.ensures.listed.entering }))

@@ -8,7 +8,7 @@ use Rattle.mono_learn.proofs.PlacesOfLits.{is_var_at}
 use Rattle.mono_learn.proofs.Asking.{IsAsked, asks_none, late_asked, late_there, was_forced}
 use Rattle.mono_learn.proofs.ask.late_reason.Given.{Over}
 use Rattle.mono_learn.proofs.ask.late_reason.Goals as goal
-use Rattle.mono_learn.proofs.ask.late_reason.Goals.{After-level}
+use Rattle.mono_learn.proofs.ask.late_reason.Goals.{After-known}
 
 pub explain-requires-clause-within : goal.explain-requires-clause-within
 explain-requires-clause-within g c = (was_forced c.args.problem.now (clauses_after c.args.problem.now c.args.journal.now) (g.E.Explainer.shown c.args.by.now) c.args.trail.now c.args.place c.args.atom c.args.kept c.requires.reasons c.requires.place c.requires.late).some
@@ -27,7 +27,7 @@ settle-requires-clause-in_range g c = rw (c.var.ensures.value, c.literal-lit.ens
 pub settle-requires-clause-late : goal.settle-requires-clause-late
 settle-requires-clause-late g c = late_there c.args.trail.now c.args.place c.args.atom c.args.kept c.var.result c.literal-lit.result c.requires.sound c.requires.place c.literal-lit.ensures c.var.ensures.value c.requires.late
 
-asked : (g : Over) (c : After-level g) → IsAsked c.args.problem.now (g.E.Explainer.shown c.args.by.now) c.args.trail.now c.args.journal.now c.settle.new.self c.push_lemma.new.self c.args.place c.in_ok-number.number
+asked : (g : Over) (c : After-known g) → IsAsked c.args.problem.now (g.E.Explainer.shown c.args.by.now) c.args.trail.now c.args.journal.now c.settle.new.self c.push_lemma.new.self c.args.place c.in_ok-number.number
 asked g c = late_asked c.args.problem.now (g.E.Explainer.shown c.args.by.now) c.args.trail.now c.settle.new.self c.args.journal.now c.push_lemma.new.self c.args.place c.args.atom c.args.kept c.in_ok-number.number c.var.result c.literal-lit.result c.in_ok-lemma.lemma
     c.requires.sound c.requires.place c.literal-lit.ensures c.var.ensures.value c.requires.reasons c.requires.late
     (subst (λ (p : Instance). IsExplanation p (take c.args.kept (g.E.Explainer.shown c.args.by.now c.args.atom)) c.args.atom c.literal-lit.result c.in_ok-lemma.lemma) c.requires.problem c.in_ok-lemma.ensures.lemma) c.in_ok-number.ensures.ok c.in_ok-number.ensures.number c.in_ok-number.ensures.keeps c.settle.ensures

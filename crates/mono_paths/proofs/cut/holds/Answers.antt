@@ -15,5 +15,5 @@ returns-then-inside-to-clause-passes c =
 pub returns-clause-passes : goal.returns-clause-passes
 returns-clause-passes c =
     let marked : ℕ → Bool = λ u. get_or c.args.inside.now u false in
-    cut_decides c.args.graph.now c.args.part.now c.args.from c.args.to c.args.nodes.now marked c.all_stay.result c.nodes.ensures.graph.ends (record { each = c.requires.inside })
+    cut_decides c.args.graph.now c.args.part.now c.args.from c.args.to c.args.nodes.now marked c.all_stay.result c.known.ensures.graph.ends (record { each = c.requires.inside })
     c.requires.from c.requires.to c.if-not-inside-from.false c.if-inside-to.false c.all_stay.ensures.stay

@@ -17,7 +17,7 @@ returns-in_ok-from_slice-clause-passes c =
     let off = c.if-branch.false in
     let above = e.above off in
     subst (λ (us : List ℕ). IsTrue (is_cut c.args.graph.now c.args.part.now c.args.from c.args.to us)) (sym c.in_ok-from_slice.ensures.items)
-    (cut_found c.args.graph.now c.args.part.now c.args.from c.args.to c.goes_to.new.self.labels c.reached.result.now c.nodes.ensures.graph.ends c.requires.from c.requires.to
+    (cut_found c.args.graph.now c.args.part.now c.args.from c.args.to c.goes_to.new.self.labels c.reached.result.now c.known.ensures.graph.ends c.requires.from c.requires.to
     e.search.labelled.len c.reached.ensures.reached
     (final c.args.graph.now c.args.part.now limit.Free c.args.from c.args.to 1 c.goes_to.new.self e.search (e.source ∙ c.in_ok-begin.ensures.source) (e.cap ∙ c.in_ok-begin.ensures.cap) (omega arith) (e.tight off)))
 

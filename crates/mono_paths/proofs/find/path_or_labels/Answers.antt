@@ -7,9 +7,9 @@ use Rattle.mono_graph.specs.Walks.{is_labelling, bound_of}
 use Rattle.mono_paths.specs.Asked.{HasPath}
 use Rattle.mono_paths.specs.Found.{with_bound}
 use Rattle.mono_paths.proofs.Reached.{all_within}
-use Rattle.mono_paths.specs.Reaches.{HasFinal, IsCheap}
+use Rattle.mono_paths.specs.Reaches.{IsCheap}
 use Rattle.mono_paths.specs.Searches.{source_of}
-use Rattle.mono_paths.proofs.Ends.{labelled, empty_labelling, cheap_path, labelling_found, labels_found, bound_small, final}
+use Rattle.mono_paths.proofs.Ends.{HasFinal, labelled, empty_labelling, cheap_path, labelling_found, labels_found, bound_small, final}
 use Rattle.mono_paths.proofs.find.path_or_labels.Goals as goal
 
 pub returns-in_default-clause-passes : goal.returns-in_default-clause-passes
@@ -40,7 +40,7 @@ pub returns-in_ok-listed-clause-passes : goal.returns-in_ok-listed-clause-passes
 returns-in_ok-listed-clause-passes c =
     subst (λ (ls : List Label). IsTrue (is_labelling c.args.graph.now c.args.part.now c.args.from c.args.to c.args.limit ls)) (sym c.in_ok-listed.ensures.labels)
     (labelling_found c.args.graph.now c.args.part.now c.args.from c.args.to c.in-Some.most c.args.limit c.goes_to.new.self.labels c.goes_to.new.self.labels.reached
-    c.nodes.ensures.graph.ends c.requires.from c.requires.to c.in-Some.ensures c.in_ok-goes_to.ensures.search.labelled.len c.in_ok-listed.ensures.reached (final_labels c))
+    c.known.ensures.graph.ends c.requires.from c.requires.to c.in-Some.ensures c.in_ok-goes_to.ensures.search.labelled.len c.in_ok-listed.ensures.reached (final_labels c))
 
 pub returns-in_ok-listed-clause-known : goal.returns-in_ok-listed-clause-known
 returns-in_ok-listed-clause-known c =

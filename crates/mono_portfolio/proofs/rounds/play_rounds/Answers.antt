@@ -6,8 +6,15 @@ use Rattle.mono_steps.specs.Steps.{are_justified}
 use Rattle.mono_portfolio.specs.declared.rounds.Turn.{Turn}
 use Rattle.mono_portfolio.specs.TeamView.{TeamView}
 use Rattle.mono_portfolio.specs.Turns.{even, taken_after, RoundsTo, IsRounded}
-use Rattle.mono_portfolio.proofs.RoundsLaws.{RoundsSoFar, rounded, rounds_more, rounds_done, grown}
+use Rattle.mono_portfolio.proofs.RoundsLaws.{RoundsSoFar, no_rounds, rounded, rounds_more, rounds_done, rounds_stop, grown}
 use Rattle.mono_portfolio.proofs.rounds.play_rounds.Goals as goal
+
+pub loop-init : goal.loop-init
+loop-init g c = no_rounds c.args.team.now.problem c.args.workers c.args.team.now c.requires.new
+
+pub returns-in_default : goal.returns-in_default
+returns-in_default g c =
+    rounds_stop c.args.team.now.problem c.args.workers c.args.rounds c.loop.counter c.loop.team c.take_turns.new.team c.in_ok-end.end (omega arith) c.loop.invariant c.in_ok-end.ensures c.in_default.not-Gave
 
 pub take_short_by_all-requires-clause-within : goal.take_short_by_all-requires-clause-within
 take_short_by_all-requires-clause-within g c =

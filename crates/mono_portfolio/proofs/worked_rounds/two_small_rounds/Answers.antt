@@ -1,26 +1,12 @@
 use Rattle.std.proofs.Common.{◌≡◌, Bool, true, false, ◌||◌, [], ◌∷◌, refl, lit<, pos}
 use Rattle.std.specs.Ordering.{int_eq}
 use Rattle.mono_problem.specs.Instance.{Instance}
-use Rattle.mono_steps.specs.New.{IsExactEnd, IsNewClause, IsProgress}
-use Rattle.mono_steps.specs.WorkedLemmas.{minus}
+use Rattle.mono_steps.specs.New.{IsExactEnd, IsProgress}
 use Rattle.mono_steps.proofs.WorkedNew.{one_is_left_open}
 use Rattle.mono_portfolio.specs.Extended.{extended}
 use Rattle.mono_portfolio.specs.Worked.{four_clauses, given_first, given_next}
+use Rattle.mono_portfolio.proofs.WorkedProblem.{first_given}
 use Rattle.mono_portfolio.proofs.worked_rounds.two_small_rounds.Goals as goal
-
-two_twice : (a b : Bool) → (a || (b || false)) ≡ (a || (b || (a || (b || false))))
-two_twice true b = refl
-two_twice false true = refl
-two_twice false false = refl
-
-first_end : IsExactEnd four_clauses.clauses (record { clause = pos 1 ∷ pos 2 ∷ []; used = 1 ∷ 2 ∷ [] })
-first_end = record { named = refl; end = pos 1 ∷ pos 2 ∷ pos 1 ∷ pos 2 ∷ []; is_end = refl; same = λ l. two_twice (int_eq l (pos 1)) (int_eq l (pos 2)) }
-
-first_open : IsNewClause four_clauses.clauses (pos 1 ∷ pos 2 ∷ [])
-first_open = record { under = minus 2 ∷ []; partial = refl; quiet = refl; lit = pos 1; is_literal = refl; has = refl; is_open = refl; others = refl }
-
-first_learned : IsProgress four_clauses 1 (given_first ∷ [])
-first_learned = record { justified = refl; new = record { chains = ((λ full. record { exact = first_end; new = first_open }), tt); none_empty = refl }; chains = refl; few = lit< tt }
 
 thrice : (a : Bool) → (a || false) ≡ (a || (a || (a || false)))
 thrice true = refl
@@ -39,10 +25,10 @@ next_learned = record { justified = refl; new = record { chains = ((λ full. rec
 pub returns : goal.returns
 returns c = (
   given_first ∷ [],
-  (given_first ∷ [], record { steps = given_first ∷ []; learned = first_learned; is = refl }, refl),
+  (given_first ∷ [], record { steps = given_first ∷ []; learned = first_given; is = refl }, refl),
   (
     given_first ∷ given_next ∷ [],
     (given_next ∷ [], record { steps = given_next ∷ []; learned = next_learned; is = refl }, refl),
-    refl,
+    (refl, refl),
   ),
 )

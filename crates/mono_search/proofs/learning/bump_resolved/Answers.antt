@@ -9,7 +9,7 @@ use Rattle.mono_search.proofs.learning.bump_resolved.Goals as goal
 
 pub bump_clauses-requires-clause-within : goal.bump_clauses-requires-clause-within
 bump_clauses-requires-clause-within c =
-    subst (λ (n : ℕ). All (All (IsLitWithin n)) (clauses_after c.args.problem.now c.args.journal.now)) (sym c.requires.vars) (clauses_within c.args.problem.now c.args.journal.now c.vars.ensures.problem c.requires.justified)
+    subst (λ (n : ℕ). All (All (IsLitWithin n)) (clauses_after c.args.problem.now c.args.journal.now)) (sym c.requires.vars) (clauses_within c.args.problem.now c.args.journal.now c.known.ensures.problem c.requires.justified)
 
 pub bump_clauses-requires-clause-held : goal.bump_clauses-requires-clause-held
 bump_clauses-requires-clause-held c =

@@ -1,6 +1,7 @@
-use Rattle.std.proofs.Common.{◌≡◌, ℕ, zero, suc, ◌<◌, true, false, [], ◌∷◌, get_or, refl, inl, arith, ℤ, pos}
+use Rattle.std.proofs.Common.{◌≡◌, ℕ, zero, suc, ◌<◌, true, false, [], ◌∷◌, get_or, refl, subst, inl, inr, arith, ℤ, pos}
 use Rattle.std.specs.Prelude.{IsTrue}
 use Rattle.mono_base.specs.Literal.{var_of}
+use Rattle.mono_base.specs.Partial.{is_true_in}
 use Rattle.mono_graph.specs.Worked.{both, first_alone, parallel}
 use Rattle.mono_graph.specs.Cycles.{IsAcyclic}
 use Rattle.mono_graph.proofs.RisingRanks.{order_acyclic}
@@ -11,6 +12,7 @@ use Rattle.mono_theory.specs.Theories.{concerns_of}
 use Rattle.mono_theory.specs.Worked.{walk_along}
 use Rattle.mono_theory.proofs.ForcedAndExplained.{finding_by}
 use Rattle.mono_search_tests.specs.Worked.{reaches_without_cycles}
+use Rattle.mono_search_tests.proofs.NoWalks.{no_walk}
 use Rattle.mono_search_tests.proofs.worked_answers.what_theories_find_of_two_atoms.Goals as goal
 
 no_cycle : IsAcyclic (parallel 1 1) both
@@ -45,3 +47,10 @@ returns-clause-lemma_of_one c =
 
 pub returns-clause-true_literal : goal.returns-clause-true_literal
 returns-clause-true_literal c = λ h. let e : true ≡ false = h.none_true (minus 2) refl in cc
+
+-- its literal is false, and no edge is surely present
+pub returns-clause-of_a_quiet_atom : goal.returns-clause-of_a_quiet_atom
+returns-clause-of_a_quiet_atom c = λ h. elim h.forced.forces [
+  | inl walk ↦ no_walk walk.1
+  | inr cut ↦ let e : true ≡ false = subst (λ (l : ℤ). is_true_in (minus 3 ∷ []) l ≡ false) cut.0 h.forced.not_yet in cc
+]

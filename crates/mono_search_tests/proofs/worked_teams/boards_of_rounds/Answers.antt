@@ -9,10 +9,10 @@ use Rattle.mono_search_tests.specs.Worked.{over_seven}
 use Rattle.mono_search_tests.proofs.worked_teams.boards_of_rounds.Goals as goal
 
 pub returns-clause-no_round : goal.returns-clause-no_round
-returns-clause-no_round c = record { justified = refl; rounds_are = refl; few = lit< tt }
+returns-clause-no_round c = record { justified = refl; rounds_are = ([], (refl, refl)); few = lit< tt }
 
 pub returns-clause-nobody : goal.returns-clause-nobody
-returns-clause-nobody c = record { justified = refl; rounds_are = ([], refl, refl); few = lit< tt }
+returns-clause-nobody c = record { justified = refl; rounds_are = ([], ([], refl, (refl, refl))); few = lit< tt }
 
 -- a thousand learned clauses are some steps
 some_steps : (steps : List Step) → chain_count steps ≡ 1000 → 0 < length steps
@@ -25,13 +25,13 @@ some_piece p before taken piece h =
 
 pub returns-clause-nothing_given : goal.returns-clause-nothing_given
 returns-clause-nothing_given c = λ h.
-    let round = h.rounds_are in
+    let round = h.rounds_are.1 in
     let some = some_piece over_seven [] [] round.1.0 round.1.1 in
-    let e : 0 ≡ length ([] ++ round.1.0) = ap (λ (ss : List Step). length ss) (round.2 ∙ round.1.2) in
+    let e : 0 ≡ length ([] ++ round.1.0) = ap (λ (ss : List Step). length ss) (round.2.1 ∙ round.1.2) in
     omega (arith, some, e, length-append [] round.1.0)
 
 pub returns-clause-given_in_no_round : goal.returns-clause-given_in_no_round
-returns-clause-given_in_no_round c = λ h. let e : suc zero ≡ zero = ap (λ (ss : List Step). length ss) h.rounds_are in cc
+returns-clause-given_in_no_round c = λ h. let e : suc zero ≡ zero = ap (λ (ss : List Step). length ss) h.rounds_are.1.1 in cc
 
 pub returns-clause-few_variables : goal.returns-clause-few_variables
 returns-clause-few_variables c = λ h. let few = h.few in omega (arith, few)

@@ -15,7 +15,7 @@ use std::alloc::{AllocError, Global};
 fn atom_of(problem: &Problem, number: u32) -> Option<Atom>
     ensures { IfSome result (λ x. (0 < length problem.now.graphs) × IsOver (graph_at problem.now 0) x.predicate) }
 {
-    let _ = problem.vars();
+    problem.known();
     if number == 0 || number > problem.atom_count() {
         return None;
     }

@@ -1,4 +1,4 @@
-use Rattle.mono_tests.proofs.InstanceRows.{both_graphs, none_of_one_identity, none_of_a_number_twice, none_of_a_number_beyond, none_of_a_variable_beyond, none_of_a_second_predicate, none_of_a_missing_graph, none_of_a_node_beyond, none_of_variable_0, none_of_variable_7, none_of_literal_0, none_of_literal_7}
+use Rattle.mono_tests.proofs.InstanceRows.{both_graphs, none_of_one_identity, none_of_a_number_twice, none_of_a_number_beyond, none_of_a_variable_beyond, none_of_a_great_identity, none_of_an_edge_beyond, none_of_a_second_predicate, none_of_a_missing_graph, none_of_a_tree_of_no_graph, none_of_a_node_beyond, none_of_variable_0, none_of_variable_7, none_of_literal_0, none_of_literal_7}
 use Rattle.mono_tests.proofs.problem.whole_problems.Goals as goal
 
 pub returns-clause-two : goal.returns-clause-two
@@ -16,11 +16,20 @@ returns-clause-number_beyond c = none_of_a_number_beyond
 pub returns-clause-edges_variable_beyond : goal.returns-clause-edges_variable_beyond
 returns-clause-edges_variable_beyond c = none_of_a_variable_beyond
 
+pub returns-clause-identity_beyond : goal.returns-clause-identity_beyond
+returns-clause-identity_beyond c = none_of_a_great_identity
+
+pub returns-clause-edge_to_no_node : goal.returns-clause-edge_to_no_node
+returns-clause-edge_to_no_node c = none_of_an_edge_beyond
+
 pub returns-clause-second_predicate_alone : goal.returns-clause-second_predicate_alone
 returns-clause-second_predicate_alone c = none_of_a_second_predicate
 
 pub returns-clause-missing_graph : goal.returns-clause-missing_graph
 returns-clause-missing_graph c = none_of_a_missing_graph
+
+pub returns-clause-tree_of_no_graph : goal.returns-clause-tree_of_no_graph
+returns-clause-tree_of_no_graph c = none_of_a_tree_of_no_graph
 
 pub returns-clause-node_of_another_graph : goal.returns-clause-node_of_another_graph
 returns-clause-node_of_another_graph c = none_of_a_node_beyond

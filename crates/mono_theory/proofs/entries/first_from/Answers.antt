@@ -7,7 +7,9 @@ loop-first-preserved-then-from-key c =
     let middle : ℕ = c.loop-first.first + (c.loop-first.end - c.loop-first.first) / 2 in
     let before : middle < c.loop-first.end = omega arith in
     let fits : middle < length c.args.entries.now = omega arith in
+    let low = c.loop-first.invariant.low in
     record {
+      low = omega (arith, low);
       order = omega arith;
       end = c.loop-first.invariant.end;
       below = smaller_up_to c.args.entries.now c.args.key middle c.requires.sorted fits (omega (arith, c.from.ensures));
@@ -20,6 +22,7 @@ loop-first-preserved c =
     let before : middle < c.loop-first.end = omega arith in
     let fits : middle < length c.args.entries.now = omega arith in
     record {
+      low = c.loop-first.invariant.low;
       order = omega arith;
       end = omega arith;
       below = c.loop-first.invariant.below;

@@ -4,6 +4,7 @@ use Rattle.mono_theory.proofs.entries.first_from.Given as goal
 
 abbrev pub invariant-loop-first : goal.invariant-loop-first
 invariant-loop-first l = record {
+  low : l.low ≤ l.first;
   order : l.first ≤ l.end;
   end : l.end ≤ l.high;
   below : AllWithin (λ e. e.key < l.key) l.entries 0 l.first;

@@ -10,14 +10,15 @@ use Rattle.mono_theory.proofs.ForcedAndExplained.{found_at, own_var}
 use Rattle.mono_theory.proofs.graph_theory.explanation.Goals as goal
 
 pub returns-clause-lemma : goal.returns-clause-lemma
-returns-clause-lemma g c =
+returns-clause-lemma g c = λ n is forced.
     let f = c.args.frame.now in
-    let t : List ℤ = take c.args.kept f.seen in
+    let l = c.args.question.lit in
+    let t : List ℤ = take c.args.question.kept f.seen in
     let x : Atom = c.atom_at-atom.result in
     let its = c.atom_at-atom.ensures in
-    let found : atom_of f.atoms c.args.number ≡ Some x = c.place_of-place.ensures.is ∙ ap (λ (y : Atom). Some y) (sym its.atom) in
-    let forces : Forces f.graph x t c.args.lit = subst (λ (o : Option Atom). MatchOption o ⊥ (λ y. Forces f.graph y t c.args.lit)) found c.requires.forces in
+    let found : atom_of f.atoms n ≡ Some x = is ∙ ap (λ (y : Atom). Some y) (sym its.atom) in
+    let forces : Forces f.graph x t l = subst (λ (o : Option Atom). MatchOption o ⊥ (λ y. Forces f.graph y t l)) found forced in
     let e = c.in_ok-evidence.evidence in
-    IfOk-weaker c.lemma_of.result (λ m. m ≡ lemma_by f.graph x e) (IsLemmaOf f.graph f.atoms t c.args.number c.args.lit)
-    (λ m is. subst (IsLemmaOf f.graph f.atoms t c.args.number c.args.lit) (sym is)
-    (explains f.graph f.atoms t c.args.number x c.args.lit e (rw c.evidence_for.ensures.same at c.graph.ensures.known) its.var its.over found (found_at f.atoms c.args.number x found).1 (own_var f.atoms c.args.number x found) forces (rw (← its.atom) at c.in_ok-evidence.ensures.evidence))) (rw (c.graph.ensures.graph, c.evidence_for.ensures.same) at c.lemma_of.ensures)
+    IfOk-weaker c.lemma_of.result (λ m. m ≡ lemma_by f.graph x e) (IsLemmaOf f.graph f.atoms t n l)
+    (λ m same. subst (IsLemmaOf f.graph f.atoms t n l) (sym same)
+    (explains f.graph f.atoms t n x l e (rw c.answer.ensures.same at c.graph.ensures.known) its.var its.over found (found_at f.atoms n x found).1 (own_var f.atoms n x found) forces (rw (← its.atom) at c.in_ok-evidence.ensures.evidence))) (rw (c.graph.ensures.graph, c.answer.ensures.same) at c.lemma_of.ensures)

@@ -9,8 +9,8 @@ abbrev pub invariant-loop-row : goal.invariant-loop-row
 invariant-loop-row l = record {
   end : l.row-end ≡ length l.fn.rows.rows;
   nodes : l.rows.nodes ≡ l.fn.rows.nodes;
-  size : length l.due.listed ≡ length l.atoms;
+  size : length l.due.listed ≡ length l.atoms.keys;
   renewed : AreEach (IsRenewedRow l.graph l.part l.number) l.fn.rows.rows l.rows.rows;
   settled : (j : ℕ) → j < l.row → is_settled (targets_at l.rows.rows j) ≡ true;
-  due : (targets : List WalkTarget) → AreAsked l.fn.rows.rows l.atoms targets → PutsDue (length l.atoms) (lacks_by l.fn.rows.rows l.atoms targets) (lacks_by l.rows.rows l.atoms targets) l.fn.due.listed l.due.listed;
+  due : (targets : List WalkTarget) → AreAsked l.fn.rows.rows l.atoms.keys targets → PutsDue (length l.atoms.keys) (lacks_by l.fn.rows.rows l.atoms.keys targets) (lacks_by l.rows.rows l.atoms.keys targets) l.fn.due.listed l.due.listed;
 }

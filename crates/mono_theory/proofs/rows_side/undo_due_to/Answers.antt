@@ -1,4 +1,5 @@
-use Rattle.std.proofs.Common.{◌≡◌, ◌<◌, ◌+◌, ◌-◌, ℕ, sym, take, arith, subst, ◌∙◌}
+use Rattle.std.proofs.Common.{◌≡◌, ◌<◌, ◌+◌, ◌-◌, ℕ, pos, take, get_or, arith, subst, ◌∙◌}
+use Rattle.std.proofs.lemmas.List.{get_or_default}
 use Rattle.mono_theory.specs.RowSides.{AreSettledBut}
 use Rattle.mono_theory.proofs.RowsStay.{settled_back}
 use Rattle.mono_theory.proofs.rows_side.undo_due_to.Goals as goal
@@ -14,7 +15,7 @@ back-preserved c =
       high = omega (arith, inv.high);
       size = c.insert_all.ensures.as_many ∙ inv.size;
       due = λ possible shown h.
-          settled_back f.seen (c.back.at - 1) c.literal_at-lit.result c.atoms_of.result.now possible f.atoms shown c.back.due.listed c.insert_all.new.self.listed (omega (arith, inv.high, past)) (sym c.literal_at-lit.ensures) (rw c.var.ensures.value at c.atoms_of.ensures) c.insert_all.ensures.as_many c.insert_all.ensures.each
+          settled_back f.seen (c.back.at - 1) (get_or f.seen (c.back.at - 1) (pos 0)) c.atoms_at.result.now possible f.atoms shown c.back.due.listed c.insert_all.new.self.listed (omega (arith, inv.high, past)) (get_or_default f.seen (c.back.at - 1) _ (pos 0) (omega (arith, inv.high, past))) c.atoms_at.ensures c.insert_all.ensures.as_many c.insert_all.ensures.each
           (subst (λ (k : ℕ). AreSettledBut (take k f.seen) possible f.atoms shown c.back.due.listed) more (inv.due possible shown h));
     }
 

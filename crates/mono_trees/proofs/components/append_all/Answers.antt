@@ -1,8 +1,8 @@
 use Rattle.std.proofs.Common.{◌++◌, [], List, ℕ, ap, ◌∙◌, sym, cond, set}
 use Rattle.std.specs.Prelude.{is_ok}
 use Rattle.std.proofs.lemmas.List.{set-get_or}
-use Rattle.mono_base.specs.Buckets.{lists_of}
-use Rattle.mono_base.proofs.ListsByKey.{lists_of-set, list_at}
+use Rattle.mono_trees.specs.Lists.{lists_of}
+use Rattle.mono_trees.proofs.LabelLists.{lists_of-set, list_at}
 use Rattle.mono_trees.proofs.Outcome.{on_ok, on_err}
 use Rattle.mono_trees.proofs.components.append_all.Goals as goal
 

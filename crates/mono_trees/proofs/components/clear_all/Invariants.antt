@@ -1,5 +1,5 @@
 use Rattle.std.proofs.Common.{◌≡◌, ◌<◌, ℕ, [], length, get_or}
-use Rattle.mono_base.specs.Buckets.{lists_of}
+use Rattle.mono_trees.specs.Lists.{lists_of}
 use Rattle.mono_trees.proofs.components.clear_all.Given as goal
 
 abbrev pub invariant-loop-label : goal.invariant-loop-label

@@ -1,5 +1,5 @@
 use Rattle.std.proofs.Common.{[]}
-use Rattle.mono_base.proofs.ListsByKey.{lists_of-set}
+use Rattle.mono_trees.proofs.LabelLists.{lists_of-set}
 use Rattle.mono_trees.proofs.components.clear_list.Goals as goal
 
 pub returns : goal.returns

@@ -1,7 +1,7 @@
 use Rattle.std.proofs.Common.{◌≡◌, [], List, ℕ, ap, subst, ◌∙◌, cond, get_or, arith}
 use Rattle.std.specs.Prelude.{IsTrue}
 use Rattle.mono_graph.specs.Digraph.{has}
-use Rattle.mono_base.specs.Buckets.{lists_of}
+use Rattle.mono_trees.specs.Lists.{lists_of}
 use Rattle.mono_graph.proofs.Membership.{has_get_or}
 use Rattle.mono_trees.proofs.Merging.{itself_listed, put_empty, kept_as, kept_after_own, kept_after_back, kept_after_merge, moved_at}
 use Rattle.mono_trees.proofs.components.merge.Goals as goal

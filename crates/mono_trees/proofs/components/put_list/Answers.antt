@@ -1,5 +1,5 @@
 use Rattle.std.proofs.Common.{ap}
-use Rattle.mono_base.proofs.ListsByKey.{lists_of-set}
+use Rattle.mono_trees.proofs.LabelLists.{lists_of-set}
 use Rattle.mono_trees.proofs.components.put_list.Goals as goal
 
 pub returns-clause-is : goal.returns-clause-is

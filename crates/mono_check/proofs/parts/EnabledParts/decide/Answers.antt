@@ -14,7 +14,7 @@ pub which_are_reached-requires-clause-targets : goal.which_are_reached-requires-
 which_are_reached-requires-clause-targets c =
     let p = c.args.problem.now in
     let qs : List WalkQuestion = c.args.questions.now in
-    targets_known p qs c.graph-graph.result.now c.deref.result.now c.vars.ensures.problem c.requires.questions c.requires.alike
+    targets_known p qs c.graph-graph.result.now c.deref.result.now c.known.ensures.problem c.requires.questions c.requires.alike
     (c.graph-graph.ensures ∙ ap (λ (q : WalkQuestion). graph_at p q.graph) (get_or_default qs 0 _ no_question c.requires.some)) (c.deref.ensures.value ∙ c.in_ok-targets.ensures)
 
 pub which_are_reached-requires-clause-fits : goal.which_are_reached-requires-clause-fits

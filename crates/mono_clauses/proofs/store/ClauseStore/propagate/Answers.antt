@@ -77,7 +77,7 @@ returns-clause-found c =
     let d = due_visited (goal.at.returns-clause-found c).In_default in
     let f = followed (goal.at.returns-clause-found c).In_default-follow in
     let v = followed_vars c.self.inside.clauses.list c.visit_due.new.watches c.follow.new.watches c.visit_due.new.trail c.follow.new.trail d.following.vars f in
-    subst (λ (q : ClausesView). QuietFound (record { vars = q.vars; clauses = q.list; watched = c.follow.new.watches.watched }) c.follow.new.trail) (sym c.follow.ensures.same) (quiet_found c.self.inside.clauses c.self.inside.watches c.visit_due.new.watches c.follow.new.watches c.visit_due.new.due.items c.args.trail.now c.visit_due.new.trail c.follow.new.trail c.level.ensures.sound c.in_default.ensures.due d f
+    subst (λ (q : ClausesView). QuietFound (record { vars = q.vars; clauses = q.list; watched = c.follow.new.watches.watched }) c.follow.new.trail) (sym c.follow.ensures.same) (quiet_found c.self.inside.clauses c.self.inside.watches c.visit_due.new.watches c.follow.new.watches c.visit_due.new.due.items c.args.trail.now c.visit_due.new.trail c.follow.new.trail c.known.ensures.sound c.in_default.ensures.due d f
     (due_visited_here (goal.at.returns-clause-found c).In_default ∙ sym v))
 
 -- how the trail grew

@@ -46,13 +46,14 @@ invariant_of-self-2 c =
     let w : watched_of c.reserve_watchers.new.busy.items c.reserve_watchers.new.lits.items ≡ watched_of c.self.inside.busy.items c.self.inside.lits.items = cc in
     let l : length c.reserve_watchers.new.busy.items ≡ length c.reserve_watchers.new.lits.items = ap (λ (xs : List Bool). length xs) e.busy ∙ c.self.invariant.2 ∙ sym (ap (λ (xs : List ℤ). length xs) e.lits) in
     let base = chunk_eq c.reserve_watchers.new.chunks.links.items c.reserve_watchers.new.chunks.cells.items c.reserve_watchers.new.chunks.free.items (watched_of c.reserve_watchers.new.busy.items c.reserve_watchers.new.lits.items) [] (chunk_close c.self.inside.list c.self.invariant.0) e.links e.cells e.free_chunks w refl in
-    let least : c.len-2.result + 2 + 7 * (2 * c.self.inside.vars + 2) ≡ length (watched_of c.reserve_watchers.new.busy.items c.reserve_watchers.new.lits.items) + 2 + 7 * (2 * c.self.inside.vars + 2) = omega (arith, length_watched c.reserve_watchers.new.busy.items c.reserve_watchers.new.lits.items l) in
-    let wide = chunk_widen _ c.widen.new.self.links.items c.widen.new.self.cells.items c.widen.new.self.free.items base c.widen.ensures.is least (omega (arith, ap (λ (xs : List ℕ). length xs) e.links, c.if-len-gt536870896.false)) in
+    let most : c.len-watchers.result + 2 ≡ length (watched_of c.reserve_watchers.new.busy.items c.reserve_watchers.new.lits.items) + 2 = omega (arith, length_watched c.reserve_watchers.new.busy.items c.reserve_watchers.new.lits.items l) in
+    let least : c.len-watchers.result + 2 + 7 * (2 * c.self.inside.vars + 2) ≡ length (watched_of c.reserve_watchers.new.busy.items c.reserve_watchers.new.lits.items) + 2 + 7 * (2 * c.self.inside.vars + 2) = omega (arith, most) in
+    let wide = chunk_widen _ _ c.widen.new.self.links.items c.widen.new.self.cells.items c.widen.new.self.free.items base c.widen.ensures.is most least (omega (arith, ap (λ (xs : List ℕ). length xs) e.links, c.if-len-ge536870896.false)) in
     let grown = chunk_grow wide.is wide.room in
     let watched = more _ _ _ _ _ _ l c.add_idle.ensures.busy c.add_idle.ensures.lits c.add_idle-2.ensures.busy c.add_idle-2.ensures.lits in
     let room = c.in_ok-reserve_watchers.ensures.room in
-    let longer = widened_length _ _ _ _ _ _ _ c.widen.ensures.is in
-    let fewer = widened_most _ _ _ _ _ _ _ (length c.reserve_watchers.new.lits.items) (2 * c.self.inside.vars + 2) c.widen.ensures.is (omega arith) base.size (omega (arith, c.self.invariant.3, ap (λ (xs : List ℕ). length xs) e.links, ap (λ (xs : List ℤ). length xs) e.lits)) in
+    let longer = widened_length _ _ _ _ _ _ _ _ c.widen.ensures.is in
+    let fewer = widened_most _ _ _ _ _ _ _ _ (length c.reserve_watchers.new.lits.items) (2 * c.self.inside.vars + 2) c.widen.ensures.is (omega arith) base.size (omega (arith, c.self.invariant.3, ap (λ (xs : List ℕ). length xs) e.links, ap (λ (xs : List ℤ). length xs) e.lits)) in
     let more_lits : length c.add_idle-2.new.lits.items ≡ length c.reserve_watchers.new.lits.items + 2 = omega (arith, ap (λ (xs : List ℤ). length xs) c.add_idle-2.ensures.lits, ap (λ (xs : List ℤ). length xs) c.add_idle.ensures.lits, length-append c.add_idle.new.lits.items (pos 1 ∷ []), length-append c.reserve_watchers.new.lits.items (pos 1 ∷ [])) in
     (chunk_eq _ _ _ _ _ grown refl refl refl watched (rest_is _ _ c.self-2-1.given.0 [] refl), omega (arith, longer, room.4, c.widen.ensures.capacity), as_many _ _ _ _ _ _ l c.add_idle.ensures.busy c.add_idle.ensures.lits c.add_idle-2.ensures.busy c.add_idle-2.ensures.lits, omega (arith, fewer, more_lits))
 

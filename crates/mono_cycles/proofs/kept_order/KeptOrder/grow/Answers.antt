@@ -27,7 +27,7 @@ returns-then-high-low-clause-order c =
     let high : c.index-high.result.now ≡ get_or o.ranks.items e.from 0 = get_or_read o.ranks.items e.from c.index-high.result.now (omega arith) c.index-high.ensures 0 in
     let lt = c.if-high-low.true in
     λ ok P h grown. subst (λ (ks : List ℕ). IsTrue (is_order g c.args.part.now ks)) view
-    (order_stays g P c.args.part.now o.order.items o.ranks.items c.args.place e.from e.to c.nodes.ensures.graph.ends (subst (λ (ks : List ℕ). IsTrue (is_order g P ks)) (sym view) h) grown k.ranks_are (λ u l. k.every u (omega arith))
+    (order_stays g P c.args.part.now o.order.items o.ranks.items c.args.place e.from e.to c.known.ensures.graph.ends (subst (λ (ks : List ℕ). IsTrue (is_order g P ks)) (sym view) h) grown k.ranks_are (λ u l. k.every u (omega arith))
     (ap (λ (x : Edge). x.from) (sym c.edge-edge.ensures.edge)) (ap (λ (x : Edge). x.to) (sym c.edge-edge.ensures.edge)) lx ly (omega arith))
 
 pub arrange-requires-clause-high : goal.arrange-requires-clause-high
@@ -90,7 +90,7 @@ returns-in-None-clause-order c =
     let low : c.index-low.result.now ≡ get_or o.ranks.items e.to 0 = get_or_read o.ranks.items e.to c.index-low.result.now (omega arith) c.index-low.ensures 0 in
     let high : c.index-high.result.now ≡ get_or o.ranks.items e.from 0 = get_or_read o.ranks.items e.from c.index-high.result.now (omega arith) c.index-high.ensures 0 in
     let mended : IsMended g c.args.part.now o.order.items o.ranks.items s.nodes.items s.marks.items c.args.place e.from e.to c.index-low.result.now c.index-high.result.now = record {
-      ends = c.nodes.ensures.graph.ends;
+      ends = c.known.ensures.graph.ends;
       ranks_are = k.ranks_are;
       every = λ u l. k.every u (omega arith);
       len = size;

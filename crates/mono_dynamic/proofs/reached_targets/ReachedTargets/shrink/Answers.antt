@@ -1,6 +1,7 @@
 use Rattle.std.proofs.Common.{ℕ, ◌≡◌, Bool, true, not, List, None, sym, ap, subst, ◌∙◌}
 use Rattle.std.specs.Prelude.{IsTrue}
 use Rattle.std.specs.Option.{is_some}
+use Rattle.std.proofs.lemmas.Bool.{both_ways}
 use Rattle.mono_graph.specs.Digraph.{has}
 use Rattle.mono_dynamic.specs.Arrivals.{IsTree}
 use Rattle.mono_dynamic.specs.SearchTrees.{RestsOn}
@@ -20,7 +21,7 @@ returns-else-is_none-clause-told c = λ parts n next s t. elim c.else-is_none.br
       told_kept c.args.graph.now parts n c.args.number c.args.places.now c.args.self.now next s
       (subst (λ (r : Targets). r.lost ≡ None) c.self.view_is (none_is c.self.inside.lost c.is_none.result c.is_none.ensures w.if-is_none.true))
       (subst (λ (r : Targets). (P : List Bool) (k : ℕ) → IsTree c.args.graph.now P r.ways.tree.source r.ways.tree.arrivals → IsTrue (has c.args.places.now k) → RestsOn r.ways.tree.arrivals k → ⊥) c.self.view_is
-      (w.rests_on_any.ensures w.if-rests_on_any.false)) t
+      (λ P k tree at rests. both_ways w.rests_on_any.result w.if-rests_on_any.false ((w.rests_on_any.ensures P tree).1 (k, at, rests)))) t
   | else-is_none-via-else-is_none w ↦
       told_stale c.args.graph.now parts n c.args.number c.args.self.now next
       (subst (λ (r : Targets). is_some r.lost ≡ true) c.self.view_is (c.is_none.ensures ∙ ap not w.if-is_none.false)) t

@@ -1,5 +1,5 @@
 use Rattle.std.proofs.Common.{◌≡◌, ◌<◌, ◌-◌, ◌∙◌, ℕ, List, length, map, set, sym, ap, subst, arith}
-use Rattle.mono_paths.specs.NodeLabels.{NodeLabels, AreKept}
+use Rattle.mono_paths.specs.NodeLabels.{NodeLabels, AreBelowCap}
 use Rattle.mono_paths.specs.Spread.{label_of}
 use Rattle.mono_paths.proofs.NodeLabels.{lowered_known, lowered, kept_more}
 use Rattle.mono_paths.proofs.labels.Labels.lower.Goals as goal
@@ -13,8 +13,8 @@ overflow_sub-self-inside c = let k = (known c.args.self.now c.self.inside.cap c.
 pub invariant_of-self-2 : goal.invariant_of-self-2
 invariant_of-self-2 c =
     let k = known c.args.self.now c.self.inside.cap c.self.inside.below.items c.self.inside.reached.items c.args.node c.args.label c.self.view_is c.requires in
-    subst (λ (xs : List ℕ). AreKept c.self.inside.cap xs c.give.new.reached.items) (sym c.in_ok-give.ensures.given)
-    (subst (λ (us : List ℕ). AreKept c.self.inside.cap (set c.self.inside.below.items c.args.node (c.self.inside.cap - c.args.label)) us) (sym c.in_ok-give.ensures.listed)
+    subst (λ (xs : List ℕ). AreBelowCap c.self.inside.cap xs c.give.new.reached.items) (sym c.in_ok-give.ensures.given)
+    (subst (λ (us : List ℕ). AreBelowCap c.self.inside.cap (set c.self.inside.below.items c.args.node (c.self.inside.cap - c.args.label)) us) (sym c.in_ok-give.ensures.listed)
     (kept_more c.self.inside.cap c.self.inside.below.items c.self.inside.reached.items c.args.node (c.self.inside.cap - c.args.label) k.0 (let lt = k.1 in omega arith) (omega arith) c.self.invariant))
 
 pub returns-clause-lowered : goal.returns-clause-lowered

@@ -29,7 +29,7 @@ returns-clause-conflict g c =
     let can = rw (← c.self.view_is) at c.requires.forced in
     let wrong = rw (← c.self.view_is) at c.requires.wrong in
     let same : c.problem-problem.result.now ≡ c.self.inside.theories.problem = c.problem-problem.ensures.problem in
-    let ok = subst IsInstance same c.vars.ensures.problem in
+    let ok = subst IsInstance same c.known.ensures.problem in
     rw c.explain.ensures.same (pushed_conflict c.push_lemma.result c.self.inside.theories c.self.inside.trail c.self.inside.store c.self.inside.journal c.push_lemma.new.self c.self.inside.order c.args.forced c.in_ok-lemma.lemma ok ready can wrong
     c.in_ok-lemma.ensures.lemma c.push_lemma.ensures.ok (rw same at c.push_lemma.ensures.number) (rw same at c.push_lemma.ensures.keeps))
 

@@ -26,29 +26,29 @@ returns-in_err-learnt-clause-journal g c =
 
 pub add-requires-clause-within : goal.add-requires-clause-within
 add-requires-clause-within g c =
-    let analysis = analysed c.self.view_is c.requires.conflict c.requires.level c.problem-problem.ensures.problem c.in_ok-learnt.ensures.learns c.in_ok-learnt.ensures.settles c.in_ok-learnt.ensures.keeps c.level.ensures.sound in
+    let analysis = analysed c.self.view_is c.requires.conflict c.requires.level c.problem-problem.ensures.problem c.in_ok-learnt.ensures.learns c.in_ok-learnt.ensures.settles c.in_ok-learnt.ensures.keeps c.known.ensures.sound in
     rw c.lits.ensures (learned_within analysis)
 
 pub add-requires-clause-rising : goal.add-requires-clause-rising
 add-requires-clause-rising g c =
-    let analysis = analysed c.self.view_is c.requires.conflict c.requires.level c.problem-problem.ensures.problem c.in_ok-learnt.ensures.learns c.in_ok-learnt.ensures.settles c.in_ok-learnt.ensures.keeps c.level.ensures.sound in
+    let analysis = analysed c.self.view_is c.requires.conflict c.requires.level c.problem-problem.ensures.problem c.in_ok-learnt.ensures.learns c.in_ok-learnt.ensures.settles c.in_ok-learnt.ensures.keeps c.known.ensures.sound in
     learned_rising analysis
 
 pub add-requires-clause-follows : goal.add-requires-clause-follows
 add-requires-clause-follows g c =
-    let analysis = analysed c.self.view_is c.requires.conflict c.requires.level c.problem-problem.ensures.problem c.in_ok-learnt.ensures.learns c.in_ok-learnt.ensures.settles c.in_ok-learnt.ensures.keeps c.level.ensures.sound in
+    let analysis = analysed c.self.view_is c.requires.conflict c.requires.level c.problem-problem.ensures.problem c.in_ok-learnt.ensures.learns c.in_ok-learnt.ensures.settles c.in_ok-learnt.ensures.keeps c.known.ensures.sound in
     rw c.backjump.ensures.trail (learned_follows analysis c.level_after-level.result c.level_after-level.ensures.within)
 
 pub returns-clause-journal : goal.returns-clause-journal
 returns-clause-journal g c =
-    let analysis = analysed c.self.view_is c.requires.conflict c.requires.level c.problem-problem.ensures.problem c.in_ok-learnt.ensures.learns c.in_ok-learnt.ensures.settles c.in_ok-learnt.ensures.keeps c.level.ensures.sound in
+    let analysis = analysed c.self.view_is c.requires.conflict c.requires.level c.problem-problem.ensures.problem c.in_ok-learnt.ensures.learns c.in_ok-learnt.ensures.settles c.in_ok-learnt.ensures.keeps c.known.ensures.sound in
     let open_journal = learned_open analysis in
     let problem : c.backjump.new.theories.problem ≡ c.self.inside.theories.problem = ap (λ (b : TheoriesView). b.problem) c.backjump.ensures.theories ∙ ap (λ (b : TheoriesView). b.problem) c.in_ok-learnt.ensures.by in
     subst (λ (p : Instance). IsJournal p c.analyse.new.journal) (sym problem) open_journal.journal
 
 pub returns-clause-ready : goal.returns-clause-ready
 returns-clause-ready g c =
-    let analysis = analysed c.self.view_is c.requires.conflict c.requires.level c.problem-problem.ensures.problem c.in_ok-learnt.ensures.learns c.in_ok-learnt.ensures.settles c.in_ok-learnt.ensures.keeps c.level.ensures.sound in
+    let analysis = analysed c.self.view_is c.requires.conflict c.requires.level c.problem-problem.ensures.problem c.in_ok-learnt.ensures.learns c.in_ok-learnt.ensures.settles c.in_ok-learnt.ensures.keeps c.known.ensures.sound in
     let u = c.analyse.new.trail in
     let ok = rw c.lits.ensures at c.add.ensures.ok in
     let ready = added analysis
@@ -58,13 +58,13 @@ returns-clause-ready g c =
 
 pub returns-clause-chains : goal.returns-clause-chains
 returns-clause-chains g c =
-    let analysis = analysed c.self.view_is c.requires.conflict c.requires.level c.problem-problem.ensures.problem c.in_ok-learnt.ensures.learns c.in_ok-learnt.ensures.settles c.in_ok-learnt.ensures.keeps c.level.ensures.sound in
+    let analysis = analysed c.self.view_is c.requires.conflict c.requires.level c.problem-problem.ensures.problem c.in_ok-learnt.ensures.learns c.in_ok-learnt.ensures.settles c.in_ok-learnt.ensures.keeps c.known.ensures.sound in
     let e = learned_chains analysis in
     rw (← c.self.view_is) (on_ok c.add.result (chain_count c.analyse.new.journal ≡ chain_count c.self.inside.journal + 1) e)
 
 pub returns-clause-back : goal.returns-clause-back
 returns-clause-back g c =
-    let analysis = analysed c.self.view_is c.requires.conflict c.requires.level c.problem-problem.ensures.problem c.in_ok-learnt.ensures.learns c.in_ok-learnt.ensures.settles c.in_ok-learnt.ensures.keeps c.level.ensures.sound in
+    let analysis = analysed c.self.view_is c.requires.conflict c.requires.level c.problem-problem.ensures.problem c.in_ok-learnt.ensures.learns c.in_ok-learnt.ensures.settles c.in_ok-learnt.ensures.keeps c.known.ensures.sound in
     let back = went_back analysis c.backjump.new.theories c.backjump.new.trail c.add.new.self c.backjump.new.order c.args.restarts c.level_after-level.result c.level_after-level.ensures.level c.backjump.ensures.trail
     (subst (λ (o : OrderView). Releases o c.backjump.new.order (drop (count_to c.level_after-level.result c.analyse.new.trail.marks) c.analyse.new.trail.lits)) c.bump_resolved.ensures c.backjump.ensures.order) in
     rw (← c.self.view_is) (on_ok c.add.result (GoesBack (state c.self.inside.theories c.self.inside.trail c.self.inside.store c.self.inside.journal c.self.inside.order) (state c.backjump.new.theories c.backjump.new.trail c.add.new.self c.analyse.new.journal c.backjump.new.order) c.args.restarts) back)
@@ -83,7 +83,7 @@ returns-clause-keeps g c = rw (← c.self.view_is) (more_learned c.problem-probl
 
 pub returns-clause-within : goal.returns-clause-within
 returns-clause-within g c =
-    let analysis = analysed c.self.view_is c.requires.conflict c.requires.level c.problem-problem.ensures.problem c.in_ok-learnt.ensures.learns c.in_ok-learnt.ensures.settles c.in_ok-learnt.ensures.keeps c.level.ensures.sound in
+    let analysis = analysed c.self.view_is c.requires.conflict c.requires.level c.problem-problem.ensures.problem c.in_ok-learnt.ensures.learns c.in_ok-learnt.ensures.settles c.in_ok-learnt.ensures.keeps c.known.ensures.sound in
     let e = learned_chains analysis in
     let le : chain_count c.analyse.new.journal ≤ chain_count c.self.inside.journal + 1 = omega (arith, e) in
     rw (← c.self.view_is) le

@@ -6,4 +6,4 @@ use Rattle.mono_search.proofs.state.State.model.Goals as goal
 pub returns : goal.returns
 returns g c =
     let full = rw (← c.self.view_is) at c.requires in
-    rw (← c.self.view_is) (has_model c.values_of.result c.self.inside.theories c.self.inside.trail c.self.inside.store c.self.inside.journal c.self.inside.order (subst IsInstance c.problem-problem.ensures.problem c.vars.ensures.problem) full c.values_of.ensures.len c.values_of.ensures.values)
+    rw (← c.self.view_is) (has_model c.values_of.result c.self.inside.theories c.self.inside.trail c.self.inside.store c.self.inside.journal c.self.inside.order (subst IsInstance c.problem-problem.ensures.problem c.known.ensures.problem) full c.values_of.ensures.len c.values_of.ensures.values)

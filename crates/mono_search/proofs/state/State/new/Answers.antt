@@ -9,5 +9,5 @@ returns g c =
     let b = c.in_ok-theories.ensures in
     let i = c.in_ok-inputs.ensures in
     rw c.new-4.ensures (begins c.args.problem.now c.in_ok-theories.theories c.in_ok-inputs.inputs.trail c.in_ok-inputs.inputs.store c.in_ok-inputs.inputs.order
-    (ap (λ (x : TheoriesView). x.problem) b) (ap (λ (x : TheoriesView). x.handed) b) (subst (λ (x : TheoriesView). All (λ (f : Facts). f.seen ≡ []) x.facts) (sym b) c.requires.unseen)
+    (ap (λ (x : TheoriesView). x.problem) b) (ap (λ (x : TheoriesView). x.handed) b) (ap (λ (x : TheoriesView). x.given) b) (subst (λ (x : TheoriesView). All (λ (f : Facts). f.seen ≡ []) x.facts) (sym b) c.requires.unseen)
     i.trail i.sound i.store i.order)

@@ -38,7 +38,7 @@ loop-self-preserved g c =
     let t = g.T.Theory in
     let facts = facts_of t.graph t.atoms t.seen c.loop-self.self-inside.theories.items in
     let new = facts_of t.graph t.atoms t.seen c.hand_to.new.theories.items in
-    let now : TheoriesView = record { problem = c.loop-self.self-inside.problem.now; facts = facts; handed = c.loop-self.self-inside.handed } in
+    let now : TheoriesView = record { problem = c.loop-self.self-inside.problem.now; facts = facts; handed = c.loop-self.self-inside.handed; given = c.loop-self.self-inside.given } in
     let s = handed_step c.args.self.now now c.args.lits.now c.index-lits-self.result new c.loop-self.invariant.from c.loop-self-test.true c.index-lits-self.is c.hand_to.ensures.facts in
     record {
       kept = all_kept (handed_on c.index-lits-self.result) now.problem facts new c.loop-self.self-inside.concerned c.loop-self.self-inside.owners.items c.loop-self.self-inside.counts.items c.loop-self.self-inside.counts.items c.loop-self.self-inside.worklist.listed c.hand_to.new.worklist.listed

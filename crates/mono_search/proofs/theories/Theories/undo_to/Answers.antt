@@ -9,7 +9,7 @@ use Rattle.mono_search.proofs.theories.Theories.undo_to.Goals as goal
 pub returns : goal.returns
 returns g c =
     let t = g.T.Theory in
-    let before : TheoriesView = record { problem = c.self.inside.problem.now; facts = facts_of t.graph t.atoms t.seen c.self.inside.theories.items; handed = c.self.inside.handed } in
+    let before : TheoriesView = record { problem = c.self.inside.problem.now; facts = facts_of t.graph t.atoms t.seen c.self.inside.theories.items; handed = c.self.inside.handed; given = c.self.inside.given } in
     let fewer : c.args.kept ≤ before.handed = rw (← c.self.view_is) at c.requires.fewer in
     rw (← c.self.view_is) (taken_back before (facts_of t.graph t.atoms t.seen c.undo_each_to.new.theories.items) c.args.lits.now c.args.kept fewer c.undo_each_to.ensures.facts)
 

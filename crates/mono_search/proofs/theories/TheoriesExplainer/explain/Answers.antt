@@ -20,4 +20,4 @@ pub returns-clause-lemma : goal.returns-clause-lemma
 returns-clause-lemma g c =
     let t = g.T.Theory in
     let forces = rw (← c.self.view_is) at c.requires.forces in
-    rw (← c.self.view_is) (explained_ok c.explain_by_owner.result c.self.inside.problem.now (facts_of t.graph t.atoms t.seen c.self.inside.theories.items) c.args.atom c.args.kept c.args.lit c.vars-vars.ensures.problem c.self.invariant.owns forces c.explain_by_owner.ensures.lemma)
+    rw (← c.self.view_is) (explained_ok c.explain_by_owner.result c.self.inside.problem.now (facts_of t.graph t.atoms t.seen c.self.inside.theories.items) c.args.atom c.args.kept c.args.lit c.known.ensures.problem c.self.invariant.owns forces c.explain_by_owner.ensures.lemma)

@@ -34,5 +34,5 @@ owns_each p ok one graph =
 
 pub new-requires-2-clause-owns : goal.new-requires-2-clause-owns
 new-requires-2-clause-owns c =
-    let owned : OwnsEach c.args.problem.now (own c.args.problem.now ∷ []) = owns_each c.args.problem.now c.vars.ensures.problem c.requires.one c.requires.graph in
+    let owned : OwnsEach c.args.problem.now (own c.args.problem.now ∷ []) = owns_each c.args.problem.now c.known.ensures.problem c.requires.one c.requires.graph in
     rw c.in_ok-push.ensures.items (rw c.new-theories.ensures.items (subst (λ (f : Facts). OwnsEach c.args.problem.now (f ∷ [])) (sym c.in_ok-theory.ensures) owned))

@@ -8,4 +8,4 @@ pub invariant_of-result : goal.invariant_of-result
 invariant_of-result c =
     let t = c.in_ok-tables.tables in
     rw c.in_ok-tables.ensures.unseen
-    (subst (λ (xs : List Atom). IsFrame c.args.graph xs [] t.edges t.own t.numbers t.vars.items (vec_capacity t.lits)) c.as_slice.ensures.value c.in_ok-tables.ensures.frame)
+    (subst (λ (xs : List Atom). IsFrame c.args.graph xs [] t.edges t.own t.numbers.keys t.vars.items (vec_capacity t.lits)) c.as_slice.ensures.value c.in_ok-tables.ensures.frame)

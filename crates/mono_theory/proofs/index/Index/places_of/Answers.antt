@@ -1,7 +1,7 @@
-use Rattle.mono_theory.specs.Index.{ArePlacesOf}
 use Rattle.mono_theory.proofs.index.Index.places_of.Goals as goal
 
+pub places_at-requires : goal.places_at-requires
+places_at-requires c = c.find.ensures.fits
+
 pub returns : goal.returns
-returns c =
-    let own : ArePlacesOf c.self.inside.keys.items c.args.key c.places_between.result.now = (rw c.as_slice.ensures.value at c.places_between.ensures) c.self.inside.keys.items c.self.invariant in
-    rw (← c.self.view_is) own
+returns c = rw c.places_at.ensures.places c.find.ensures.places

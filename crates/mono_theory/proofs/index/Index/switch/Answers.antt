@@ -1,6 +1,10 @@
-use Rattle.std.proofs.Common.{arith}
+use Rattle.std.proofs.Common.{◌∙◌}
 use Rattle.mono_theory.proofs.Switches.{switched_by}
 use Rattle.mono_theory.proofs.index.Index.switch.Goals as goal
 
+pub set_all-requires : goal.set_all-requires
+set_all-requires c = rw c.requires.size c.places_at.ensures.held
+
 pub returns-clause-part : goal.returns-clause-part
-returns-clause-part c = switched_by c.args.self.now c.places_of-places.result.now c.args.key c.args.on c.args.part.now c.set_all.new.part c.places_of-places.ensures c.requires (omega arith) c.set_all.ensures.done c.set_all.ensures.others
+returns-clause-part c = λ key places.
+    switched_by c.args.self.now.keys c.places_at.result.now key c.args.on c.args.part.now c.set_all.new.part (rw c.places_at.ensures.places places) c.requires.size (c.set_all.ensures.size ∙ c.requires.size) c.set_all.ensures.done c.set_all.ensures.others

@@ -1,7 +1,6 @@
-use Rattle.std.proofs.Common.{◌≡◌, take, ◌∙◌}
-use Rattle.mono_problem.specs.Quiet.{over}
+use Rattle.std.proofs.Common.{true, length, take, ap, ◌∙◌}
 use Rattle.mono_theory.specs.Theories.{cut_to}
-use Rattle.mono_theory.proofs.FramesStay.{over_is}
+use Rattle.mono_theory.proofs.PartsOfSides.{part_len}
 use Rattle.mono_theory.proofs.PossibleParts.{rows_renewed, targets_cut, targets_in}
 use Rattle.mono_theory.proofs.WalksTold.{rest_is_reached}
 use Rattle.mono_theory.proofs.possible_rows.PossibleRowsRows.settle.Goals as goal
@@ -9,26 +8,26 @@ use Rattle.mono_theory.proofs.possible_rows.PossibleRowsRows.settle.Goals as goa
 pub settle_rows-requires-clause-few : goal.settle_rows-requires-clause-few
 settle_rows-requires-clause-few g c = (rw (← c.self.view_is) at c.requires.right).few
 
+pub settle_rows-requires-clause-part : goal.settle_rows-requires-clause-part
+settle_rows-requires-clause-part g c = rw c.graph.ensures.graph (ap length c.requires.part ∙ part_len c.args.frame.now.graph (take c.args.looked c.args.frame.now.seen) true)
+
 pub returns-clause-right : goal.returns-clause-right
 returns-clause-right g c =
     let f = c.args.frame.now in
     let n = c.args.looked in
     let h = targets_in f n c.requires.looked (rw (← c.self.view_is) at c.requires.right) in
-    let part : c.over.result.now ≡ over f.graph (take n f.seen) = c.over.ensures.part ∙ over_is c.args.bounds.now f.graph (take n f.seen) c.requires.bounds in
-    targets_cut f n c.requires.looked (rows_renewed n c.over.result.now c.settle_rows.new.rows part c.settle_rows.ensures.nodes (rw c.graph.ensures.graph at c.settle_rows.ensures.renewed) h)
+    targets_cut f n c.requires.looked (rows_renewed n c.args.part.now c.settle_rows.new.rows c.requires.part c.settle_rows.ensures.nodes (rw c.graph.ensures.graph at c.settle_rows.ensures.renewed) h)
 
 pub returns-in_err-settle_rows-clause-right : goal.returns-in_err-settle_rows-clause-right
 returns-in_err-settle_rows-clause-right g c =
     let f = c.args.frame.now in
     let n = c.args.looked in
     let h = targets_in f n c.requires.looked (rw (← c.self.view_is) at c.requires.right) in
-    let part : c.over.result.now ≡ over f.graph (take n f.seen) = c.over.ensures.part ∙ over_is c.args.bounds.now f.graph (take n f.seen) c.requires.bounds in
-    targets_cut f n c.requires.looked (rows_renewed n c.over.result.now c.settle_rows.new.rows part c.settle_rows.ensures.nodes (rw c.graph.ensures.graph at c.settle_rows.ensures.renewed) h)
+    targets_cut f n c.requires.looked (rows_renewed n c.args.part.now c.settle_rows.new.rows c.requires.part c.settle_rows.ensures.nodes (rw c.graph.ensures.graph at c.settle_rows.ensures.renewed) h)
 
 pub returns-clause-rest : goal.returns-clause-rest
 returns-clause-rest g c =
     let f = c.args.frame.now in
     let n = c.args.looked in
     let h = targets_in f n c.requires.looked (rw (← c.self.view_is) at c.requires.right) in
-    let part : c.over.result.now ≡ over f.graph (take n f.seen) = c.over.ensures.part ∙ over_is c.args.bounds.now f.graph (take n f.seen) c.requires.bounds in
-    rest_is_reached {f = cut_to n f} (targets_cut f n c.requires.looked (rows_renewed n c.over.result.now c.settle_rows.new.rows part c.settle_rows.ensures.nodes (rw c.graph.ensures.graph at c.settle_rows.ensures.renewed) h)) c.in_ok-settle_rows.ensures.settled
+    rest_is_reached {f = cut_to n f} (targets_cut f n c.requires.looked (rows_renewed n c.args.part.now c.settle_rows.new.rows c.requires.part c.settle_rows.ensures.nodes (rw c.graph.ensures.graph at c.settle_rows.ensures.renewed) h)) c.in_ok-settle_rows.ensures.settled

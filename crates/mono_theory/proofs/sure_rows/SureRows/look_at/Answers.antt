@@ -1,29 +1,37 @@
-use Rattle.std.proofs.Common.{map, length, arith, refl, sym, subst, ◌∙◌, inl, inr}
-use Rattle.mono_theory.specs.DueNodes.{PutsRows}
-use Rattle.mono_theory.specs.SureRows.{SureRowsView}
+use Rattle.std.proofs.Common.{◌+◌, false, arith, refl, sym, ap, ◌∙◌, inl, inr, length, take}
 use Rattle.mono_theory.proofs.FramesStay.{lit_by}
-use Rattle.mono_theory.proofs.SureEdges.{bounds_grown, sure_still}
+use Rattle.mono_theory.proofs.PartsFollow.{next_of}
+use Rattle.mono_theory.proofs.PartsOfSides.{part_len}
+use Rattle.mono_theory.proofs.PossibleParts.{places_known}
+use Rattle.mono_theory.proofs.SureEdges.{sure_grown, sure_still}
 use Rattle.mono_theory.proofs.sure_rows.SureRows.look_at.Goals as goal
 
 pub grow-requires-clause-rows : goal.grow-requires-clause-rows
-grow-requires-clause-rows g c = rw c.graph.ensures.graph c.requires.rows
+grow-requires-clause-rows g c = rw c.graph-graph.ensures.graph (rw (← c.self.view_is) at c.requires.rows)
+
+pub grow-requires-clause-part : goal.grow-requires-clause-part
+grow-requires-clause-part g c = rw c.graph-graph.ensures.graph (ap length c.requires.part ∙ part_len c.args.frame.now.graph (take (c.args.looked + 1) c.args.frame.now.seen) false)
+
+pub grow-requires-clause-places : goal.grow-requires-clause-places
+grow-requires-clause-places g c = rw c.graph-graph.ensures.graph (places_known c.args.frame.now.graph _ c.edges_at.result.now _ refl c.edges_at.ensures)
 
 pub returns-then-not-is_positive-clause-looked : goal.returns-then-not-is_positive-clause-looked
 returns-then-not-is_positive-clause-looked g c =
-    let lit = lit_by c.args.lit (omega (arith, c.var-var.ensures.low)) in
+    let lit = lit_by c.args.lit (omega (arith, c.var.ensures.low, c.var.ensures.value)) in
     inl (record { parts = sure_still c.args.frame.now c.args.looked c.args.lit c.requires.more c.requires.next lit (sym c.is_positive.ensures ∙ c.if-not-is_positive.true); rows = refl; due = refl })
 
 pub returns-clause-looked : goal.returns-clause-looked
 returns-clause-looked g c =
     let f = c.args.frame.now in
     let n = c.args.looked in
-    let w = rw (c.graph.ensures.graph, c.var-var.ensures.value) at c.in_ok-grow.ensures.grown in
-    inr (record {
-      part = c.args.bounds.now.under;
-      places = w.0;
-      grows = bounds_grown f n c.args.lit c.args.bounds.now w.0 c.requires.more c.requires.next c.seen.ensures.partial c.requires.bounds (sym c.is_positive.ensures ∙ c.if-not-is_positive.false) w.1;
-      grown = w.2;
-      same = c.in_ok-grow.ensures.same;
-      due =
-          subst (λ (m : SureRowsView g.row.R.Denot). PutsRows m.lasts (λ r. map g.R.Change.AtNode.node (g.R.Row.changed_after n r)) m.rows (length m.rows) c.args.due.now.listed c.put_each_due.new.due.listed) c.self.view_is c.put_each_due.ensures;
-    })
+    let ks = c.edges_at.result.now in
+    let its = next_of f n c.args.lit ks c.requires.more c.requires.next c.seen.ensures.partial c.edges_at.ensures in
+    rw (← c.self.view_is)
+    (inr (record {
+      part = c.args.part.now;
+      places = ks;
+      grows = sure_grown f n c.args.lit ks c.args.part.now its (sym c.is_positive.ensures ∙ c.if-not-is_positive.false) c.requires.part;
+      grown = rw c.graph-graph.ensures.graph at c.in_ok-grow.ensures.grown;
+      same = refl;
+      due = c.put_each_due.ensures;
+    }))

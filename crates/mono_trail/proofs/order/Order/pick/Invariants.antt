@@ -1,5 +1,5 @@
 use Rattle.std.specs.List.{count_by}
-use Rattle.mono_trail.specs.Order.{AssignedLeft}
+use Rattle.mono_trail.proofs.Orders.{AssignedLeft}
 use Rattle.mono_trail.proofs.order.Order.pick.Given as goal
 
 abbrev pub invariant-loop-var : goal.invariant-loop-var

@@ -1,7 +1,7 @@
 use Rattle.std.proofs.Common.{◌∙◌, length, List, ℕ, subst, sym, ap, [], arith}
 use Rattle.std.specs.List.{range_with_len}
 use Rattle.std.proofs.lemmas.List.{length-map}
-use Rattle.mono_base.specs.Buckets.{lists_of}
+use Rattle.mono_trees.specs.Lists.{lists_of}
 use Rattle.std.proofs.lemmas.List.FromFn.{length-range_with_len}
 use Rattle.mono_trees.specs.Tells.{Tells}
 use Rattle.mono_trees.proofs.Relabelled.{tells_none}

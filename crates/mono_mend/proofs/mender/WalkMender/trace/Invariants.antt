@@ -1,5 +1,0 @@
-use Rattle.std.proofs.Common.{◌<◌}
-use Rattle.mono_mend.proofs.mender.WalkMender.trace.Given as goal
-
-abbrev pub invariant-loop-step : goal.invariant-loop-step
-invariant-loop-step l = l.node < l.self
