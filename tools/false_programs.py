@@ -98,6 +98,7 @@ SCRIPTS = [
     Script(["bench/clasp.py", "--seeds", "1", "--limit", "5", "reaching"], ["reach"], ("clasp",), 1),
     Script(["bench/cores.py", "--seeds", "1", "12"], ["reach"], (), 1),
     Script(["bench/cubes.py", "trial"], ["reach"], (), 1),
+    Script(["bench/front.py", "--side", "6", "--clauses", "60", "--terms", "8"], ["weighted_distance_leq"], (), 1),
     Script(["bench/growth.py", "edge"], ["reach"], (), 1),
     Script(["bench/log.py", "--bytes", "1000000", "--numbers", "100"], [], ("wc",)),
     Script(["bench/team.py", "--seeds", "1", "8"], ["reach"], (), 1),

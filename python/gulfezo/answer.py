@@ -19,6 +19,7 @@ from .problem import Problem
 from .steps import Derivation, Progress, Refutation, Steps
 
 Answer = Model | Refutation | Progress
+SATISFIABLE = [b"s", b"SATISFIABLE"]
 
 
 def parse_answer(problem: Problem, text: str) -> Answer:
@@ -59,10 +60,9 @@ def migrate(answer: Model | Derivation, version: int, program: str | None = None
 
 def answer_of(problem: Problem, lines: Lines, assumed: Sequence[int] = ()) -> Answer:
     """The answer of a text by its lines, in version 1 or, behind the line `version 2`, in version 2."""
-    begin = 1 if len(lines) and lines.tokens(0) == [b"version", b"2"] else 0
-    status = lines.tokens(begin) if len(lines) > begin else []
-    if status == [b"s", b"SATISFIABLE"]:
-        return Model(problem, values(problem, lines, begin + 1), lines.text())
+    begin, status = status_of(lines)
+    if status == SATISFIABLE:
+        return Model(problem, values(problem.variables, lines, begin + 1), lines.text())
     before = len(problem.clauses) + len(assumed) - begin
     steps = Steps(lines, range(begin + 1, len(lines)), before, backwards=begin == 1)
     if status == [b"s", b"UNSATISFIABLE"]:
@@ -73,9 +73,24 @@ def answer_of(problem: Problem, lines: Lines, assumed: Sequence[int] = ()) -> An
     raise FormatError(number, "an answer begins with `s SATISFIABLE`, `s UNSATISFIABLE` or `s UNKNOWN`")
 
 
-def values(problem: Problem, lines: Lines, first: int) -> Values:
+def status_of(lines: Lines) -> tuple[int, list[bytes]]:
+    """The place of the line that says what an answer is, and the tokens of that line."""
+    begin = 1 if len(lines) and lines.tokens(0) == [b"version", b"2"] else 0
+    return begin, lines.tokens(begin) if len(lines) > begin else []
+
+
+def values_in(printed: Path, variables: int) -> Values:
+    """The values in a file that has a model. `FormatError`: it has none."""
+    lines = Lines(printed.read_bytes())
+    begin, status = status_of(lines)
+    if status != SATISFIABLE:
+        raise FormatError(begin + 1, "a model was expected")
+    return values(variables, lines, begin + 1)
+
+
+def values(variables: int, lines: Lines, first: int) -> Values:
     """The value of each variable, from the lines `v` of a model, of which the first has the place `first`."""
-    found = Values(problem.variables)
+    found = Values(variables)
     for place in range(first, len(lines)):
         word, numbers = lines.numbers(place)
         if word != "v":

@@ -253,5 +253,5 @@ def is_flow(predicate: Predicate) -> bool:
     from .literals import Kind
 
     if not isinstance(predicate, Predicate):
-        raise ValueError(f"'{predicate}' is no predicate with a bound")
+        raise ValueError(f"{predicate!r} is no predicate with a bound; of a sum minimise and maximise ask for the best")
     return predicate.kind is Kind.MAXIMUM_FLOW

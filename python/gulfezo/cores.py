@@ -79,6 +79,9 @@ class Core:
         def __getattr__(self, name: str) -> NoReturn:
             raise AttributeError(f"a core has no {name!r}: its literals can't hold together, so there is no model")
 
+        def __getitem__(self, thing: object) -> NoReturn:
+            raise TypeError(f"a core has no value of {thing!r}: there is no model; `literals` lists what is in it")
+
     @property
     def literals(self) -> list[Literal]:
         """The assumptions of the core, as they were given and in that order."""

@@ -52,6 +52,8 @@ def drawing(
         problem = problem if answer is None else answer.problem
     elif isinstance(answer, Core):
         answer = answer.refutation
+    if answer is not None and not isinstance(answer, (Model, Derivation)):
+        raise TypeError(f"{answer!r} is no answer: a model, a refutation, a core or a best value is drawn")
     chosen = number_of(problem, graph)
     if answer is None:
         return drawn([(g, marking.bare(g)) for g in chosen_graphs(problem, predicate, chosen)])

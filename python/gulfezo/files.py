@@ -3,6 +3,7 @@
 from __future__ import annotations
 
 import contextlib
+import errno
 import os
 import shutil
 import subprocess
@@ -16,15 +17,27 @@ BY_TOOL = {".png": "png", ".pdf": "pdf"}
 
 
 def write_whole(path: str | os.PathLike[str], content: bytes) -> None:
-    """Writes a file. `OSError`: it couldn't, as on a full disk; nothing of it is left, and an older file stays.
+    """Writes a file. `OSError`, which names it: it couldn't, as on a full disk; nothing of it is left, and an older
+    file stays.
 
     What isn't a file, a device or a pipe, is written as it is.
     """
     target = Path(path)
-    if target.exists() and not target.is_file():
-        target.write_bytes(content)
-        return
-    target = target.resolve()
+    is_file = target.is_file() or not target.exists()
+    folder = target.resolve().parent
+    if is_file and not folder.is_dir():
+        raise FileNotFoundError(errno.ENOENT, "there is no such folder", str(folder))
+    try:
+        if is_file:
+            replace(target.resolve(), content)
+        else:
+            target.write_bytes(content)
+    except OSError as fault:
+        raise OSError(fault.errno, fault.strerror, str(path)) from fault
+
+
+def replace(target: Path, content: bytes) -> None:
+    """Writes a file beside that one, and then gives it its name."""
     handle, beside = tempfile.mkstemp(prefix=f".{target.name}.", dir=target.parent)
     try:
         with os.fdopen(handle, "wb") as out:

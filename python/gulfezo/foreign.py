@@ -147,6 +147,8 @@ def solve(reader: Reader, tokens: list[str]) -> None:
 
 def networkx_graph(problem: Problem, graph: Any, weight: str, default: int | None) -> Graph:
     """See `Problem.add_networkx`."""
+    if not hasattr(graph, "nodes") or not hasattr(graph, "is_directed"):
+        raise TypeError(f"{type(graph).__name__!r} is no graph of networkx; Graph.add_edge takes edges one by one")
     made = problem.add_graph(printable(str(getattr(graph, "name", "") or "")))
     data_of = dict(graph.nodes(data=True)) if callable(graph.nodes) else {}
     for key in graph.nodes:

@@ -10,6 +10,7 @@ from typing import TYPE_CHECKING, Any
 from .edges import ALONE, BACK, THERE, GraphEdges
 from .limits import MOST_BOUND, MOST_EDGES, MOST_NODES, MOST_PREDICATES, MOST_WEIGHT, one_line, whole
 from .literals import Edge, Kind, Link, Literal, Predicate, WITHOUT_BOUND, WITHOUT_ENDS, WORDS
+from .naming import so_many
 
 if TYPE_CHECKING:
     from .problem import Problem
@@ -69,7 +70,7 @@ class Graph:
 
     def __repr__(self) -> str:
         name = f" {self.name!r}" if self.name else ""
-        return f"<graph {self.identity}{name}: {len(self)} nodes, {len(self.edges)} edges>"
+        return f"<graph {self.identity}{name}: {so_many(len(self), 'node')}, {so_many(len(self.edges), 'edge')}>"
 
     def _repr_svg_(self) -> str | None:
         """The bare graph as a picture, which Jupyter shows."""
@@ -280,6 +281,8 @@ class Graph:
             if node.graph is not self:
                 raise ValueError(f"node {node} is of another graph, and not of graph {self.identity}")
             number = int(node)
+        elif isinstance(node, (str, tuple)):
+            raise ValueError(f"{node!r} is no node: graph.node({node!r}) finds the one of that name or key")
         else:
             number = whole(node, "a node's number")
         if number >= len(self):

@@ -44,6 +44,8 @@ def in_turn(
     seconds: float | None,
 ) -> list[Incumbent] | Refutation:
     """See `Problem.in_turn`."""
+    if not isinstance(aims, Sequence):
+        raise TypeError(f"in_turn takes a list, as [Least(costs), Greatest(flow)], and {aims!r} is none")
     for aim in aims:
         if not isinstance(aim, (Least, Greatest)):
             raise TypeError(f"{aim!r} is no aim: write Least(costs) or Greatest(flow)")

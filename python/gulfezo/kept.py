@@ -50,13 +50,14 @@ class KeptFile:
         is_same = (before.nodes, before.edges, before.graphs) == (now.nodes, now.edges, now.graphs)
         return is_same and all(old <= new for old, new in zip(before, now))
 
-    @contextlib.contextmanager
-    def with_lines(self, lines: Iterable[str]) -> Iterator[Path]:
-        """Within it, the file has these lines behind its own."""
-        size = self.path.stat().st_size
-        try:
-            with open(self.path, "a", encoding="utf-8") as file:
-                file.writelines(f"{line}\n" for line in lines)
-            yield self.path
-        finally:
-            os.truncate(self.path, size)
+
+@contextlib.contextmanager
+def with_lines(path: Path, lines: Iterable[str]) -> Iterator[Path]:
+    """Within it, the file has these lines behind its own."""
+    size = path.stat().st_size
+    try:
+        with open(path, "a", encoding="utf-8") as file:
+            file.writelines(f"{line}\n" for line in lines)
+        yield path
+    finally:
+        os.truncate(path, size)

@@ -5,6 +5,7 @@ Places are in steps of a grid, x to the right and y down; neighbours are about o
 
 from __future__ import annotations
 
+import itertools
 import math
 import re
 import shutil
@@ -17,6 +18,8 @@ from .graph import Graph
 from .literals import Edge, Kind
 
 Place = tuple[float, float]
+
+MOST_LAID_OUT = 1_000  # nodes of a graph that a tool lays out in seconds
 
 NAMED_PLACE = re.compile(r"(?:(?P<label>.*)@)?(?P<x>-?[0-9]+(?:\.[0-9]+)?),(?P<y>-?[0-9]+(?:\.[0-9]+)?)")
 
@@ -39,14 +42,20 @@ def label(graph: Graph, node: int) -> str:
 def places(graph: Graph, present: Sequence[Edge] = ()) -> list[Place]:
     """The place of each node: as its name says; else in layers, where a predicate asks for an order of what is present.
 
-    Else as a tool lays the graph out, or in a ring.
+    Else as a tool lays the graph out, or in a ring; so are graphs that take a tool too long. Hidden nodes without a
+    place are in a row below the others.
     """
     named = [named_place(name) for name in graph.names]
     if all(given is not None or node in graph.hidden_nodes for node, given in enumerate(named)):
-        return [(0.0, 0.0) if given is None else given[1] for given in named]
+        known = [given[1] for given in named if given is not None] or [(0.0, 0.0)]
+        left, below = min(x for x, _ in known), max(y for _, y in known) + 1
+        aside = itertools.count(left)
+        return [(next(aside), below) if given is None else given[1] for given in named]
     is_ordered = any(p.graph == graph.identity and p.kind is Kind.ACYCLIC for p in graph.problem.predicates)
     found = in_layers(len(graph), present) if is_ordered else None
-    return found or by_graphviz(graph) or by_networkx(graph) or in_a_ring(len(graph))
+    if found is None and len(graph) <= MOST_LAID_OUT:
+        found = by_graphviz(graph) or by_networkx(graph)
+    return found or in_a_ring(len(graph))
 
 
 def in_layers(count: int, edges: Sequence[Edge]) -> list[Place] | None:

@@ -7,7 +7,7 @@ are the same thing of the same problem: literals by their numbers, edges and pre
 from __future__ import annotations
 
 import enum
-from collections.abc import Callable, Iterable
+from collections.abc import Callable, Iterable, Sequence
 from typing import TYPE_CHECKING, Any, NoReturn
 
 if TYPE_CHECKING:
@@ -89,6 +89,17 @@ class Literal:
 
         def __getattr__(self, name: str) -> NoReturn:
             raise AttributeError(MISSING.get(name, f"{self!r} has no {name!r}"))
+
+        def __neg__(self) -> NoReturn:
+            raise TypeError("the negation of a literal a is ~a")
+
+        def __add__(self, other: object) -> NoReturn:
+            raise TypeError(
+                "literals aren't reckoned with: problem.at_most(k, [a, b]) counts them, "
+                "and problem.add_sum([(a, 3), (b, 5)]) is a sum of amounts"
+            )
+
+        __radd__ = __sub__ = __rsub__ = __mul__ = __rmul__ = __add__
 
     def __setattr__(self, name: str, value: object) -> NoReturn:
         raise AttributeError(f"{name!r} of {self!r} can't be changed: it stands in the problem as it was added")
@@ -343,14 +354,30 @@ class Predicate(Thing):
 def required(literal: object) -> Literal:
     """The literal. `TypeError`: it is none."""
     if not isinstance(literal, Literal):
-        raise TypeError(f"{literal!r} is no literal: variables, edges and predicates are, and their negations by ~")
+        known = "variables, edges and predicates are, and their negations by ~"
+        raise TypeError(f"{literal!r} is no literal: {known}{meant(literal)}")
     return literal
+
+
+def meant(given: object) -> str:
+    """What may have been meant by what is no literal."""
+    if isinstance(given, bool):
+        return "; what `==` and `in` say in Python is none"
+    if isinstance(given, int) and hasattr(given, "graph"):
+        return "; this is a node, and `graph.reach(a, b)` and its like speak of nodes"
+    return f"; problem.literal({given}) is the one of that number" if isinstance(given, int) and given else ""
+
+
+def unpacked(given: tuple[Any, ...]) -> Sequence[Any]:
+    """What is given one by one or as one list."""
+    if len(given) != 1 or isinstance(given[0], Literal) or not isinstance(given[0], Iterable):
+        return given
+    return list(given[0])
 
 
 def listed(given: tuple[Any, ...]) -> list[Literal]:
     """Literals that are given one by one or as one list. `TypeError`: something else is among them."""
-    single = len(given) == 1 and not isinstance(given[0], Literal) and isinstance(given[0], Iterable)
-    return list(map(required, given[0] if single else given))
+    return list(map(required, unpacked(given)))
 
 
 def several(given: Any, what: str) -> list[Literal]:

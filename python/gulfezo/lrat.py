@@ -156,8 +156,10 @@ def main(words: Sequence[str] | None = None) -> int:
         if given.cnf:
             write_whole(given.cnf, clauses.encode())
         if lemmas:
-            told = f"the last {lemmas} clauses of {given.cnf} are lemmas about graphs, which clauses alone don't give"
-            print(f"gulfezo-lrat: {told}; '{judges}' judges them", file=sys.stderr)
+            last, them = (f"{lemmas} clauses", "them") if lemmas > 1 else ("clause", "it")
+            are = "are lemmas" if lemmas > 1 else "is a lemma"
+            told = f"the last {last} of {given.cnf} {are} about graphs, which clauses alone don't give"
+            print(f"gulfezo-lrat: {told}; '{judges}' judges {them}", file=sys.stderr)
         if given.out:
             write_whole(given.out, text.encode())
         else:

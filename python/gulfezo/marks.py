@@ -12,6 +12,7 @@ from .graph import Graph
 from .layout import label
 from .literals import Edge, Kind, Link, Predicate
 from .model import Model
+from .naming import so_many
 from .problem import Problem
 from .steps import Step
 
@@ -50,23 +51,36 @@ class Marks:
     """What is to be seen beside the bare graph.
 
     `present` are numbers of edges that are there, and `against` of edges whose absence a lemma rests on. `strong` gives
-    a marked edge its pen, `notes` an edge its label, `filled` a node its colour, and `labels` a node its label.
-    Spanning trees ignore directions, so edges have no `arrows` where only trees are spoken of.
+    a marked edge its pens, `notes` an edge its label, `filled` a node its colour, and `labels` a node its label. Nodes
+    that are `shown` are drawn although their graph hides them. Spanning trees ignore directions, so edges have no
+    `arrows` where only trees are spoken of.
     """
 
     present: set[int] = field(default_factory=set)
     against: set[int] = field(default_factory=set)
-    strong: dict[int, Pen] = field(default_factory=dict)
+    strong: dict[int, list[Pen]] = field(default_factory=dict)
     notes: dict[int, str] = field(default_factory=dict)
     filled: dict[int, str] = field(default_factory=dict)
     labels: dict[int, str] = field(default_factory=dict)
+    shown: set[int] = field(default_factory=set)
     arrows: bool = True
     captions: list[Caption] = field(default_factory=list)
 
     def mark(self, edges: Iterable[Edge], pen: Pen) -> None:
-        """Marks these edges, but for those that are marked already."""
+        """Marks these edges, beside what has marked them already."""
         for edge in edges:
-            self.strong.setdefault(edge.edge_number, pen)
+            pens = self.strong.setdefault(edge.edge_number, [])
+            if pen not in pens:
+                pens.append(pen)
+
+    def note(self, edge: Edge, amount: int | None = None) -> None:
+        """Labels an edge with its weight, or with what a flow sends along it, which says both."""
+        known, said = self.notes.get(edge.edge_number, ""), str(edge.weight)
+        if amount is not None:
+            flows = known.split(", ") if "/" in known else []
+            self.notes[edge.edge_number] = ", ".join(dict.fromkeys([*flows, f"{amount}/{said}"]))
+        elif not known:
+            self.notes[edge.edge_number] = said
 
     def say(self, text: str, pen: Pen = PLAIN) -> None:
         """A further caption."""
@@ -109,7 +123,8 @@ def hold(marks: Marks, model: Model, predicate: Predicate, pen: Pen) -> str:
     if predicate.kind is Kind.MAXIMUM_FLOW:
         flow = model.flow(predicate)
         marks.mark(flow, pen)
-        marks.notes.update({edge.edge_number: f"{amount}/{edge.weight}" for edge, amount in flow.items()})
+        for edge, amount in flow.items():
+            marks.note(edge, amount)
         return f"a flow of {predicate.limit}, as amount/capacity"
     if predicate.kind is Kind.ACYCLIC:
         marks.rank(model.order(predicate))
@@ -117,11 +132,12 @@ def hold(marks: Marks, model: Model, predicate: Predicate, pen: Pen) -> str:
     edges = directed(model.tree(predicate)) if predicate.kind is Kind.MST_WEIGHT else model.walk(predicate)
     marks.mark(edges, pen)
     if predicate.kind in (Kind.MST_WEIGHT, Kind.WEIGHTED_DISTANCE):
-        marks.notes.update({edge.edge_number: str(edge.weight) for edge in edges})
+        for edge in edges:
+            marks.note(edge)
         what = "a tree" if predicate.kind is Kind.MST_WEIGHT else "a walk"
         return f"{what} of weight {sum(edge.weight for edge in edges)}, at most {predicate.limit}"
     within = "" if predicate.limit is None else f", at most {predicate.limit}"
-    return f"a walk of {count(len(edges), 'edge')}{within}"
+    return f"a walk of {so_many(len(edges), 'edge')}{within}"
 
 
 def directed(things: Iterable[Edge | Link]) -> list[Edge]:
@@ -140,7 +156,7 @@ def fail(marks: Marks, model: Model, predicate: Predicate, pen: Pen) -> str:
         cycle = search.shortest_cycle(edges)
         assert cycle is not None, "the predicate fails, so there is a cycle"
         marks.mark(cycle, pen)
-        return f"a cycle of {count(len(cycle), 'edge')}"
+        return f"a cycle of {so_many(len(cycle), 'edge')}"
     if ends is None:
         tree = search.lightest_tree(len(graph), edges)
         if tree is not None:
@@ -162,12 +178,12 @@ def fail(marks: Marks, model: Model, predicate: Predicate, pen: Pen) -> str:
         marks.fill(search.reached(edges, ends[0]), SIDE)
         return "no edge leaves the filled nodes"
     marks.mark(walk, pen)
-    length = f"weighs {sum(edge.weight for edge in walk)}" if weighted else f"has {count(len(walk), 'edge')}"
+    length = f"weighs {sum(edge.weight for edge in walk)}" if weighted else f"has {so_many(len(walk), 'edge')}"
     return f"the shortest walk {length}, above {predicate.limit}"
 
 
 def of_lemma(problem: Problem, step: Step) -> Marks:
-    """What a lemma says: its witness, and the edges on which it rests."""
+    """What a lemma says: its witness, and the edges on which it rests, also at nodes that are hidden."""
     predicate = problem.predicates[(step.predicate or 0) - 1]
     graph = problem.graphs[predicate.graph]
     edges = {edge.edge_number: edge for edge in graph.edges}
@@ -179,6 +195,7 @@ def of_lemma(problem: Problem, step: Step) -> Marks:
         marks.against = {number for number, edge in edges.items() if edge.number in literals}
         marks.present = set(edges) - marks.against
     said = witness(marks, step, edges, predicate.kind is Kind.WEIGHTED_DISTANCE)
+    marks.shown = {end for n in marks.against | set(marks.strong) for end in (edges[n].start, edges[n].end)}
     named = name_of(graph, predicate) + ("" if predicate.bound is None else f" with bound {predicate.bound}")
     holds = "holds" if step.shows_that_it_holds else "fails"
     marks.say(f"{step.word} lemma, clause {step.number}: {named} {holds}", FIRST)
@@ -213,12 +230,12 @@ def walk_or_tree(marks: Marks, step: Step, edges: dict[int, Edge]) -> str:
     chosen = [edges[number] for number in step.listed]
     marks.mark(chosen, FIRST)
     if step.word == "cycle":
-        return f"a cycle of {count(len(chosen), 'edge')}"
+        return f"a cycle of {so_many(len(chosen), 'edge')}"
     noted = edges.values() if step.word == "least" else chosen
     marks.notes.update({edge.edge_number: str(edge.weight) for edge in noted})
     weight = sum(edge.weight for edge in chosen)
     if step.word == "path":
-        return f"a walk of {count(len(chosen), 'edge')} and of weight {weight}"
+        return f"a walk of {so_many(len(chosen), 'edge')} and of weight {weight}"
     if step.word == "tree":
         return f"a spanning tree of weight {weight}"
     return f"a lightest spanning tree of the edges that may be present weighs {weight}"
@@ -247,8 +264,3 @@ def has_directions(graph: Graph) -> bool:
     """Whether a predicate over the graph, or none at all, cares for the directions of its edges."""
     kinds = {p.kind for p in graph.problem.predicates if p.graph == graph.identity}
     return kinds != {Kind.MST_WEIGHT}
-
-
-def count(number: int, thing: str) -> str:
-    """So many things, in words."""
-    return f"{number} {thing}" if number == 1 else f"{number} {thing}s"

@@ -3,12 +3,13 @@
 from __future__ import annotations
 
 from collections.abc import Iterable, Iterator, Mapping
-from typing import TYPE_CHECKING, Any, Literal as Constant, Protocol, overload
+from typing import TYPE_CHECKING, Any, Literal as Constant, NoReturn, Protocol, overload
 
 from . import search
 from .errors import PackageMissing
 from .graph import Graph, Node
-from .literals import Edge, Kind, Link, Literal, Predicate
+from .literals import Edge, Kind, Link, Literal, Predicate, WORDS
+from .naming import so_many
 from .problem import Problem
 from .statistics import Statistics
 
@@ -40,6 +41,10 @@ class Values(Mapping[int, bool]):
                 signs[number] = TRUE
             elif number < 0:
                 signs[-number] = FALSE
+
+    def literals(self) -> list[int]:
+        """The literals that are true, by their numbers."""
+        return [number if sign == TRUE else -number for number, sign in enumerate(self.signs) if sign]
 
     def __getitem__(self, variable: int) -> bool:
         sign = self.signs[variable] if 0 < variable < len(self.signs) else UNKNOWN
@@ -87,13 +92,19 @@ class Model:
 
     def __repr__(self) -> str:
         count = sum(self.values.values())
-        return f"<model of {len(self.values)} variables, {count} of them true>"
+        return f"<model of {so_many(len(self.values), 'variable')}, {count} of them true>"
 
     def _repr_svg_(self) -> str | None:
         """The graphs with what holds in them, which Jupyter shows."""
         from .draw import shown_in_notebook
 
         return shown_in_notebook(self.problem, self)
+
+    if not TYPE_CHECKING:  # of a type checker these names stay unknown
+
+        def __getattr__(self, name: str) -> NoReturn:
+            said = "`steps`, `lemmas` and `lrat` are a refutation's, which is false in an `if`"
+            raise AttributeError(f"a model has no {name!r}; {said}")
 
     @property
     def statistics(self) -> Statistics:
@@ -113,7 +124,7 @@ class Model:
         if not isinstance(thing, Literal) and hasattr(thing, "value_in"):
             return thing.value_in(self)
         if not isinstance(thing, Literal) or thing.owner not in (None, self.problem):
-            raise ValueError(f"{thing} is no literal of the problem that was solved")
+            raise ValueError(f"{thing!r} is no literal of the problem that was solved")
         if thing.variable not in self.values:
             raise ValueError(f"{thing} isn't of the problem that was solved; solve again after adding to it")
         return self.values[thing.variable] == (thing.number > 0)
@@ -124,9 +135,14 @@ class Model:
 
     def present(self, graph: Graph) -> list[Edge]:
         """The directed edges that are present, both directions of a link among them, in the order of their numbers."""
-        if graph.problem is not self.problem:
-            raise ValueError(f"graph {graph.identity} isn't of the problem that was solved")
-        return [edge for edge in graph.edges if self[edge]]
+        return list(map(self.problem.edges.edge, self._numbers(graph)))
+
+    def arcs(self, graph: Graph) -> list[search.Arc]:
+        """What `present` gives, by what a search needs of it."""
+        numbers, edges = self._numbers(graph), self.problem.edges
+        places = [number - 1 for number in numbers]
+        columns = (map(column.__getitem__, places) for column in (edges.starts, edges.ends, edges.weights))
+        return list(map(search.Arc._make, zip(numbers, *columns)))
 
     def path(self, predicate: Predicate) -> list[Edge | Link]:
         """A shortest walk of what is present between the predicate's ends, by weight for weighted distances.
@@ -140,9 +156,9 @@ class Model:
         """The walk of `path` as directed edges, of which each begins where the one before it ends."""
         start, end = self._ends(predicate, WALKS, "a walk")
         weighted = predicate.kind is Kind.WEIGHTED_DISTANCE
-        walk = search.shortest_walk(self._edges_of(predicate), start, end, weighted)
+        walk = search.shortest_walk(self._arcs_of(predicate), start, end, weighted)
         assert walk is not None, "the predicate holds, so there is a walk"
-        return walk
+        return self._edges(walk)
 
     def nodes(self, predicate: Predicate) -> list[Node]:
         """The nodes of the walk of `path`, from the predicate's first end to its second."""
@@ -157,8 +173,8 @@ class Model:
         No link carries something both ways. `ValueError`: the predicate isn't of that kind, or it doesn't hold.
         """
         source, sink = self._ends(predicate, (Kind.MAXIMUM_FLOW,), "a flow")
-        found = search.flow_of_at_least(self._edges_of(predicate), source, sink, predicate.limit or 0)
-        return Flow(search.one_way(found))
+        found = search.flow_of_at_least(self._arcs_of(predicate), source, sink, predicate.limit or 0)
+        return Flow(search.one_way(dict(zip(self._edges(found), found.values()))))
 
     def tree(self, predicate: Predicate) -> list[Edge | Link]:
         """The edges and links of a lightest spanning tree.
@@ -167,9 +183,9 @@ class Model:
         """
         self._require(predicate, (Kind.MST_WEIGHT,), "a tree")
         graph = self.problem.graphs[predicate.graph]
-        tree = search.lightest_tree(len(graph), self.present(graph))
+        tree = search.lightest_tree(len(graph), self.arcs(graph))
         assert tree is not None, "the predicate holds, so there is a tree"
-        return things(tree)
+        return things(self._edges(tree))
 
     def order(self, predicate: Predicate) -> list[int]:
         """All nodes of the graph in an order in which each present edge leads from an earlier node to a later one.
@@ -179,7 +195,7 @@ class Model:
         """
         self._require(predicate, (Kind.ACYCLIC,), "an order")
         graph = self.problem.graphs[predicate.graph]
-        order = search.topological_order(len(graph), self.present(graph))
+        order = search.topological_order(len(graph), self.arcs(graph))
         assert order is not None, "the predicate holds, so there is an order"
         return order
 
@@ -212,8 +228,22 @@ class Model:
             found.add_edge(edge.start, edge.end, key=edge.edge_number, weight=edge.weight)
         return found
 
-    def _edges_of(self, predicate: Predicate) -> list[Edge]:
-        return self.present(self.problem.graphs[predicate.graph])
+    def _numbers(self, graph: Graph) -> list[int]:
+        """The numbers of the edges that are present."""
+        if graph.problem is not self.problem:
+            raise ValueError(f"graph {graph.identity} isn't of the problem that was solved")
+        variables, value = self.problem.edges.variables, self.values.__getitem__
+        try:
+            return [number for number in graph.edges.numbers if value(variables[number - 1])]
+        except KeyError as missing:
+            fault = f"graph {graph.identity} has an edge that isn't of the problem that was solved"
+            raise ValueError(f"{fault}; solve again after adding to it") from missing
+
+    def _arcs_of(self, predicate: Predicate) -> list[search.Arc]:
+        return self.arcs(self.problem.graphs[predicate.graph])
+
+    def _edges(self, arcs: Iterable[search.Arc]) -> list[Edge]:
+        return [self.problem.edges.edge(arc.edge_number) for arc in arcs]
 
     def _ends(self, predicate: Predicate, kinds: tuple[Kind, ...], what: str) -> tuple[int, int]:
         self._require(predicate, kinds, what)
@@ -222,7 +252,8 @@ class Model:
 
     def _require(self, predicate: Predicate, kinds: tuple[Kind, ...], what: str) -> None:
         if not isinstance(predicate, Predicate) or predicate.kind not in kinds:
-            raise ValueError(f"'{predicate}' is no predicate that {what} shows")
+            words = ", ".join(word for word, (kind, _) in WORDS.items() if kind in kinds)
+            raise ValueError(f"{predicate!r} is no predicate that {what} shows: these are {words}")
         if not self[predicate]:
             raise ValueError(f"'{predicate}' fails in this model, so there isn't {what}; ask model[predicate] first")
 

@@ -23,6 +23,11 @@ def places_of(column: array[int], value: int) -> Iterator[int]:
         return
 
 
+def so_many(number: int, thing: str) -> str:
+    """So many things, in words."""
+    return f"{number:,} {thing}" if number == 1 else f"{number:,} {thing}s"
+
+
 class Naming:
     """The part of `Problem` that puts its things into words."""
 

@@ -15,6 +15,7 @@ if TYPE_CHECKING:
 
 WITH_BOUNDS = (Kind.DISTANCE, Kind.WEIGHTED_DISTANCE, Kind.MAXIMUM_FLOW, Kind.MST_WEIGHT)
 Aim = Predicate | Sum
+NO_AIM = "is no sum of this problem (add_sum([(a, 3), (b, 5)]) makes one), and no distance, flow or tree with a bound"
 
 
 def require_aim(problem: Problem, aim: Aim, greatest: bool) -> None:
@@ -24,7 +25,7 @@ def require_aim(problem: Problem, aim: Aim, greatest: bool) -> None:
             raise ValueError(f"{aim} is no sum of this problem: add_sum makes one")
         return
     if not isinstance(aim, Predicate) or aim.kind not in WITH_BOUNDS:
-        raise ValueError(f"'{aim}' is no sum of this problem, and no predicate with a bound")
+        raise ValueError(f"{aim!r} {NO_AIM}")
     problem.require_own(aim)
     if greatest != (aim.kind is Kind.MAXIMUM_FLOW):
         raise ValueError("of a flow the greatest bound is asked for, and of a distance or a tree the least")
@@ -79,11 +80,11 @@ class Objective:
         return self.bound(cost)
 
     def cost_in(self, model: Model) -> int:
-        """The cost of a model of a problem that asks for a bound, which may be better than what was asked for."""
+        """The cost of a model of the copy, which may be better than what was asked for."""
         if self.total is not None:
             return sum(amount for x, amount in self.total.terms if model.values[x.variable] == (x.number > 0))
         predicate, graph = self.predicate, model.problem.graphs[self.predicate.graph]
-        present, ends = model.present(graph), self.predicate.ends or (0, 0)
+        present, ends = model.arcs(graph), self.predicate.ends or (0, 0)
         if self.is_flow:
             return -min(search.greatest_flow(present, *ends), MOST_BOUND + 1)
         is_tree, weighted = predicate.kind is Kind.MST_WEIGHT, predicate.kind is not Kind.DISTANCE

@@ -5,7 +5,7 @@ from __future__ import annotations
 import contextlib
 import os
 from array import array
-from collections.abc import Iterable, Iterator, Mapping
+from collections.abc import Iterable, Iterator, Mapping, Sequence
 from typing import Any, Hashable, NamedTuple
 
 from . import cardinality
@@ -14,8 +14,8 @@ from .clauses import Clauses
 from .edges import Edges
 from .graph import Graph
 from .limits import MOST_GRAPHS, MOST_NODES, MOST_VARIABLES, one_line, whole
-from .literals import Literal, Predicate, listed, literal_of, required, several
-from .naming import Naming
+from .literals import Literal, Predicate, listed, literal_of, required, several, unpacked
+from .naming import Naming, so_many
 from .schedules import Schedule
 from .sums import Sum, Sums
 
@@ -75,9 +75,9 @@ class Problem(Asking, Naming):
         self.sums = Sums(self)
 
     def __repr__(self) -> str:
-        parts = {"variables": self.variables, "clauses": len(self.clauses), "graphs": len(self.graphs)}
-        parts |= {"edges": len(self.edges), "predicates": len(self.predicates)}
-        return f"<problem: {', '.join(f'{amount} {what}' for what, amount in parts.items())}>"
+        parts = {"variable": self.variables, "clause": len(self.clauses), "graph": len(self.graphs)}
+        parts |= {"edge": len(self.edges), "predicate": len(self.predicates)}
+        return f"<problem: {', '.join(so_many(amount, what) for what, amount in parts.items())}>"
 
     @property
     def nodes(self) -> int:
@@ -179,12 +179,18 @@ class Problem(Asking, Naming):
 
     def add_clause(self, *literals: Literal | Iterable[Literal]) -> None:
         """At least one of the literals, given one by one or as one list, is true. Without any there is no model."""
-        own = self.require_own
-        self.clauses.append([own(literal).number for literal in listed(literals)])
+        self.clauses.append(self.numbers_of(unpacked(literals)))
+
+    def numbers_of(self, literals: Sequence[Any]) -> list[int]:
+        """The numbers of literals of this problem. `ValueError`, `TypeError`: see `require_own`."""
+        most = self.variables
+        found = [x.number for x in literals if isinstance(x, Literal) and x.owner is self and -most <= x.number <= most]
+        # That is the usual case, in a fraction of the time; what is refused, or was made by hand, is looked at anew.
+        return found if len(found) == len(literals) else [self.require_own(x).number for x in literals]
 
     def require(self, *literals: Literal) -> None:
         """Each of the literals is true."""
-        for number in [self.require_own(literal).number for literal in literals]:
+        for number in self.numbers_of(literals):
             self.clauses.append((number,))
 
     # ---- how many of some literals are true
@@ -256,6 +262,8 @@ class Problem(Asking, Naming):
     def add_graph(self, name: str = "", nodes: int = 0) -> Graph:
         """A new graph with so many nodes, numbered from 0. It is written only once it has a node."""
         nodes = whole(nodes, "a number of nodes", MOST_NODES - self.nodes)
+        if isinstance(name, int):
+            raise ValueError(f"a graph's name comes first, which {name!r} isn't: write add_graph(nodes={name!r})")
         graph = self.declare_graph(max(self.graphs, default=-1) + 1, name)
         graph.grow(nodes)
         return graph

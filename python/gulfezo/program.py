@@ -42,7 +42,7 @@ def meaning(status: int) -> str:
         return "the program was killed, as a system does that is short of memory"
     if status < 0:
         return f"the program was ended by signal {-status}"
-    return NO_ANSWER.get(status, "this isn't an exit code of the program")
+    return NO_ANSWER.get(status, "this isn't an exit code that such a run of the program has")
 
 
 def find(program: str | None = None) -> str:

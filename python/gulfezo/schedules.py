@@ -13,7 +13,7 @@ import contextlib
 import itertools
 from collections.abc import Callable, Hashable, Iterable, Iterator, Mapping
 from functools import cached_property
-from typing import TYPE_CHECKING
+from typing import TYPE_CHECKING, NoReturn
 
 from .limits import printable, whole
 from .literals import Literal
@@ -34,6 +34,13 @@ class Time:
         self.problem = problem
         self.first = first
         self.steps = steps
+
+    if not TYPE_CHECKING:  # of a type checker these stay unknown
+
+        def __le__(self, other: object) -> NoReturn:
+            raise TypeError("what bounds a time is a literal of its own: time.at_most(5), time.at_least(5)")
+
+        __lt__ = __ge__ = __gt__ = __le__
 
     def __repr__(self) -> str:
         return f"<time from {self.first - 1} to {self.first - 1 + len(self.steps)}>"
@@ -87,6 +94,9 @@ class Schedule:
     """
 
     def __init__(self, problem: Problem, tasks: Mapping[Hashable, int], horizon: int | None, name: str) -> None:
+        if not isinstance(tasks, Mapping):
+            said = "a schedule takes a table of each task's hours, as {'cut': 3, 'drill': 2}"
+            raise TypeError(f"{said}, which {tasks!r} isn't")
         hours = {key: whole(time, f"the time of {key!r}", least=1) for key, time in tasks.items()}
         longest = max(hours.values(), default=0)
         self.problem = problem

@@ -182,6 +182,8 @@ def unexpected(status: int, run: Run, file: Path, printed: Path) -> UnexpectedSt
     reason, said = programs.meaning(status), explained(said_in(printed), file)
     if status == SPENT:
         reason = f"no text of the program is there; is {run.program} the program `gulfezo`?"
+    elif status > 0 and status not in programs.NO_ANSWER:
+        reason += f"; is {run.program} the program `gulfezo`?"
     return UnexpectedStatus(f"{run.form} ended with {status}: {reason}{said}", file, printed)
 
 

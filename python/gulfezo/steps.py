@@ -12,6 +12,7 @@ from typing import TYPE_CHECKING, Literal as Constant, NoReturn, Self, overload
 from .errors import FormatError
 from .graph import Graph
 from .lines import Lines
+from .naming import so_many
 from .problem import Problem
 from .statistics import Statistics
 
@@ -65,7 +66,7 @@ class Steps(Sequence[Step]):
         return len(self.places)
 
     def __repr__(self) -> str:
-        return f"<{len(self)} steps>"
+        return f"<{so_many(len(self), 'step')}>"
 
     @overload
     def __getitem__(self, at: int) -> Step: ...
@@ -114,7 +115,8 @@ class Derivation:
         self._sizes = {graph.identity: (len(graph), len(graph.edges)) for graph in problem.graphs.values()}
 
     def __repr__(self) -> str:
-        return f"<{type(self).__name__.lower()} of {len(self.steps)} steps, {len(self.lemmas)} of them lemmas>"
+        kind, steps = type(self).__name__.lower(), so_many(len(self.steps), "step")
+        return f"<{kind} of {steps}, {len(self.lemmas)} of them lemmas>"
 
     def _repr_svg_(self) -> str | None:
         """The first lemma as a picture, which Jupyter shows."""
@@ -148,6 +150,8 @@ class Derivation:
     def require_graph(self, graph: Graph) -> None:
         """`ValueError`: the graph has more nodes or edges or fewer than when the answer came, which is about those."""
         if self._sizes.get(graph.identity) != (len(graph), len(graph.edges)):
+            if graph.problem is not self.problem:
+                raise ValueError(f"graph {graph.identity} isn't of the problem that this answer is about")
             raise ValueError(f"graph {graph.identity} isn't as it was when this answer came: solve again")
 
     def step(self, number: int) -> Step:
@@ -172,6 +176,13 @@ class Derivation:
         return found
 
 
+# What is said where a refutation is taken for a model.
+NO_MODEL = (
+    "there is no model. Ask `if answer:` first; what was asked for is then in a model, and a refutation has `steps`, "
+    "`lemmas` and `text`"
+)
+
+
 class Refutation(Derivation):
     """A proof that the problem has no model, or none under the assumptions: its last step is the empty clause.
 
@@ -194,10 +205,10 @@ class Refutation(Derivation):
     if not TYPE_CHECKING:  # of a type checker these names stay unknown
 
         def __getattr__(self, name: str) -> NoReturn:
-            raise AttributeError(
-                f"a refutation has no {name!r}: there is no model. Ask `if answer:` first; what was asked for is then "
-                "in a model, and a refutation has `steps`, `lemmas` and `text`"
-            )
+            raise AttributeError(f"a refutation has no {name!r}: {NO_MODEL}")
+
+        def __getitem__(self, thing: object) -> NoReturn:
+            raise TypeError(f"a refutation has no value of {thing!r}: {NO_MODEL}")
 
 
 class Progress(Derivation):

@@ -3,7 +3,7 @@
 from __future__ import annotations
 
 from collections.abc import Iterable
-from typing import TYPE_CHECKING, Any
+from typing import TYPE_CHECKING, Any, NoReturn
 
 from .limits import MOST_BOUND, MOST_WEIGHT, whole
 from .literals import Literal, Predicate, literal_of
@@ -60,6 +60,13 @@ class Sum:
     def value_in(self, model: Model) -> int:
         """Its value in a model."""
         return sum(amount for literal, amount in self.terms if model[literal])
+
+    if not TYPE_CHECKING:  # of a type checker these stay unknown
+
+        def __le__(self, other: object) -> NoReturn:
+            raise TypeError("what bounds a sum is a literal of its own: total.at_most(5), total.at_least(5)")
+
+        __lt__ = __ge__ = __gt__ = __le__
 
     def __repr__(self) -> str:
         return f"<sum{f' {self.name!r}' if self.name else ''} of {len(self.terms)} amounts>"

@@ -29,11 +29,8 @@ class Picture:
         self.shapes: list[str] = []
         self.points: list[Point] = []
 
-    def line(self, start: Point, end: Point, bend: float, colour: str, width: float, dashes: str, arrow: bool) -> Point:
-        """A line between two nodes, from rim to rim, bent aside by so many pixels; the point where a label belongs."""
-        (x0, y0), (x1, y1) = start, end
-        length = max(1.0, math.dist(start, end))
-        along, aside = ((x1 - x0) / length, (y1 - y0) / length), (-(y1 - y0) / length, (x1 - x0) / length)
+    def line(self, start: Point, end: Point, bend: float, colour: str, width: float, dashes: str, arrow: bool) -> None:
+        """A line between two nodes, from rim to rim, bent aside by so many pixels."""
         middle = bent(start, end, bend)
         tip = RADIUS + (width + 4 if arrow else 0)
         begin, stop = towards(start, middle, RADIUS), towards(end, middle, tip)
@@ -43,8 +40,6 @@ class Picture:
         if arrow:
             self.arrow_head(towards(end, middle, RADIUS), middle, colour, width)
         self.points.append(middle)
-        off = bend + 9
-        return ((x0 + x1) / 2 + off * aside[0] + 6 * along[0], (y0 + y1) / 2 + off * aside[1] + 6 * along[1])
 
     def arrow_head(self, tip: Point, behind: Point, colour: str, width: float) -> None:
         """A triangle at the tip, pointing away from the point behind."""
@@ -54,13 +49,13 @@ class Picture:
         corners = [tip, (back[0] - dy, back[1] + dx), (back[0] + dy, back[1] - dx)]
         self.shapes.append(f"<polygon points='{' '.join(f'{x:.1f},{y:.1f}' for x, y in corners)}' fill='{colour}'/>")
 
-    def loop(self, at: Point, colour: str, width: float, dashes: str) -> Point:
-        """A line from a node to itself; the point where a label belongs."""
+    def loop(self, at: Point, colour: str, width: float, dashes: str, wider: float = 0) -> Point:
+        """A line from a node to itself, wider by so many pixels than usual; the point where a label belongs."""
         x, y = at
         dashed = f" stroke-dasharray='{dashes}'" if dashes else ""
         self.shapes.append(
-            f"<circle cx='{x + RADIUS:.1f}' cy='{y - RADIUS:.1f}' r='11' fill='none' stroke='{colour}' "
-            f"stroke-width='{width:g}'{dashed}/>"
+            f"<circle cx='{x + RADIUS:.1f}' cy='{y - RADIUS:.1f}' r='{11 + wider:g}' fill='none' "
+            f"stroke='{colour}' stroke-width='{width:g}'{dashed}/>"
         )
         return (x + RADIUS + 16, y - RADIUS - 12)
 
@@ -109,6 +104,14 @@ class Picture:
         background = f"<rect x='{left:.0f}' y='{top:.0f}' width='100%' height='100%' fill='white'/>"
         head = f"<svg xmlns='http://www.w3.org/2000/svg' viewBox='{box}' {size} {FONT}>"
         return "\n".join([head, background, *self.shapes, "</svg>", ""])
+
+
+def beside(start: Point, end: Point, bend: float) -> Point:
+    """The point where a label of a line belongs that is bent aside by so many pixels."""
+    (x0, y0), (x1, y1) = start, end
+    length, off = max(1.0, math.dist(start, end)), bend + 9
+    along, aside = ((x1 - x0) / length, (y1 - y0) / length), (-(y1 - y0) / length, (x1 - x0) / length)
+    return ((x0 + x1) / 2 + off * aside[0] + 6 * along[0], (y0 + y1) / 2 + off * aside[1] + 6 * along[1])
 
 
 def along(start: Point, end: Point, bend: float, count: int = 24) -> list[Point]:

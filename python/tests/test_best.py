@@ -1,5 +1,6 @@
 """The best bound of a predicate and the best sum: with the program, and with programs that stand in for it."""
 
+import random
 import sys
 import tempfile
 import unittest
@@ -35,7 +36,11 @@ if word == "solve":
     time.sleep(seconds)
     print(answer, end="")
     sys.exit(status)
+if word == "best" and {best!r}:
+    print({best!r}, end="")
+    sys.exit(10)
 if word == "check":
+    time.sleep(30 if open(rest[0]).read() == {late!r} else 0)
     print({verdict!r} or ("accepted model" if "s SAT" in open(rest[0]).read() else "accepted refutation"))
 if word == "ask":
     variables, clauses = map(int, text.split()[2:4])
@@ -50,10 +55,13 @@ REFUTED = (20, "s UNSATISFIABLE\nchain 0 1\n", 0)
 SPENT = (0, "s UNKNOWN\n", 0)
 
 
-def tells(folder: str, answers: dict, otherwise=SPENT, verdict: str = "") -> str:
-    """That program: for each bound its exit code, what it prints, and how long it takes."""
+def tells(folder: str, answers: dict, otherwise=SPENT, verdict: str = "", best: str = "", late: str = "") -> str:
+    """That program: for each bound its exit code, what it prints, and how long it takes.
+
+    What it says is best, and the answer that it takes long to check.
+    """
     path = Path(folder) / "tells"
-    fields = {"answers": answers, "otherwise": otherwise, "verdict": verdict}
+    fields = {"answers": answers, "otherwise": otherwise, "verdict": verdict, "best": best, "late": late}
     path.write_text(TELLS.format(python=sys.executable, **fields))
     path.chmod(0o755)
     return str(path)
@@ -145,6 +153,20 @@ class Bests(unittest.TestCase):
         graph.add_edge(0, 1, 2**64 - 1)
         self.assertRaises(NoBound, endless.best, graph.maximum_flow_geq(0, 1, 1), program=self.program)
 
+    def test_the_way_there_does_not_matter(self):
+        drawn, problem = random.Random(4), Problem()
+        chosen = problem.add_variables(18)
+        for _ in range(60):
+            problem.add_clause(drawn.sample(chosen, 3))
+        costs = problem.add_sum([(x, drawn.randrange(1, 20)) for x in chosen])
+        seen: list = []
+        limits = ({}, {"seconds": 300}, {"on_improvement": seen.append}, {"budget": 90_000})
+        found = [problem.minimise(costs, program=self.program, **limit) for limit in limits]
+        self.assertEqual([type(each) for each in found], [Best] * 4)
+        self.assertEqual(len({each.value for each in found}), 1)
+        self.assertEqual({each.model[costs] for each in found}, {found[0].value})
+        self.assertGreater(len(seen), 2)
+
     def test_incumbents_get_better_until_the_last_is_the_best(self):
         problem, _, costs = weights(9, 7, 4, 8)
         seen: list = []
@@ -192,8 +214,8 @@ class StandIns(unittest.TestCase):
         numbers = " ".join(str(x if sign else -x) for x, sign in signs.items())
         return 10, f"s SATISFIABLE\nv {numbers} 0\n", 0
 
-    def minimise(self, answers: dict, verdict: str = "", **named):
-        path = tells(self.folder, answers, verdict=verdict)
+    def minimise(self, answers: dict, verdict: str = "", best: str = "", late: str = "", **named):
+        path = tells(self.folder, answers, verdict=verdict, best=best, late=late)
         return self.problem.minimise(self.costs, program=path, progress=False, **named)
 
     def test_what_was_found_is_handed_out_when_the_budget_is_spent(self):
@@ -213,6 +235,37 @@ class StandIns(unittest.TestCase):
         self.assertEqual((found.value, found.bound, seen[0].value), (8, None, 8))
         self.assertRaises(TimeSpent, self.minimise, {2**53: slow}, seconds=1)
         self.assertRaises(BudgetSpent, self.minimise, {}, budget=7)
+
+    def test_what_is_hard_is_asked_of_best_where_the_last_one_is_wanted_alone(self):
+        answers, numbers = {2**53: self.model(1, 1)}, self.model(1, 0)[1].split("v ")[1]
+        said = f"c best 3\nc v {numbers}{REFUTED[1]}"
+        found = self.minimise(answers, best=said)
+        self.assertIsInstance(found, Best)
+        self.assertEqual((found.value, [found.model[x] for x in self.chosen]), (3, [True, False]))
+        self.assertEqual((found.refutation.problem.predicates[-1].limit, len(found.refutation.steps)), (2, 1))
+        for limit in ({"seconds": 60}, {"budget": 50}, {"on_improvement": lambda better: None}):
+            self.assertEqual(self.minimise(answers, best=said, **limit).value, 8)
+        self.assertEqual(self.minimise(answers, best="c open 3\ns UNKNOWN\n").value, 8)
+        with self.assertRaises(RejectedAnswer):
+            self.minimise(answers, verdict="rejected 2 ClauseFalse 1", best=said, folder=self.folder)
+        with self.assertRaises(UnexpectedStatus):
+            self.minimise(answers, best=f"c best 3\nc v 1 0\n{REFUTED[1]}", folder=self.folder)
+
+    def test_what_bounds_the_value_is_looked_for_where_one_less_is_hard(self):
+        found = self.minimise({2**53: self.model(1, 1), 4: REFUTED}, budget=50)
+        self.assertEqual((found.value, found.bound, found.gap), (8, 5, 3))
+        farther = self.minimise({2**53: self.model(1, 1), 0: REFUTED, 2: REFUTED}, budget=50)
+        self.assertEqual((farther.value, farther.bound), (8, 3))
+        better = self.minimise({2**53: self.model(1, 1), 4: self.model(1, 0), 2: REFUTED}, budget=50)
+        self.assertIsInstance(better, Best)
+        easy = self.minimise({2**53: self.model(1, 1), 7: self.model(0, 1), 1: REFUTED}, budget=50)
+        self.assertEqual((easy.value, easy.bound), (5, 2))
+
+    def test_a_model_for_which_there_is_no_time_gives_way_to_the_one_before_it(self):
+        late, slow = self.model(0, 1), (10, "", 30)
+        answers = {2**53: self.model(1, 1), 7: late, 3: slow}
+        found = self.minimise(answers, late=late[1], budget=None, seconds=8)
+        self.assertEqual((found.value, found.bound), (8, None))
 
     def test_what_is_not_accepted_is_never_handed_out(self):
         path = tells(self.folder, {2**53: self.model(1, 1)}, verdict="rejected 2 ClauseFalse 1")

@@ -128,6 +128,42 @@ class Drawings(unittest.TestCase):
         with self.assertRaisesRegex(ValueError, "choose one by its number"):
             draw.drawing(problem, graph="streets")
 
+    def test_a_lemma_shows_the_hidden_nodes_on_whose_edges_it_rests(self):
+        problem = Problem()
+        graph = problem.add_graph("site")
+        graph.add_nodes(["a@0,0", "b@2,0", "hub", "far"])
+        for ends in ((0, 1), (2, 0), (2, 1), (3, 3)):
+            graph.add_edge(*ends)
+        graph.mst_weight_leq(9)
+        graph.hide(2, 3)
+        answer = parse_answer(problem, "s UNSATISFIABLE\nsplit 1 2 3 4 -5 0 0 1 3\n")
+        self.assertEqual(layout.places(graph)[2:], [(0, 1), (1, 1)])
+        self.assertEqual(texts(draw.drawing(problem))[:2], ["a", "b"])
+        self.assertEqual(texts(draw.drawing(problem, answer))[:3], ["a", "b", "hub"])
+
+    def test_what_a_link_carries_is_told_beside_walks_and_trees(self):
+        problem = Problem()
+        graph = problem.add_graph()
+        graph.add_nodes(["0,0", "1,0"])
+        link = graph.add_link(0, 1, 5)
+        ways = [graph.weighted_distance_leq(0, 1, 9), graph.maximum_flow_geq(1, 0, 3), graph.mst_weight_leq(9)]
+        values = dict.fromkeys([link.variable, *(way.variable for way in ways)], True)
+        found = marks.of_model(Model(problem, values, ""), graph, None, marks.pens())
+        (line,) = panels.lines_of(graph, found)
+        self.assertEqual((line.edge, line.note, line.arrow), (link.back, "3/5", True))
+        self.assertEqual(list(line.pens.values()), [True, False, False])
+        for amount in (3, 1):
+            found.note(link.back, amount)
+        found.note(link.there, 2)
+        (line,) = panels.lines_of(graph, found)
+        self.assertEqual(line.note, "2/5, 3/5, 1/5")
+
+    def test_a_large_graph_is_laid_out_in_a_ring_at_once(self):
+        graph = Problem().add_graph(nodes=layout.MOST_LAID_OUT + 1)
+        with mock.patch("gulfezo.layout.by_graphviz") as tool:
+            self.assertEqual(layout.places(graph), layout.in_a_ring(len(graph)))
+        tool.assert_not_called()
+
     def test_more_things_than_colours_are_told_apart_by_their_lines(self):
         problem = Problem()
         graph = problem.add_graph(nodes=10)
@@ -137,6 +173,26 @@ class Drawings(unittest.TestCase):
         picture = draw.drawing(problem, Model(problem, values, ""))
         self.assertEqual(picture.count("stroke-dasharray='14 5'"), 3 + 3)  # the edges, and beside their captions
         self.assertEqual(len(set(itertools.islice(marks.pens(), 24))), 24)
+
+    def test_what_several_walks_share_has_a_line_of_each(self):
+        problem = Problem()
+        graph = problem.add_graph(nodes=3)
+        shared, link, loop = graph.add_edge(0, 1), graph.add_link(1, 2), graph.add_edge(2, 2)
+        ways = [graph.reach(0, 2), graph.reach(0, 1), graph.reach(2, 1)]
+        values = {thing.number: True for thing in (shared, link, loop, *ways)}
+        found = marks.of_model(Model(problem, values, ""), graph, None, marks.pens())
+        first, second, third = itertools.islice(marks.pens(), 3)
+        lines = {line.edge.edge_number: line for line in panels.lines_of(graph, found)}
+        self.assertEqual(list(lines[shared.edge_number].pens), [first, second])
+        self.assertEqual(list(lines[link.there.edge_number].pens), [first, third])
+        picture = draw.drawing(problem, Model(problem, values, ""))
+        strokes = [f"stroke='{pen.colour}' stroke-width='3'" for pen in (first, second, third)]
+        self.assertEqual(list(map(picture.count, strokes)), [2, 1, 1])
+        found.mark([loop], second)
+        found.mark([loop], second)
+        found.mark([loop], third)
+        shapes = panels.drawn([(graph, found)])
+        self.assertEqual([shapes.count(f"r='{radius}'") for radius in (8.5, 13.5)], [1, 1])
 
     def test_orders_lie_in_layers(self):
         problem = parse_problem(ROUND)
@@ -306,7 +362,8 @@ class Files(unittest.TestCase):
             self.assertEqual(run.returncode, 1, run.stderr)
             self.assertEqual(out.read_text() if out.exists() else None, "old" if name == "old.svg" else None)
         self.assertEqual(sorted(os.listdir(self.folder)), ["f", "old.svg"])
-        self.assertEqual(self.draw("/dev/full")[0], 1)
+        self.assertEqual(self.draw("/dev/full"), (1, "gulfezo-draw: [Errno 28] No space left on device: '/dev/full'\n"))
+        self.assertIn(f"there is no such folder: '{self.folder}/none'", self.draw(self.folder / "none" / "x.svg")[1])
         self.assertEqual(self.draw("/dev/null")[0], 0)
 
 

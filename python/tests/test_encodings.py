@@ -10,7 +10,7 @@ from unittest import mock
 import gulfezo.schedules
 from gulfezo import And, BudgetSpent, FormatError, If, Implies, Literal, Model, Or, Problem, Refutation, TimeSpent
 from gulfezo import Xor, cardinality, read_monosat
-from gulfezo.kept import KeptFile
+from gulfezo.kept import KeptFile, with_lines
 from helpers import assignments, program, satisfies, stand_in
 
 
@@ -230,7 +230,7 @@ class Kept(unittest.TestCase):
                 wanted = problem.text().splitlines()
                 self.assertEqual(sorted(lines[1:]), sorted(wanted[1:]))
                 self.assertEqual([*map(int, lines[0].split()[2:])], [*map(int, wanted[0].split()[2:])])
-            with kept.with_lines(["1 0", "2 0"]) as path:
+            with with_lines(kept.path, ["1 0", "2 0"]) as path:
                 self.assertEqual(path.read_text().splitlines()[-2:], ["1 0", "2 0"])
             self.assertEqual(Path(folder, "f").read_text().splitlines(), lines)
 

@@ -89,7 +89,7 @@ class Same(unittest.TestCase):
                 "<predicate 1: reach from a to d of graph board>",
                 "<x>",
                 "<graph 0 'board': 4 nodes, 4 edges>",
-                "<problem: 5 variables, 0 clauses, 1 graphs, 4 edges, 1 predicates>",
+                "<problem: 5 variables, 0 clauses, 1 graph, 4 edges, 1 predicate>",
             ],
         )
 

@@ -98,8 +98,8 @@ class ByHand(unittest.TestCase):
             with contextlib.redirect_stderr(told):
                 words = [str(file), str(answer), "--cnf", f"{folder}/cnf", "-o", f"{folder}/proof"]
                 self.assertEqual(lrat.main(words), 0)
-            self.assertIn(f"the last 1 clauses of {folder}/cnf are lemmas", told.getvalue())
-            self.assertIn(f"'gulfezo check {file} {answer}' judges them", told.getvalue())
+            self.assertIn(f"the last clause of {folder}/cnf is a lemma", told.getvalue())
+            self.assertIn(f"'gulfezo check {file} {answer}' judges it", told.getvalue())
             cnf, proof = Path(folder, "cnf").read_text(), Path(folder, "proof").read_text()
             self.assertEqual((cnf, proof), ("p cnf 2 3\n2 0\n-1 0\n1 -2 0\n", "4 0 2 1 3 0\n"))
             answer.write_text("s SATISFIABLE\nv 1 2 0\n")
@@ -146,7 +146,7 @@ class Solved(unittest.TestCase):
         told = io.StringIO()
         with contextlib.redirect_stderr(told):
             self.assertEqual(lrat.main(words), 0)
-        (found,) = re.findall("'(gulfezo .*)' judges them", told.getvalue())
+        (found,) = re.findall("'(gulfezo .*)' judges (?:it|them)", told.getvalue())
         (self.folder / "gulfezo").symlink_to(os.path.abspath(self.program))
         line = found.replace("gulfezo ", "./gulfezo ")
         run = subprocess.run(line, shell=True, cwd=self.folder, stdout=subprocess.PIPE, text=True, check=False)

@@ -13,7 +13,8 @@ import unittest
 import xml.dom.minidom
 from pathlib import Path
 
-from gulfezo import And, Edge, FormatError, Literal, Model, Or, Problem, draw, parse_problem
+from gulfezo import And, Core, Edge, FormatError, Incumbent, Least, Literal, Model, Or, Problem, draw, parse_answer
+from gulfezo import parse_problem
 from helpers import REPOSITORY, assignments, satisfies
 
 
@@ -37,6 +38,88 @@ class Mistakes(unittest.TestCase):
             with self.subTest(place), self.assertRaises(error):
                 call()
         self.assertEqual(size(self.problem), self.before)
+
+
+class Told(Mistakes):
+    """Each message says what to write."""
+
+    def test_literals_are_neither_reckoned_with_nor_compared(self):
+        x, y, problem = self.x, self.y, self.problem
+        for call in (lambda: x + y, lambda: sum([x, y]), lambda: 3 * x, lambda: x - 1, lambda: 1 - x):
+            with self.assertRaisesRegex(TypeError, r"problem\.at_most\(k, .*problem\.add_sum\("):
+                call()
+        with self.assertRaisesRegex(TypeError, "is ~a"):
+            problem.add_clause(-x)
+        total, shop = problem.add_sum([(x, 3), (y, 5)]), problem.add_schedule({"saw": 2, "drill": 1})
+        for measured, word in ((total, "total"), (shop["saw"].starts, "time")):
+            for call in (lambda m=measured: m <= 5, lambda m=measured: m > 5, lambda m=measured: 5 >= m):
+                with self.assertRaisesRegex(TypeError, rf"{word}\.at_most\(5\), {word}\.at_least\(5\)"):
+                    call()
+
+    def test_what_was_meant_by_what_is_no_literal(self):
+        problem, graph = self.problem, self.graph
+        named = graph.add_node("hub")
+        for given, said in (
+            (1, r"problem\.literal\(1\)"),
+            (-2, r"problem\.literal\(-2\)"),
+            (named, r"this is a node"),
+            (self.x == self.y, "`==`"),
+            (None, "by ~$"),
+        ):
+            with self.assertRaisesRegex(TypeError, said):
+                problem.add_clause(given)
+        for call in (lambda: graph.add_edge("hub", self.a), lambda: graph.reach(self.a, "hub")):
+            with self.assertRaisesRegex(ValueError, r"graph\.node\('hub'\)"):
+                call()
+        with self.assertRaisesRegex(ValueError, r"graph\.node\(\(3, 1\)\)"):
+            graph.add_link((3, 1), self.a)
+
+    def test_what_is_asked_for_takes(self):
+        problem, x = self.problem, self.x
+        for call in (problem.minimise, problem.maximise):
+            for wrong in (x, self.graph.reach(self.a, self.b), [(x, 1)]):
+                with self.assertRaisesRegex(ValueError, r"add_sum\(.*no distance, flow or tree"):
+                    call(wrong)
+        total = problem.add_sum([(x, 1)])
+        for wrong in (x, total):
+            with self.assertRaisesRegex(ValueError, "no predicate with a bound; of a sum minimise and maximise"):
+                problem.best(wrong)
+        self.before = size(problem)
+        for call, error, said in (
+            (lambda: problem.in_turn(Least(total)), TypeError, r"\[Least\(costs\), Greatest\(flow\)\]"),
+            (lambda: problem.add_graph(3), ValueError, r"add_graph\(nodes=3\)"),
+            (lambda: problem.add_schedule(["cut", "drill"]), TypeError, r"\{'cut': 3, 'drill': 2\}"),
+            (lambda: problem.add_networkx([(0, 1)]), TypeError, "'list' is no graph of networkx"),
+            (lambda: draw.drawing(problem, x), TypeError, "a model, a refutation, a core or a best value"),
+        ):
+            with self.assertRaisesRegex(error, said):
+                call()
+        self.assertEqual(size(problem), self.before)
+
+    def test_what_an_answer_is_asked_for(self):
+        problem, graph, x = self.problem, self.graph, self.x
+        holds = graph.reach(self.a, self.a)
+        model = Model(problem, {number: True for number in range(1, problem.variables + 1)}, "")
+        graph.add_node()
+        refutation = parse_answer(problem, "s UNSATISFIABLE\ncut 1 -3 0 0\n")
+        best = Incumbent(3, model, model, None, None, model.statistics)
+        core = Core(problem, [], refutation)
+        for call, error, said in (
+            (lambda: model.lemmas, AttributeError, "a refutation's"),
+            (lambda: model.path(x), ValueError, "these are reach, distance_leq, .*, weighted_distance_lt$"),
+            (lambda: model.tree(holds), ValueError, "these are mst_weight_leq, mst_weight_lt$"),
+            (lambda: refutation[x], TypeError, "there is no model. Ask `if answer:` first"),
+            (lambda: core[x], TypeError, "there is no model"),
+            (lambda: best[x], TypeError, r"best\.model\["),
+            (lambda: best.path(holds), AttributeError, "its `model` has"),
+        ):
+            with self.subTest(said), self.assertRaisesRegex(error, said):
+                call()
+        self.assertEqual(copy.copy(model).values, model.values)
+        self.far.add_nodes(5)
+        self.far.reach(0, 1)
+        with self.assertRaisesRegex(ValueError, "isn't of the problem that this answer is about"):
+            draw.drawing(self.other, refutation)
 
 
 class Literals(Mistakes):

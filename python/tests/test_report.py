@@ -163,6 +163,20 @@ class Browser(unittest.TestCase):
         self.assertIn("stroke-dasharray=\"7 5\"", found)
         self.assertIn("lemmas that the last chain rests on (15)", found)
 
+    def test_long_lines_go_round_nodes(self):
+        problem = Problem()
+        graph = problem.add_graph()
+        a, b, c = (graph.add_node((x, 0)) for x in range(3))
+        near, far = graph.add_edge(a, b), graph.add_edge(a, c)
+        way = graph.reach(a, c)
+        problem.require(way, ~near, ~far)
+        lemma = f"cut 1 -{way.number} {near.number} {far.number} 0 0"
+        answer = parse_answer(problem, f"s UNSATISFIABLE\n{lemma}\nchain 0 4 1 2 3\n")
+        text = page("round", problem, answer, "accepted refutation")
+        self.assertIn("1 graph, 3 nodes, 2 edges, 1 predicate", text)
+        bends = re.findall(r'<path d="M[^Q]*Q([^,]*),([^ ]*) ', self.looked_at(text, "4"))
+        self.assertEqual([(float(x), float(y)) for x, y in bends], [(45, 0), (90, 68)])
+
     def test_a_hundred_thousand_steps(self):
         problem = Problem()
         x, y = problem.add_variables(2)

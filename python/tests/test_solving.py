@@ -163,8 +163,12 @@ class StandIns(unittest.TestCase):
     def test_each_phase_is_told(self):
         told = io.StringIO()
         with contextlib.redirect_stderr(told):
-            self.solve(10, "s SATISFIABLE\nv 1 0\n", "accepted model", check_seconds=1.3)
-        self.assertEqual(told.getvalue().splitlines(), ["gulfezo: checking the answer (0.0 MB), 1 s"])
+            model = self.solve(10, "s SATISFIABLE\nv 1 0\n", "accepted model", check_seconds=1.3)
+        lines = told.getvalue().splitlines()
+        self.assertIn("gulfezo: checking the answer (0.0 MB), 1 s", lines)
+        # Others are told only where they took a second too, as on a machine that does much else.
+        slow = {phase for phase, seconds in model.seconds.items() if seconds >= 1}
+        self.assertLessEqual({line.split()[1] for line in lines}, slow)
 
     def test_files_of_a_failure_stay_without_a_folder(self):
         path = stand_in(self.folder, 6, "")
@@ -205,7 +209,7 @@ class StandIns(unittest.TestCase):
         self.assertEqual(told.getvalue(), "")
 
     def test_what_is_not_the_program_is_told(self):
-        for path in ("/bin/true", "/bin/echo"):
+        for path in ("/bin/true", "/bin/echo", "/bin/false"):
             with self.subTest(path), self.assertRaisesRegex(UnexpectedStatus, f"is {path} the program `gulfezo`"):
                 one_variable().solve(folder=self.folder, program=path, progress=False)
         with self.assertRaisesRegex(UnexpectedStatus, "is /bin/true the program"):

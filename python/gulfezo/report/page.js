@@ -205,42 +205,88 @@ function shape(name, attributes, text) {
   return made;
 }
 
-function pictureOf(step, drawn) {
-  const marks = marksOf(step, drawn), at = drawn.places.map(([x, y]) => [90 * x, 90 * y]);
-  const xs = at.map((p) => p[0]), ys = at.map((p) => p[1]), left = Math.min(...xs) - 60, top = Math.min(...ys) - 60;
-  const size = [Math.max(...xs) + 60 - left, Math.max(...ys) + 60 - top];
-  const svg = shape("svg", { viewBox: `${left} ${top} ${size[0]} ${size[1]}`, width: size[0], height: size[1], style: "max-width:100%;height:auto" });
-  const between = new Map(), order = (n) => (marks.strong.has(n) ? 3 : marks.against.has(n) ? 2 : marks.present.has(n) ? 1 : 0);
+// A long line that would run through a node is bent aside by the first of these that keeps clear of all nodes.
+const STEP = 90, RADIUS = 20, BENDS = [34, -34, 60, -60, 90, -90], MOST_NODES = 150, LONG = 1.2 * STEP, CLEAR = RADIUS + 4;
+
+// The point towards which a line begins and ends that is bent aside by so many pixels.
+function bent([x0, y0], [x1, y1], bend) {
+  const long = Math.max(1, Math.hypot(x1 - x0, y1 - y0));
+  return [(x0 + x1) / 2 - (2 * bend * (y1 - y0)) / long, (y0 + y1) / 2 + (2 * bend * (x1 - x0)) / long];
+}
+
+// The point that lies so far from the first in the direction of the second.
+function towards([x0, y0], [x1, y1], by) {
+  const long = Math.max(0.001, Math.hypot(x1 - x0, y1 - y0));
+  return [x0 + ((x1 - x0) * by) / long, y0 + ((y1 - y0) * by) / long];
+}
+
+// Whether a line so bent stays away from all nodes that it doesn't join.
+function isClear(at, start, end, bend) {
+  const middle = bent(at[start], at[end], bend);
+  for (let t = 1 / 24; t < 1; t += 1 / 24) {
+    const [x, y] = [0, 1].map((axis) => (1 - t) ** 2 * at[start][axis] + 2 * t * (1 - t) * middle[axis] + t * t * at[end][axis]);
+    if (at.some((place, node) => node !== start && node !== end && Math.hypot(place[0] - x, place[1] - y) <= CLEAR)) return false;
+  }
+  return true;
+}
+
+// The bend of a line, another one where it would run through a node, and not as one before it.
+function around(at, taken, start, end, bend) {
+  if (at.length > MOST_NODES || Math.hypot(at[start][0] - at[end][0], at[start][1] - at[end][1]) < LONG) return bend;
+  for (const tried of [bend, ...BENDS]) {
+    const side = start < end ? [start, end, tried].join() : [end, start, -tried].join();
+    if (!taken.has(side) && isClear(at, start, end, tried)) {
+      taken.add(side);
+      return tried;
+    }
+  }
+  return bend;
+}
+
+// The edges as lines, those that are marked last; those between the same nodes are bent apart.
+function linesOf(at, marks, drawn) {
+  const between = new Map(), taken = new Set();
+  const order = (n) => (marks.strong.has(n) ? 3 : marks.against.has(n) ? 2 : marks.present.has(n) ? 1 : 0);
   // A link is one line, of that direction which is marked.
   const one = drawn.edges.filter(([n, , , , , side]) => !side || (side === 2) === (marks.strong.has(side === 2 ? n : n + 1)));
-  const lines = one.map((edge) => {
-    const pair = [edge[1], edge[2]].sort((a, b) => a - b).join(), place = between.get(pair) || 0;
-    between.set(pair, place + 1);
-    return { edge, place, height: order(edge[0]), arrow: !edge[5] || marks.strong.has(edge[0]) };
-  });
-  lines.sort((a, b) => a.height - b.height).forEach((line) => drawEdge(svg, at, marks, line));
+  const pairOf = ([, start, end]) => [Math.min(start, end), Math.max(start, end)].join();
+  for (const edge of one) between.set(pairOf(edge), [...(between.get(pairOf(edge)) || []), edge]);
+  const lines = [...between.values()].flatMap((bundle) => bundle.map((edge, place) => {
+    const [number, start, end, , , side] = edge, apart = 22 * (place - (bundle.length - 1) / 2);
+    const bend = around(at, taken, start, end, start < end ? apart : -apart);
+    return { edge, bend, height: order(number), arrow: !side || marks.strong.has(number) };
+  }));
+  return lines.sort((a, b) => a.height - b.height);
+}
+
+function pictureOf(step, drawn) {
+  const marks = marksOf(step, drawn), at = drawn.places.map(([x, y]) => [STEP * x, STEP * y]), lines = linesOf(at, marks, drawn);
+  const seen = [...at, ...lines.map(({ edge: [, start, end], bend }) => bent(at[start], at[end], bend))];
+  const xs = seen.map((p) => p[0]), ys = seen.map((p) => p[1]), left = Math.min(...xs) - 60, top = Math.min(...ys) - 60;
+  const size = [Math.max(...xs) + 60 - left, Math.max(...ys) + 60 - top];
+  const svg = shape("svg", { viewBox: `${left} ${top} ${size[0]} ${size[1]}`, width: size[0], height: size[1], style: "max-width:100%;height:auto" });
+  lines.forEach((line) => drawEdge(svg, at, marks, line));
   at.forEach(([x, y], node) => {
-    svg.append(shape("circle", { cx: x, cy: y, r: 20, fill: marks.filled.has(node) ? "#fde9b8" : "white", stroke: "#222", "stroke-width": 2 }));
+    svg.append(shape("circle", { cx: x, cy: y, r: RADIUS, fill: marks.filled.has(node) ? "#fde9b8" : "white", stroke: "#222", "stroke-width": 2 }));
     svg.append(shape("text", { x, y: y + 5, "text-anchor": "middle", "font-size": drawn.labels[node].length > 4 ? 9 : 13 }, drawn.labels[node]));
     if (marks.labels.has(node)) svg.append(shape("text", { x: x + 24, y: y + 24, fill: "#0072b2", "font-size": 13 }, marks.labels.get(node)));
   });
   return svg;
 }
 
-function drawEdge(svg, at, marks, { edge: [number, start, end, , weight], place, height, arrow }) {
+function drawEdge(svg, at, marks, { edge: [number, start, end, , weight], bend, height, arrow }) {
   const style = [["#c4c4c4", 1.2, "3 4"], ["#222", 1.6, ""], ["#d55e00", 2.4, "7 5"], ["#0072b2", 4.5, ""]][height];
-  const [x0, y0] = at[start], [x1, y1] = at[end], long = Math.hypot(x1 - x0, y1 - y0);
-  const paint = { fill: "none", stroke: style[0], "stroke-width": style[1], "stroke-dasharray": style[2] };
-  if (!long) { svg.append(shape("circle", { cx: x0 + 20, cy: y0 - 20, r: 11, ...paint })); return; }
-  const bend = (start < end ? 1 : -1) * 14 * (place % 2 ? place + 1 : -place), aside = [-(y1 - y0) / long, (x1 - x0) / long];
-  const middle = [(x0 + x1) / 2 + bend * aside[0], (y0 + y1) / 2 + bend * aside[1]];
-  const tip = [x1 - ((x1 - x0) * 22) / long, y1 - ((y1 - y0) * 22) / long];
-  svg.append(shape("path", { d: `M${x0} ${y0} Q${middle} ${tip}`, ...paint }));
-  const back = [x1 - ((x1 - x0) * 33) / long, y1 - ((y1 - y0) * 33) / long], wide = 3 + style[1];
-  const corners = [tip, [back[0] + wide * aside[0], back[1] + wide * aside[1]], [back[0] - wide * aside[0], back[1] - wide * aside[1]]];
-  if (arrow) svg.append(shape("polygon", { points: corners.join(" "), fill: style[0] }));
+  const [x0, y0] = at[start], [x1, y1] = at[end], paint = { fill: "none", stroke: style[0], "stroke-width": style[1], "stroke-dasharray": style[2] };
+  if (start === end) { svg.append(shape("circle", { cx: x0 + RADIUS, cy: y0 - RADIUS, r: 11, ...paint })); return; }
+  const middle = bent(at[start], at[end], bend), stop = towards(at[end], middle, RADIUS + (arrow ? style[1] + 4 : 0));
+  svg.append(shape("path", { d: `M${towards(at[start], middle, RADIUS)} Q${middle} ${stop}`, ...paint }));
+  if (arrow) {
+    const tip = towards(at[end], middle, RADIUS), back = towards(tip, middle, 6 + 1.5 * style[1]);
+    const [dx, dy] = [0.45 * (tip[0] - back[0]), 0.45 * (tip[1] - back[1])];
+    svg.append(shape("polygon", { points: [tip, [back[0] - dy, back[1] + dx], [back[0] + dy, back[1] - dx]].join(" "), fill: style[0] }));
+  }
   const note = marks.notes.has(number) ? `${marks.notes.get(number)}/${weight}` : height && weight !== "1" ? weight : "";
-  const off = bend / 2 + 9;
+  const off = bend + 9, long = Math.max(1, Math.hypot(x1 - x0, y1 - y0)), aside = [-(y1 - y0) / long, (x1 - x0) / long];
   if (note) svg.append(shape("text", { x: (x0 + x1) / 2 + off * aside[0], y: (y0 + y1) / 2 + off * aside[1] + 4, fill: style[0], "font-size": 11, "text-anchor": "middle" }, note));
 }
 

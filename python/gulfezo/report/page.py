@@ -11,6 +11,7 @@ from typing import Any
 from ..draw import drawing
 from ..literals import Kind
 from ..model import Model
+from ..naming import so_many
 from ..problem import Problem
 from ..steps import Derivation
 from .data import packed_refutation
@@ -38,9 +39,9 @@ def page(title: str, problem: Problem, answer: Model | Derivation, verdict: str)
 
 def asked(problem: Problem, answer: Model | Derivation) -> str:
     """How large the problem is, what was assumed, and what the answer has."""
-    sizes = {"variables": problem.variables, "clauses": len(problem.clauses), "graphs": len(problem.graphs)}
-    sizes |= {"nodes": problem.nodes, "edges": len(problem.edges), "predicates": len(problem.predicates)}
-    parts = [", ".join(f"{amount:,} {what}" for what, amount in sizes.items())]
+    sizes = {"variable": problem.variables, "clause": len(problem.clauses), "graph": len(problem.graphs)}
+    sizes |= {"node": problem.nodes, "edge": len(problem.edges), "predicate": len(problem.predicates)}
+    parts = [", ".join(so_many(amount, what) for what, amount in sizes.items())]
     if isinstance(answer, Derivation) and answer.assumptions:
         literals = (problem.described(problem.literal(number)) for number in answer.assumptions)
         parts.append("assumed: " + ", ".join(literals))
@@ -66,12 +67,12 @@ def predicates(problem: Problem, model: Model | None) -> str:
 def found(model: Model, predicate: Any) -> str:
     """What shows in a model that a predicate holds."""
     if predicate.kind is Kind.MAXIMUM_FLOW:
-        return f"it holds: a flow of {predicate.limit} over {len(model.flow(predicate))} edges"
+        return f"it holds: a flow of {predicate.limit} over {so_many(len(model.flow(predicate)), 'edge')}"
     if predicate.kind is Kind.ACYCLIC:
         return "it holds: no circle"
     things = model.tree(predicate) if predicate.kind is Kind.MST_WEIGHT else model.path(predicate)
     what = "a tree" if predicate.kind is Kind.MST_WEIGHT else "a walk"
-    return f"it holds: {what} of {len(things)} edges, of weight {sum(thing.weight for thing in things)}"
+    return f"it holds: {what} of {so_many(len(things), 'edge')}, of weight {sum(thing.weight for thing in things)}"
 
 
 def picture(problem: Problem, model: Model) -> str:
@@ -89,7 +90,7 @@ def steps_of(answer: Derivation) -> str:
 
 def steps_parts(count: int) -> Iterator[str]:
     """Its elements."""
-    yield f"<h2>The refutation in {count:,} steps</h2>"
+    yield f"<h2>The refutation in {so_many(count, 'step')}</h2>"
     yield "<p>Each step's clause is true in every model. The last one is empty: nothing makes it true.</p>"
     yield "<div id='filters'></div>"
     yield "<div id='view'><div id='list' tabindex='0'><div id='rows'></div></div><div id='step'></div></div>"
