@@ -20,10 +20,10 @@ use Rattle.mono_problem.specs.declared.atom.Predicate.{Predicate}
 use Rattle.mono_problem.specs.declared.atom.Predicate.TheVariants as kind
 use Rattle.mono_problem.specs.Quiet.{under}
 use Rattle.mono_problem.specs.Read.{no_atom}
-use Rattle.mono_theory.specs.Bound.{edge_vars}
+use Rattle.mono_bounds.specs.Bound.{edge_vars}
 use Rattle.mono_theory.specs.DueAtoms.{PutsDue}
 use Rattle.mono_theory.specs.Evidences.{Decides, IsEvidence, shown_by}
-use Rattle.mono_theory.specs.Index.{ArePlacesOf}
+use Rattle.mono_bounds.specs.Index.{ArePlacesOf}
 use Rattle.mono_theory.specs.RowSides.{DecidesRest}
 use Rattle.mono_theory.specs.Supports.{AreCovered, atom_at}
 use Rattle.mono_theory.specs.Theories.{Facts, cut_to}

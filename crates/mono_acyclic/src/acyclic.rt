@@ -124,7 +124,7 @@ fn show(
     ensures size { finder.new ≡ finder.old }
     ensures evidence { IfOk result (IsEvidence graph.now part.now kind.Acyclic) }
 {
-    let _ = graph.nodes();
+    graph.known();
     match finder.find_cycle(graph, part)? {
         CycleOrOrder::Cycle(places) => cycle_evidence(alloc, graph, places),
         CycleOrOrder::Order(nodes) => order_evidence(alloc, ranks, graph, part, nodes),

@@ -68,7 +68,7 @@ fn advance(
     ensures kept { IfOk result (λ closing. IsKeptTo frame.now (at + 1) ordered.new closing) }
     ensures stays { OnErr result (IsOrderedTo frame.now at ordered.new) }
 {
-    let _ = frame.seen();
+    frame.known();
     let graph = frame.graph();
     let places = frame.edges_at(at);
     if insert_all(ordered, graph, places) {
@@ -85,7 +85,7 @@ fn undo_last(frame: &Frame, ordered: &mut OrderedPart, at: usize)
     requires at { at < length frame.now.seen }
     ensures { IsOrderedTo frame.now at ordered.new }
 {
-    let _ = frame.seen();
+    frame.known();
     let lit = frame.literal_at(at);
     // The variable of a literal isn't 0.
     let _ = lit.var();
@@ -136,7 +136,8 @@ impl Rows<Acyclic> for OrderedEdges {
     ghost stand = { AlwaysStand };
 
     fn are_few(alloc: Global, frame: &Frame) -> Result<bool, AllocError> {
-        let _ = (alloc, frame.seen());
+        frame.known();
+        let _ = alloc;
         Ok(true)
     }
 
@@ -161,7 +162,8 @@ impl Rows<Acyclic> for OrderedEdges {
         lit: Lit,
         due: &mut Worklist,
     ) -> Result<(), AllocError> {
-        let _ = (frame.seen(), lit.var());
+        frame.known();
+        let _ = lit.var();
         if self.closing.is_some() {
             return Ok(());
         }
@@ -185,7 +187,8 @@ impl Rows<Acyclic> for OrderedEdges {
         looked: usize,
         due: &mut Worklist,
     ) -> Result<(), AllocError> {
-        let _ = (alloc, frame.seen(), looked);
+        frame.known();
+        let _ = (alloc, looked);
         Ok(())
     }
 
@@ -206,7 +209,8 @@ impl Rows<Acyclic> for OrderedEdges {
         frame: &Frame,
         looked: usize,
     ) -> Result<Option<Threat>, AllocError> {
-        let _ = (frame.seen(), looked);
+        frame.known();
+        let _ = looked;
         if self.closing.is_some() {
             return Ok(None);
         }
@@ -226,7 +230,8 @@ impl Rows<Acyclic> for OrderedEdges {
     }
 
     fn shows(&self, frame: &Frame, looked: usize, place: usize) -> bool {
-        let _ = (frame.seen(), looked, place);
+        frame.known();
+        let _ = (looked, place);
         self.closing.is_some()
     }
 

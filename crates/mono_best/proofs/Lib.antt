@@ -1,4 +1,5 @@
 pub mod Asked
+pub mod Leaps
 pub mod Numbers
 pub mod Optimal
 pub mod Outcomes

@@ -41,11 +41,11 @@ pub record IsOpen (p : Instance) (n budget : ℕ) (b : ℤ) (steps : List Step) 
   pub first_or_next : (b ≡ weakest (predicate_of p n)) ⊎ IsNextAfterMet p n b
   pub progress : IsProgress (asking p n b) budget steps
 
-abbrev pub IsOutcome : Instance → ℕ → ℕ → BestOutcome → Type 0
-IsOutcome p n budget (outcome.Best b model steps) = IsBest p n b model steps
-IsOutcome p n budget (outcome.Never steps) = IsTrimRefutation (asking p n (weakest (predicate_of p n))) steps
-IsOutcome p n budget (outcome.Beyond model) = IsBeyond p n model
-IsOutcome p n budget (outcome.Unknown b steps) = IsOpen p n budget b steps
+abbrev pub IsBestOutcome : Instance → ℕ → ℕ → BestOutcome → Type 0
+IsBestOutcome p n budget (outcome.Best b model steps) = IsBest p n b model steps
+IsBestOutcome p n budget (outcome.Never steps) = IsTrimRefutation (asking p n (weakest (predicate_of p n))) steps
+IsBestOutcome p n budget (outcome.Beyond model) = IsBeyond p n model
+IsBestOutcome p n budget (outcome.Unknown b steps) = IsOpen p n budget b steps
 
 -- ---- on the way. Bounds are told by their numbers: that of the weakest is 0
 

@@ -1,4 +1,4 @@
-//! The best bound: after each model the next better bound is asked for, until there is no model.
+//! The best bound: after each model better bounds are asked for, until the next one has no model.
 
 ghost use Rattle.std.specs.Prelude.{◌≡◌, ◌≤◌, ◌+◌, ℕ, Bool, List, Option, IfOk};
 ghost use Rattle.mono_theory.specs.Owners.{facts_of};
@@ -7,11 +7,13 @@ ghost use Rattle.mono_steps.specs.Trimmed.{IsTrimRefutation};
 ghost use Rattle.mono_steps.specs.New.{IsProgress};
 ghost use Rattle.mono_best.specs.Asking.{asking, predicate_of, HasBoundedAtom, HasRoomToAsk};
 ghost use Rattle.mono_best.specs.Bounds.{bound_at as bound_of};
-ghost use Rattle.mono_best.specs.Best.{IsOutcome, IsMetBefore};
+ghost use Rattle.mono_best.specs.Best.{IsBestOutcome, IsMetBefore};
 
 use crate::bounds::{LAST, bound_at};
+use crate::leaping::leap;
+use crate::limiting::limit;
 use crate::outcome::BestOutcome;
-use crate::questions::{Reply, question};
+use crate::questions::Reply;
 use mono_base::Row;
 use mono_base::limits::MAX_BOUND;
 use mono_problem::Problem;
@@ -23,7 +25,7 @@ use std::alloc::{AllocError, Global};
 /// The best bound with which the predicate of this number holds under values that satisfy the problem. The predicate is one
 /// on steps, a distance, a flow or a tree, and the problem has room for what a question adds.
 ///
-/// Each search may learn as many clauses as the budget says, at least 1.
+/// No search learns more clauses than the budget says, at least 1, and the one on which the budget is spent learns as many.
 pub fn best<T: Theory, F: Fn(&Problem) -> Result<Vec<T>, AllocError>>(
     alloc: Global,
     problem: &Problem,
@@ -36,13 +38,23 @@ pub fn best<T: Theory, F: Fn(&Problem) -> Result<Vec<T>, AllocError>>(
     requires atom { HasBoundedAtom problem.now atom }
     requires room { HasRoomToAsk problem.now }
     requires budget { 1 ≤ budget }
-    ensures { IfOk result (IsOutcome problem.now atom budget) }
+    ensures { IfOk result (IsBestOutcome problem.now atom budget) }
 {
+    let most = limit(alloc, problem, atom)?;
     let mut met = None;
     let mut signs = Vec::new(alloc);
     let mut number = 0;
     loop {
-        match question(alloc, problem, make, atom, number, signs.as_slice(), budget)? {
+        match leap(
+            alloc,
+            problem,
+            make,
+            atom,
+            number,
+            most,
+            signs.as_slice(),
+            budget,
+        )? {
             Reply::Spent(steps) => return Ok(spent(problem, atom, number, steps)),
             Reply::Refuted(steps) => return Ok(refuted(problem, atom, number, met, steps)),
             Reply::Met {
@@ -66,7 +78,7 @@ fn spent(problem: &Problem, atom: u32, number: u64, steps: Row<Step>) -> BestOut
     requires number { number ≤ MAX_BOUND + 1 }
     ensures { (budget : ℕ) (met : Option (List Bool)) → IsMetBefore problem.now atom number met
         → IsProgress (asking problem.now atom (bound_of (predicate_of problem.now atom) number)) budget steps
-        → IsOutcome problem.now atom budget result }
+        → IsBestOutcome problem.now atom budget result }
 {
     BestOutcome::Unknown {
         bound: bound_at(problem.atom(atom).predicate, number),
@@ -85,7 +97,7 @@ fn refuted(
     requires atom { HasBoundedAtom problem.now atom }
     requires met { IsMetBefore problem.now atom number met }
     requires refutes { IsTrimRefutation (asking problem.now atom (bound_of (predicate_of problem.now atom) number)) steps }
-    ensures { (budget : ℕ) → IsOutcome problem.now atom budget result }
+    ensures { (budget : ℕ) → IsBestOutcome problem.now atom budget result }
 {
     match met {
         None => BestOutcome::Never(steps),

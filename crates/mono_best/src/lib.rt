@@ -2,19 +2,25 @@
 //! refutation of the next.
 //!
 //! A problem that asks for a bound has the predicate once more, with that bound and a new variable that has to be true. The
-//! weakest bound is asked for first. From each model the predicate's own value is measured by one search in its graph, and
-//! the next question asks for one better, until there is no model. So each search but the last one finds a model, and no bound
-//! is asked for twice.
+//! weakest bound is asked for first. From each model the predicate's own value is measured by one search in its graph. Short
+//! searches then leap over bounds that are met or refuted with ease, and the bound behind the last model is asked for, until
+//! there is no model: that refutation is the one that is shown.
 #![tactic(auto)]
 
 /// Problems that ask for a bound.
 mod asking;
 /// Bounds by their numbers.
 mod bounds;
+/// What a leap has found, and between which bounds it goes on.
+mod gap;
 /// The best bound.
 mod improving;
+/// Leaps over bounds that are met, or refuted, with ease.
+mod leaping;
 /// What holds of best bounds by their definition.
 pub mod laws;
+/// The bound that all edges together give.
+mod limiting;
 /// The value that a predicate has in a model.
 mod measuring;
 /// What is found of a predicate's bound.

@@ -62,7 +62,7 @@ fn solved_at<T: Theory, F: Fn(&Problem) -> Result<Vec<T>, AllocError>>(
 }
 
 /// The number of a bound that the model meets, from this one on, which it meets: the number of its own value.
-fn number_met(
+pub(crate) fn number_met(
     alloc: Global,
     problem: &Problem,
     atom: u32,
@@ -75,7 +75,7 @@ fn number_met(
     requires model { problem.now.vars ≤ length model.now }
     ensures { IfOk result (IsMetFrom problem.now atom (value_in model.now) number) }
 {
-    let _ = problem.vars();
+    problem.known();
     let asked = problem.atom(atom);
     let graph = problem.graph(asked.graph);
     let part = enabled_edges(alloc, graph, model)?;

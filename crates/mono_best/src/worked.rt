@@ -1,6 +1,6 @@
 //! Worked rows: what the definitions make of the bounds of predicates, of a problem that asks for one, and of what is found.
 
-ghost use Rattle.std.specs.Prelude.{◌≡◌, ◌+◌, ◌-◌, ℤ, pos, negsuc, Bool, true, false, List, [], ◌∷◌, length};
+ghost use Rattle.std.specs.Prelude.{◌≡◌, ◌+◌, ◌-◌, ℤ, pos, negsuc, Bool, true, false, List, [], ◌∷◌, length, None, Some};
 ghost use Rattle.mono_base.specs.declared.limits.TheConstants.{MAX_VARS, MAX_ATOMS, MAX_CLAUSES, MAX_LITERALS, MAX_BOUND};
 ghost use Rattle.mono_problem.specs.declared.atom.Atom.{Atom};
 ghost use Rattle.mono_problem.specs.declared.atom.Predicate.TheVariants as kind;
@@ -9,7 +9,8 @@ ghost use Rattle.mono_steps.specs.declared.step.Step.{Step};
 ghost use Rattle.mono_steps.specs.WorkedLemmas.{minus};
 ghost use Rattle.mono_best.specs.Asking.{asking, HasBoundedAtom, HasRoomToAsk};
 ghost use Rattle.mono_best.specs.Bounds.{has_bound, is_flow, with_bound, weakest, beyond, bound_at, IsBoundOf};
-ghost use Rattle.mono_best.specs.Best.{IsBest, IsBeyond, IsOpen, IsOutcome};
+ghost use Rattle.mono_best.specs.Best.{IsBest, IsBeyond, IsOpen, IsBestOutcome};
+ghost use Rattle.mono_best.specs.Leaps.{IsFound, IsGap};
 ghost use Rattle.mono_best.specs.Optimum.{IsBetter, IsOptimum, IsNeverMet};
 ghost use Rattle.mono_best.specs.Worked.{weighed, distance_to_2, heavy, wide, both_there, new_one_false, four_refuted, four_refuted_twice, all_refuted};
 ghost use Rattle.mono_best.specs.declared.outcome.BestOutcome.TheVariants as outcome;
@@ -103,7 +104,7 @@ pub fn best_bounds()
 
 /// A best bound has a model, and a refutation of the bound that asks for one more, of which each step is used.
 pub fn best_outcomes()
-    ensures five { IsOutcome (weighed []) 1 1 (outcome.Best (pos 5) both_there four_refuted) }
+    ensures five { IsBestOutcome (weighed []) 1 1 (outcome.Best (pos 5) both_there four_refuted) }
     ensures no_model { IsBest (weighed []) 1 (pos 5) new_one_false four_refuted → ⊥ }
     ensures model_too_short { IsBest (weighed []) 1 (pos 5) (true ∷ true ∷ false ∷ false ∷ true ∷ []) four_refuted → ⊥ }
     ensures refutation_of_another_bound { IsBest (weighed []) 1 (pos 6) both_there four_refuted → ⊥ }
@@ -115,14 +116,33 @@ pub fn best_outcomes()
 
 /// No bound is met where the weakest one is refuted, and a flow is beyond every bound where it reaches 2^53 + 1.
 pub fn outcomes_without_a_best_bound()
-    ensures never { IsOutcome (weighed ((minus 1 ∷ []) ∷ [])) 1 1 (outcome.Never all_refuted) }
-    ensures not_the_weakest { IsOutcome (weighed []) 1 1 (outcome.Never four_refuted) → ⊥ }
-    ensures beyond { IsOutcome wide 1 1 (outcome.Beyond both_there) }
+    ensures never { IsBestOutcome (weighed ((minus 1 ∷ []) ∷ [])) 1 1 (outcome.Never all_refuted) }
+    ensures not_the_weakest { IsBestOutcome (weighed []) 1 1 (outcome.Never four_refuted) → ⊥ }
+    ensures beyond { IsBestOutcome wide 1 1 (outcome.Beyond both_there) }
     ensures beyond_without_a_model { IsBeyond wide 1 new_one_false → ⊥ }
     ensures weight { IsBeyond (weighed []) 1 both_there → ⊥ }
-    ensures spent { IsOutcome (weighed []) 1 0 (outcome.Unknown (pos 5) []) }
-    ensures spent_on_the_weakest { IsOutcome (weighed []) 1 0 (outcome.Unknown (pos MAX_BOUND) []) }
-    ensures not_next_after_one_met { IsOutcome (weighed []) 1 0 (outcome.Unknown (pos 3) []) → ⊥ }
-    ensures not_spent { IsOutcome (weighed []) 1 1 (outcome.Unknown (pos 5) []) → ⊥ }
+    ensures spent { IsBestOutcome (weighed []) 1 0 (outcome.Unknown (pos 5) []) }
+    ensures spent_on_the_weakest { IsBestOutcome (weighed []) 1 0 (outcome.Unknown (pos MAX_BOUND) []) }
+    ensures not_next_after_one_met { IsBestOutcome (weighed []) 1 0 (outcome.Unknown (pos 3) []) → ⊥ }
+    ensures not_spent { IsBestOutcome (weighed []) 1 1 (outcome.Unknown (pos 5) []) → ⊥ }
     ensures no_bound { IsOpen (weighed []) 1 0 (pos (MAX_BOUND + 1)) [] → ⊥ }
+{}
+
+/// A leap finds models that meet the bound of their number, from one number on, and asks for no bound before that or behind the last.
+pub fn models_of_leaps()
+    ensures found { IsFound wide 1 3 (record { model = both_there; number = MAX_BOUND + 1 }) }
+    ensures found_before { IsFound wide 1 (MAX_BOUND + 2) (record { model = both_there; number = MAX_BOUND + 1 }) → ⊥ }
+    ensures behind_the_last { (model : List Bool) → IsFound wide 1 3 (record { model = model; number = MAX_BOUND + 2 }) → ⊥ }
+    ensures no_model { IsFound wide 1 3 (record { model = new_one_false; number = MAX_BOUND + 1 }) → ⊥ }
+    ensures nothing_found { IsGap wide 1 3 (record { found = None; low = 3; high = MAX_BOUND + 2; step = 1; falls = true; patience = 3 }) }
+    ensures asked_before { IsGap wide 1 3 (record { found = None; low = 2; high = MAX_BOUND + 2; step = 1; falls = true; patience = 3 }) → ⊥ }
+    ensures asked_behind { IsGap wide 1 3 (record { found = None; low = 3; high = MAX_BOUND + 3; step = 1; falls = true; patience = 3 }) → ⊥ }
+    ensures last_is_no_model { IsGap wide 1 3 (record {
+      found = Some (record { model = new_one_false; number = MAX_BOUND + 1 });
+      low = 3;
+      high = 5;
+      step = 1;
+      falls = true;
+      patience = 3;
+    }) → ⊥ }
 {}

@@ -27,10 +27,10 @@ abbrev pub IsBegun : Said → Type 0
 IsBegun s = is_nothing s ≡ false
 
 -- what is kept is what it has to be
-abbrev pub IsSound : Instance → Said → Type 0
-IsSound p (said.OfModel status v) = AreValuesKept p v
-IsSound p (said.OfSteps version refutes status s) = AreStepsKept p s
-IsSound p s = Unit {0}
+abbrev pub IsSoundSoFar : Instance → Said → Type 0
+IsSoundSoFar p (said.OfModel status v) = AreValuesKept p v
+IsSoundSoFar p (said.OfSteps version refutes status s) = AreStepsKept p s
+IsSoundSoFar p s = Unit {0}
 
 -- ---- the judge
 
@@ -42,7 +42,7 @@ abbrev pub IsOneLine : List ℕ → Type 0
 IsOneLine bytes = All (λ b. is_line_feed b ≡ false) bytes
 
 pub record IsSoundJudge (p : Instance) (j : Judge) : Type 0 where
-  pub sound : IsSound p j.said
+  pub sound : IsSoundSoFar p j.said
   pub one_line : IsOneLine j.unfinished.items
 
 -- no more than the bytes so far

@@ -8,7 +8,7 @@ ghost use Rattle.mono_text.specs.Text.{is_skipped, tokens_of};
 ghost use Rattle.mono_answer.specs.Items.{item_of};
 ghost use Rattle.mono_problem.specs.Instance.{Instance};
 ghost use Rattle.mono_check.specs.Checking.{later_by};
-ghost use Rattle.mono_check.specs.Judges.{IsSoundJudge, IsOneLine, IsSound, judging, size_of, so_far};
+ghost use Rattle.mono_check.specs.Judges.{IsSoundJudge, IsOneLine, IsSoundSoFar, judging, size_of, so_far};
 ghost use Rattle.mono_check.specs.SoFar.{behind};
 ghost use Rattle.mono_check.specs.Verdicts.{IsVerdictOf, IsVerdict, ended_outcome, outcome_of};
 
@@ -80,8 +80,8 @@ fn judge_line(
     problem: &Problem,
     line: Line<'_>,
 ) -> Result<(), AllocError>
-    requires { IsSound problem.now said.old }
-    ensures sound { OnOk result (IsSound problem.now said.new) }
+    requires { IsSoundSoFar problem.now said.old }
+    ensures sound { OnOk result (IsSoundSoFar problem.now said.new) }
     ensures behind { OnOk result ((ls : List (ℕ × List ℕ))
         → behind problem.now (so_far said.new) ls ≡ behind problem.now (so_far said.old) ((line.entry.number, line.entry.text.now) ∷ ls)) }
 {
@@ -101,10 +101,10 @@ fn judge_other(
     problem: &Problem,
     line: Line<'_>,
 ) -> Result<(), AllocError>
-    requires sound { IsSound problem.now said.old }
+    requires sound { IsSoundSoFar problem.now said.old }
     requires kept { is_skipped (tokens_of line.text.now) ≡ false }
     requires other { item_of (tokens_of line.text.now) ≡ None }
-    ensures sound { OnOk result (IsSound problem.now said.new) }
+    ensures sound { OnOk result (IsSoundSoFar problem.now said.new) }
     ensures behind { OnOk result ((ls : List (ℕ × List ℕ))
         → behind problem.now (so_far said.new) ls ≡ behind problem.now (so_far said.old) ((line.entry.number, line.entry.text.now) ∷ ls)) }
 {
@@ -187,7 +187,7 @@ impl Judge {
     fn end_text(&mut self, problem: &Problem) -> Result<(), AllocError>
         requires kept { IsSoundJudge problem.now self.old }
         requires few { size_of self.old < 2 ^ 63 }
-        ensures sound { OnOk result (IsSound problem.now self.new.said) }
+        ensures sound { OnOk result (IsSoundSoFar problem.now self.new.said) }
         ensures end { OnOk result (behind problem.now (so_far self.new.said) [] ≡ later_by problem.now (judging self.old) []) }
     {
         if self.unfinished.is_empty() {

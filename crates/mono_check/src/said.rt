@@ -5,7 +5,7 @@ ghost use Rattle.mono_problem.specs.Instance.{Instance};
 ghost use Rattle.mono_answer.specs.declared.item.Item.{Item};
 ghost use Rattle.mono_answer.specs.declared.item.Item.TheVariants as says;
 ghost use Rattle.mono_answer.specs.Versions.{items_by};
-ghost use Rattle.mono_check.specs.Judges.{IsBegun, IsSound, is_nothing, so_far};
+ghost use Rattle.mono_check.specs.Judges.{IsBegun, IsSoundSoFar, is_nothing, so_far};
 ghost use Rattle.mono_check.specs.SoFar.{behind, behind_items};
 ghost use Rattle.mono_check.specs.Verdicts.{IsVerdictOf, ended_outcome, steps_outcome, items_outcome};
 ghost use Rattle.mono_check.specs.declared.verdict.Verdict.TheVariants as verdict;
@@ -53,7 +53,7 @@ fn begin_steps(
     number: u64,
     refutes: bool,
 ) -> Result<Said, AllocError>
-    ensures sound { IfOk result (IsSound problem.now) }
+    ensures sound { IfOk result (IsSoundSoFar problem.now) }
     ensures behind { IfOk result (λ said. (ls : List (ℕ × Option Item))
         → behind_items problem.now (so_far said) ls
         ≡ steps_outcome problem.now refutes number (items_by version (length problem.now.clauses + 1) ls)) }
@@ -75,7 +75,7 @@ fn begin(
     number: u64,
     kind: Kind,
 ) -> Result<Said, AllocError>
-    ensures sound { IfOk result (IsSound problem.now) }
+    ensures sound { IfOk result (IsSoundSoFar problem.now) }
     ensures behind { IfOk result (λ said. (n : ℕ) (ls : List (ℕ × Option Item))
         → behind_items problem.now (so_far said) ls
         ≡ items_outcome problem.now n (items_by version (length problem.now.clauses + 1) ((number, Some (says.Status kind)) ∷ ls))) }
@@ -99,7 +99,7 @@ fn first_line(
     number: u64,
     item: Option<Item>,
 ) -> Result<Said, AllocError>
-    ensures sound { IfOk result (IsSound problem.now) }
+    ensures sound { IfOk result (IsSoundSoFar problem.now) }
     ensures behind { IfOk result (λ said. (n : ℕ) (ls : List (ℕ × Option Item))
         → behind_items problem.now (so_far said) ls
         ≡ items_outcome problem.now n (items_by version (length problem.now.clauses + 1) ((number, item) ∷ ls))) }
@@ -146,8 +146,8 @@ impl Said {
         number: u64,
         item: Option<Item>,
     ) -> Result<(), AllocError>
-        requires { IsSound problem.now self.old }
-        ensures sound { OnOk result (IsSound problem.now self.new) }
+        requires { IsSoundSoFar problem.now self.old }
+        ensures sound { OnOk result (IsSoundSoFar problem.now self.new) }
         ensures behind { OnOk result ((ls : List (ℕ × Option Item))
             → behind_items problem.now (so_far self.new) ls ≡ behind_items problem.now (so_far self.old) ((number, item) ∷ ls)) }
         ensures begun { OnOk result (IsBegun self.new) }
@@ -181,7 +181,7 @@ impl Said {
 
     /// The verdict where no line follows.
     pub(crate) fn verdict(&self, alloc: Global, problem: &Problem) -> Result<Verdict, AllocError>
-        requires { IsSound problem.now self.now }
+        requires { IsSoundSoFar problem.now self.now }
         ensures { IfOk result (IsVerdictOf problem.now (behind problem.now (so_far self.now) [])) }
     {
         match self {
@@ -209,7 +209,7 @@ impl Said {
 
     /// The values that a model's lines give to the variables, in their order; none where they are no model's.
     pub(crate) fn values(&self, alloc: Global, problem: &Problem) -> Result<Vec<bool>, AllocError>
-        requires { IsSound problem.now self.now }
+        requires { IsSoundSoFar problem.now self.now }
         ensures { IfOk result (λ values. IsVerdictOf problem.now (behind problem.now (so_far self.now) []) verdict.Model
             → (end : Option ℕ) × (last : ℕ) × (behind problem.now (so_far self.now) [] ≡ ended_outcome problem.now end last values.items)) }
     {

@@ -10,7 +10,7 @@ use Rattle.mono_clauses.specs.Store.{Held, watch_at}
 use Rattle.mono_clauses.specs.Visits.{Guarded, NoneBefore, IsFollowing, IsVisiting, Looked, FoundFalse, Visited, Failed}
 use Rattle.mono_clauses.specs.Watching.{WatchesView, StartsVisits, emptied}
 use Rattle.mono_trail.specs.Moves.{gave}
-use Rattle.mono_trail.specs.TrailView.{TrailView, IsSound}
+use Rattle.mono_trail.specs.TrailView.{TrailView, IsSoundTrail}
 
 pub NoneBefore-same : (ws : List (Option ℤ)) → NoneBefore ws ws
 NoneBefore-same ws = record { back = λ w e. e }
@@ -43,7 +43,7 @@ pub failed_from : (cs : List Held) (o v u : WatchesView) (r t s : TrailView) (n 
 failed_from cs o v u r t s n b g f = record { vars = f.vars; paired = f.paired; empty = f.empty; ahead = f.ahead; guarded = f.guarded; grows = Grows-then cs r t s g f.grows; before = NoneBefore-then o.watched v.watched u.watched b f.before; is_false = f.is_false }
 
 -- a literal of the trail is over its variables, and so is its negation
-pub due_range : (u : TrailView) (p : ℤ) → IsSound u → Stands u.lits p → IsLitWithin u.vars (neg_ℤ p)
+pub due_range : (u : TrailView) (p : ℤ) → IsSoundTrail u → Stands u.lits p → IsLitWithin u.vars (neg_ℤ p)
 due_range u p sound s =
     let r : IsLitWithin u.vars p = subst (IsLitWithin u.vars) s.there (sound.within s.place (pos 0) s.within) in
     subst (λ (n : ℕ). (0 < n) × (n ≤ u.vars)) (sym (var-neg p)) r
@@ -51,7 +51,7 @@ due_range u p sound s =
 pub given_stands : (t u : TrailView) (p : ℤ) → u ≡ gave t → t.given < length t.lits → lit_at t.lits t.given ≡ p → Stands u.lits p
 given_stands t u p e lt at = subst (λ (q : TrailView). Stands q.lits p) (sym e) (record { place = t.given; within = lt; there = at })
 
-pub queue_falls : (cs : List Held) (t u s : TrailView) → IsSound u → u ≡ gave t → t.given < length t.lits → Grows cs u s → s.given ≡ u.given → s.vars - s.given < t.vars - t.given
+pub queue_falls : (cs : List Held) (t u s : TrailView) → IsSoundTrail u → u ≡ gave t → t.given < length t.lits → Grows cs u s → s.given ≡ u.given → s.vars - s.given < t.vars - t.given
 queue_falls cs t u s sound e lt g same_given =
     let v : s.vars ≡ u.vars = Grows-vars cs u s g in
     let w : u.vars ≡ t.vars = ap (λ (q : TrailView). q.vars) e in

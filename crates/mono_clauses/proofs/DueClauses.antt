@@ -19,7 +19,7 @@ use Rattle.mono_clauses.specs.Store.{Held, clause_at, watch_at, other, IsTrueBy,
 use Rattle.mono_clauses.specs.Visits.{Pair, Paired, NoneBefore, IsFollowing, Tried, Watched, Failed, DueKept, WatchedDropped}
 use Rattle.mono_clauses.specs.Watching.{WatchesView, attached}
 use Rattle.mono_trail.specs.Moves.{joined}
-use Rattle.mono_trail.specs.TrailView.{TrailView, IsSound}
+use Rattle.mono_trail.specs.TrailView.{TrailView, IsSoundTrail}
 use Rattle.mono_trail.specs.declared.reason.Reason.TheVariants.{Clause}
 
 pub second_idle : (cs : List Held) (ws : List (Option ℤ)) (k : ℕ) → Paired cs ws → watch_at ws (2 * k) ≡ None → watch_at ws (2 * k + 1) ≡ None
@@ -129,12 +129,12 @@ attach_guarded cs v u t k x y i lt hx hy lone gx gy e = subst (λ (q : WatchesVi
     alone_at w a f g (inr o) (inr r) = i.guarded.alone w a (sym (elsewhere w o.1 r.1) ∙ f) (sym (elsewhere (other w) (other_off w o.1 r.1) (other_off_2 w o.1 r.1)) ∙ g)
 
 -- a due clause whose watchers watch two literals that are not false
-pub attach_tried : (cs : List Held) (v u : WatchesView) (t : TrailView) (k : ℕ) (x y : ℤ) → IsSound t → IsFollowing cs v t → k < length cs → IsUnfalse t.lits (clause_at cs k).lits x → IsAnotherUnfalse t.lits (clause_at cs k).lits x y
+pub attach_tried : (cs : List Held) (v u : WatchesView) (t : TrailView) (k : ℕ) (x y : ℤ) → IsSoundTrail t → IsFollowing cs v t → k < length cs → IsUnfalse t.lits (clause_at cs k).lits x → IsAnotherUnfalse t.lits (clause_at cs k).lits x y
     → u ≡ attached (attached v (2 * k) x) (2 * k + 1) y → Tried cs v u t t k
 attach_tried cs v u t k x y sound i lt fx fy e = attach_guarded cs v u t k x y i lt fx.has fy.has (λ z. absurd (fy.other (sym z))) (λ n. unfalse_guards t n x y sound fx.unfalse) (λ n. unfalse_guards t n y x sound fy.unfalse) e
 
 -- so it is watched
-pub attach_watched : (cs : List Held) (v u : WatchesView) (t : TrailView) (k : ℕ) (x y : ℤ) → IsSound t → IsFollowing cs v t → k < length cs → IsUnfalse t.lits (clause_at cs k).lits x → IsAnotherUnfalse t.lits (clause_at cs k).lits x y
+pub attach_watched : (cs : List Held) (v u : WatchesView) (t : TrailView) (k : ℕ) (x y : ℤ) → IsSoundTrail t → IsFollowing cs v t → k < length cs → IsUnfalse t.lits (clause_at cs k).lits x → IsAnotherUnfalse t.lits (clause_at cs k).lits x y
     → u ≡ attached (attached v (2 * k) x) (2 * k + 1) y → Watched cs v u t k
 attach_watched cs v u t k x y sound i lt fx fy e =
     let q = attach_tried cs v u t k x y sound i lt fx fy e in
@@ -149,7 +149,7 @@ attach_watched cs v u t k x y sound i lt fx fy e =
         ∙ get_or-set_other (set v.watched (2 * k) (Some x)) (2 * k + 1) (2 * k) (Some y) None (λ z. omega (arith, z))
         ∙ get_or-set_same v.watched (2 * k) (Some x) None (omega (arith, lt, i.paired.count))
 
-pub following_implied : (cs : List Held) (v : WatchesView) (t : TrailView) (m : ℤ) (n : ℕ) → IsSound t → IsFollowing cs v t → IsFollowing cs v (joined t m (Clause n))
+pub following_implied : (cs : List Held) (v : WatchesView) (t : TrailView) (m : ℤ) (n : ℕ) → IsSoundTrail t → IsFollowing cs v t → IsFollowing cs v (joined t m (Clause n))
 following_implied cs v t m n sound i = record { vars = i.vars; paired = i.paired; empty = i.empty; guarded = implied_guarded v.watched t [] m n sound i.guarded }
 
 pub tried_watched : (cs : List Held) (v : WatchesView) (t : TrailView) (k : ℕ) (a : ℤ) → IsFollowing cs v t → watch_at v.watched (2 * k) ≡ Some a → Tried cs v v t t k
@@ -161,7 +161,7 @@ tried_true cs v t k x i s e = record { following = i; grows = same t refl; befor
 pub implied_yes : (t : List ℤ) (x : ℤ) → value_by (t ++ x ∷ []) x ≡ Yes
 implied_yes t x = stands_yes (t ++ x ∷ []) x (record { place = length t; within = omega (arith, length-append t (x ∷ [])); there = get_or-append_seam t x [] (pos 0) })
 
-pub tried_implied : (cs : List Held) (v : WatchesView) (t s : TrailView) (k n : ℕ) (x : ℤ) → IsSound t → IsFollowing cs v t → k < length cs → n ≡ (clause_at cs k).number → IsUnit t.lits (clause_at cs k).lits x → s ≡ joined t x (Clause n) → Tried cs v v t s k
+pub tried_implied : (cs : List Held) (v : WatchesView) (t s : TrailView) (k n : ℕ) (x : ℤ) → IsSoundTrail t → IsFollowing cs v t → k < length cs → n ≡ (clause_at cs k).number → IsUnit t.lits (clause_at cs k).lits x → s ≡ joined t x (Clause n) → Tried cs v v t s k
 tried_implied cs v t s k n x sound i lt num unit e = record {
   following = subst (λ (q : TrailView). IsFollowing cs v q) (sym e) (following_implied cs v t x n sound i);
   grows = implies t s n x (same t refl) (unit_of cs t.lits k n x lt num unit) e;

@@ -6,7 +6,7 @@ use Rattle.std.proofs.Math.Seq.{get_or-append_seam}
 use Rattle.mono_base.specs.Literal.{lit_at}
 use Rattle.mono_trail.specs.Moves.{joined, lowered, settled, settled_at, settled_where}
 use Rattle.mono_trail.specs.Places.{level_at, no_mark, place_in}
-use Rattle.mono_trail.specs.TrailView.{TrailView, IsSound, count_to, next_level}
+use Rattle.mono_trail.specs.TrailView.{TrailView, IsSoundTrail, count_to, next_level}
 use Rattle.mono_trail.specs.declared.reason.Mark.{Mark}
 use Rattle.mono_trail.specs.declared.reason.Reason.{Reason}
 use Rattle.mono_trail.specs.declared.reason.Reason.TheVariants.{Decided, Clause, Late}
@@ -52,14 +52,14 @@ same_level Decided n d = absurd (d refl)
 same_level (Clause c) n d = refl
 same_level (Late a k) n d = refl
 
-pub follows_decide : (s : StoreView) (t : TrailView) (l : ℤ) → IsSound t → t.given ≡ length t.lits → Follows s t → Follows s (joined t l Decided)
+pub follows_decide : (s : StoreView) (t : TrailView) (l : ℤ) → IsSoundTrail t → t.given ≡ length t.lits → Follows s t → Follows s (joined t l Decided)
 follows_decide s t l sound all f = record {
   vars = f.vars;
   at = λ w a b e g. guards_joined t l a b Decided t.given sound.as_many sound.given_in (λ p x y. absurd (omega (arith, x, y, all))) (f.at w a b e g);
   alone = λ w a e g. true_joined t l a Decided 0 sound.as_many (f.alone w a e g);
 }
 
-pub follows_imply : (s : StoreView) (t : TrailView) (l : ℤ) (why : Reason) → IsSound t → why ≢ Decided → Follows s t → Follows s (joined t l why)
+pub follows_imply : (s : StoreView) (t : TrailView) (l : ℤ) (why : Reason) → IsSoundTrail t → why ≢ Decided → Follows s t → Follows s (joined t l why)
 follows_imply s t l why sound d f = record {
   vars = f.vars;
   at = λ w a b e g. guards_joined t l a b why t.given sound.as_many sound.given_in (λ p x y. same_level why t.level d) (f.at w a b e g);
@@ -71,7 +71,7 @@ follows_imply s t l why sound d f = record {
 level_kept : (t : TrailView) (level p : ℕ) → p < count_to level t.marks → level_at (lowered level t).marks p ≡ level_at t.marks p
 level_kept t level p lt = ap (λ (x : Mark). x.level) (get_or-take (count_to level t.marks) t.marks p no_mark lt)
 
-true_lowered : (t : TrailView) (b : ℤ) (level low : ℕ) → IsSound t → low ≤ level → IsTrueBy t b low → IsTrueBy (lowered level t) b low
+true_lowered : (t : TrailView) (b : ℤ) (level low : ℕ) → IsSoundTrail t → low ≤ level → IsTrueBy t b low → IsTrueBy (lowered level t) b low
 true_lowered t b level low sound le i =
     let in_marks : i.place < length t.marks = omega (arith, i.within, sound.as_many) in
     let kept : i.place < count_to level t.marks = (up_to_level 0 t.marks t.level level i.place sound.climbs in_marks).1 (omega (arith, i.low, le)) in
@@ -82,7 +82,7 @@ true_lowered t b level low sound le i =
       low = rw (level_kept t level i.place kept) i.low;
     }
 
-guards_lowered : (t : TrailView) (a b : ℤ) (level : ℕ) → IsSound t → level ≤ t.level → Guards t t.given a b → Guards (lowered level t) (min t.given (count_to level t.marks)) a b
+guards_lowered : (t : TrailView) (a b : ℤ) (level : ℕ) → IsSoundTrail t → level ≤ t.level → Guards t t.given a b → Guards (lowered level t) (min t.given (count_to level t.marks)) a b
 guards_lowered t a b level sound le g = record { at = λ p lt e. at p (omega (arith, lt, length-take (count_to level t.marks) t.lits)) (omega (arith, lt, length-take (count_to level t.marks) t.lits)) e }
   where
     by_guard : (p : ℕ) → p < count_to level t.marks → IsTrueBy t b (level_at t.marks p) ⊎ ((t.given ≤ p) × (level_at t.marks p ≡ t.level)) → IsTrueBy (lowered level t) b (level_at (lowered level t).marks p) ⊎ ((min t.given (count_to level t.marks) ≤ p) × (level_at (lowered level t).marks p ≡ level))
@@ -92,7 +92,7 @@ guards_lowered t a b level sound le g = record { at = λ p lt e. at p (omega (ar
     at : (p : ℕ) → p < count_to level t.marks → p < length t.lits → lit_at (lowered level t).lits p ≡ neg_ℤ a → IsTrueBy (lowered level t) b (level_at (lowered level t).marks p) ⊎ ((min t.given (count_to level t.marks) ≤ p) × (level_at (lowered level t).marks p ≡ level))
     at p lt within e = by_guard p lt (g.at p within (sym (get_or-take (count_to level t.marks) t.lits p (pos 0) lt) ∙ e))
 
-pub follows_back : (s : StoreView) (t : TrailView) (level : ℕ) → IsSound t → level ≤ t.level → Follows s t → Follows s (lowered level t)
+pub follows_back : (s : StoreView) (t : TrailView) (level : ℕ) → IsSoundTrail t → level ≤ t.level → Follows s t → Follows s (lowered level t)
 follows_back s t level sound le f = record {
   vars = f.vars;
   at = λ w a b e g. guards_lowered t a b level sound le (f.at w a b e g);
@@ -110,7 +110,7 @@ below_of s t ahead v f = record { vars = v; at = λ w a b e g p lt l low. by_gua
     by_guard p low (inr x) = absurd (omega (arith, low, x.1))
 
 -- after a false clause was found the store follows again once the trail has gone back
-pub follows_below_back : (s : StoreView) (t : TrailView) (level : ℕ) → IsSound t → level < t.level → FollowsBelow s t → Follows s (lowered level t)
+pub follows_below_back : (s : StoreView) (t : TrailView) (level : ℕ) → IsSoundTrail t → level < t.level → FollowsBelow s t → Follows s (lowered level t)
 follows_below_back s t level sound lt f = record {
   vars = f.vars;
   at = λ w a b e g. record { at = λ p within l. inl (at w a b e g p (omega (arith, within, length-take (count_to level t.marks) t.lits)) (omega (arith, within, length-take (count_to level t.marks) t.lits)) l) };

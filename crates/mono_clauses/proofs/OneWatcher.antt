@@ -19,7 +19,7 @@ use Rattle.mono_clauses.specs.Store.{Held, clause_at, watch_at, other, Guards}
 use Rattle.mono_clauses.specs.Visits.{Guarded, Paired, IsFollowing, IsVisiting, IsDue, Looked, FoundFalse}
 use Rattle.mono_clauses.specs.Watching.{WatchesView, Placed, Kept, StartsVisits}
 use Rattle.mono_trail.specs.Moves.{joined, gave}
-use Rattle.mono_trail.specs.TrailView.{TrailView, IsSound}
+use Rattle.mono_trail.specs.TrailView.{TrailView, IsSoundTrail}
 use Rattle.mono_trail.specs.declared.reason.Reason.TheVariants.{Decided, Clause}
 
 -- a clause whose literals but one are false, and that one too
@@ -108,7 +108,7 @@ kept_view v u w p e =
     let h = same_first p.rest s.0 p.watcher w (sym p.was ∙ s.1) in
     (p.rest, (p.was ∙ ap (λ (x : ℕ). x ∷ p.rest) h.0, p.now))
 
-pub looked_true : (cs : List Held) (v u : WatchesView) (t : TrailView) (l m : ℤ) (w : ℕ) → IsSound t → IsVisiting cs v t l → first_of v.ahead ≡ Some w → watch_at v.watched w ≡ Some l → watch_at v.watched (other w) ≡ Some m → Stands t.lits m → Kept v u → Looked cs v u t t l
+pub looked_true : (cs : List Held) (v u : WatchesView) (t : TrailView) (l m : ℤ) (w : ℕ) → IsSoundTrail t → IsVisiting cs v t l → first_of v.ahead ≡ Some w → watch_at v.watched w ≡ Some l → watch_at v.watched (other w) ≡ Some m → Stands t.lits m → Kept v u → Looked cs v u t t l
 looked_true cs v u t l m w sound i e own mate st p =
     let k = kept_view v u w p e in
     subst (λ (q : WatchesView). Looked cs v q t t l) (sym k.1.1) (record {
@@ -125,18 +125,18 @@ looked_true cs v u t l m w sound i e own mate st p =
       less = omega (arith, ap (λ (h : List ℕ). length h) k.1.0);
     })
 
-pub visiting_implied : (cs : List Held) (v : WatchesView) (t : TrailView) (l m : ℤ) (n : ℕ) → IsSound t → IsSound (joined t m (Clause n)) → IsVisiting cs v t l → IsVisiting cs v (joined t m (Clause n)) l
+pub visiting_implied : (cs : List Held) (v : WatchesView) (t : TrailView) (l m : ℤ) (n : ℕ) → IsSoundTrail t → IsSoundTrail (joined t m (Clause n)) → IsVisiting cs v t l → IsVisiting cs v (joined t m (Clause n)) l
 visiting_implied cs v t l m n sound later i = record { vars = i.vars; paired = i.paired; members = i.members; is_false = no_stays t.lits (m ∷ []) l later.partial i.is_false; guarded = implied_guarded v.watched t v.ahead m n sound i.guarded }
 
 -- a unit clause, by the values of its literals
 pub unit_of : (cs : List Held) (t : List ℤ) (k n : ℕ) (x : ℤ) → k < length cs → n ≡ (clause_at cs k).number → IsUnit t (clause_at cs k).lits x → IsUnitOf cs t n x
 unit_of cs t k n x lt num unit = record { place = k; within = lt; number = sym num; has = stands_has (clause_at cs k).lits x unit.has; is_open = open_from_unset t x unit.is_open; others = others_are_false t (clause_at cs k).lits x unit.others }
 
-pub looked_implied : (cs : List Held) (v u : WatchesView) (t s : TrailView) (l m : ℤ) (w n : ℕ) → IsSound t → IsSound s → IsVisiting cs v t l → first_of v.ahead ≡ Some w → watch_at v.watched w ≡ Some l → watch_at v.watched (other w) ≡ Some m
+pub looked_implied : (cs : List Held) (v u : WatchesView) (t s : TrailView) (l m : ℤ) (w n : ℕ) → IsSoundTrail t → IsSoundTrail s → IsVisiting cs v t l → first_of v.ahead ≡ Some w → watch_at v.watched w ≡ Some l → watch_at v.watched (other w) ≡ Some m
     → w / 2 < length cs → n ≡ (clause_at cs (w / 2)).number → IsUnit t.lits (clause_at cs (w / 2)).lits m → s ≡ joined t m (Clause n) → Kept v u → Looked cs v u t s l
 looked_implied cs v u t s l m w n sound sound' i e own mate lt num unit j p =
     let st : Stands s.lits m = record { place = length t.lits; within = rw j (omega (arith, length-append t.lits (m ∷ []))); there = there } in
-    let r = looked_true cs v u s l m w sound' (subst (λ (q : TrailView). IsVisiting cs v q l) (sym j) (visiting_implied cs v t l m n sound (subst IsSound j sound') i)) e own mate st p in
+    let r = looked_true cs v u s l m w sound' (subst (λ (q : TrailView). IsVisiting cs v q l) (sym j) (visiting_implied cs v t l m n sound (subst IsSoundTrail j sound') i)) e own mate st p in
     record { visiting = r.visiting; grows = implies t s n m (same t refl) (unit_of cs t.lits (w / 2) n m lt num unit) j; given = ap (λ (q : TrailView). q.given) j; before = r.before; less = r.less }
   where
     there : get_or s.lits (length t.lits) (pos 0) ≡ m
@@ -145,7 +145,7 @@ looked_implied cs v u t s l m w n sound sound' i e own mate lt num unit j p =
         seam : (xs : List ℤ) (y : ℤ) → get_or (xs ++ y ∷ []) (length xs) (pos 0) ≡ y
         seam xs y = get_or-append_seam xs y [] (pos 0)
 
-pub looked_move : (cs : List Held) (v u : WatchesView) (t : TrailView) (l m x : ℤ) (w : ℕ) → IsSound t → IsVisiting cs v t l → first_of v.ahead ≡ Some w → watch_at v.watched w ≡ Some l → watch_at v.watched (other w) ≡ Some m → IsAnotherUnfalse t.lits (clause_at cs (w / 2)).lits m x → Placed v u x → Looked cs v u t t l
+pub looked_move : (cs : List Held) (v u : WatchesView) (t : TrailView) (l m x : ℤ) (w : ℕ) → IsSoundTrail t → IsVisiting cs v t l → first_of v.ahead ≡ Some w → watch_at v.watched w ≡ Some l → watch_at v.watched (other w) ≡ Some m → IsAnotherUnfalse t.lits (clause_at cs (w / 2)).lits m x → Placed v u x → Looked cs v u t t l
 looked_move cs v u t l m x w sound i e own mate sp p =
     let s = first_split v.ahead w e in
     let h = same_first p.rest s.0 p.watcher w (sym p.was ∙ s.1) in
@@ -203,7 +203,7 @@ visiting_begins cs v u t l d h = record {
         subst (λ (k : ℕ). Guards t k a b) (sym zero_off) (d.rest w a b n e f)
 
 -- the trail gives a literal
-pub due_now : (cs : List Held) (v : WatchesView) (t u : TrailView) (p : ℤ) → IsSound u → u ≡ gave t → IsFollowing cs v t → t.given < length t.lits → lit_at t.lits t.given ≡ p → IsDue cs v u (neg_ℤ p)
+pub due_now : (cs : List Held) (v : WatchesView) (t u : TrailView) (p : ℤ) → IsSoundTrail u → u ≡ gave t → IsFollowing cs v t → t.given < length t.lits → lit_at t.lits t.given ≡ p → IsDue cs v u (neg_ℤ p)
 due_now cs v t u p sound e i lt at = subst (λ (q : TrailView). IsDue cs v q (neg_ℤ p)) (sym e) (record {
   vars = i.vars;
   paired = i.paired;

@@ -17,7 +17,7 @@ use Rattle.mono_clauses.specs.Store.{Held, clause_at, watch_at, other, IsTrueBy,
 use Rattle.mono_clauses.specs.Visits.{Guarded, Pair, Paired, NoneBefore}
 use Rattle.mono_trail.specs.Moves.{joined, gave}
 use Rattle.mono_trail.specs.Places.{level_at}
-use Rattle.mono_trail.specs.TrailView.{TrailView, IsSound}
+use Rattle.mono_trail.specs.TrailView.{TrailView, IsSoundTrail}
 use Rattle.mono_trail.specs.declared.reason.Reason.TheVariants.{Clause}
 
 -- watchers and their clauses
@@ -51,7 +51,7 @@ yes_no : {v : Value} → v ≡ Yes → v ≡ No → ⊥
 yes_no a b = cc
 
 -- a true watch guards the other at every place
-pub guards_true : (t : TrailView) (n m : ℕ) (a b : ℤ) → IsSound t → Stands t.lits b → Guards t n a b → Guards t m a b
+pub guards_true : (t : TrailView) (n m : ℕ) (a b : ℤ) → IsSoundTrail t → Stands t.lits b → Guards t n a b → Guards t m a b
 guards_true t n m a b sound s g = record { at = λ p lt e. inl (by_guard p (g.at p lt e)) }
   where
     by_guard : (p : ℕ) → IsTrueBy t b (level_at t.marks p) ⊎ ((n ≤ p) × (level_at t.marks p ≡ t.level)) → IsTrueBy t b (level_at t.marks p)
@@ -59,11 +59,11 @@ guards_true t n m a b sound s g = record { at = λ p lt e. inl (by_guard p (g.at
     by_guard p (inr x) = record { place = s.place; within = s.within; there = s.there; low = omega (arith, x.1, at_most 0 t.marks t.level s.place sound.climbs (omega (arith, s.within, sound.as_many))) }
 
 -- a watch that is not false needs no guard
-pub unfalse_guards : (t : TrailView) (n : ℕ) (x b : ℤ) → IsSound t → value_by t.lits x ≢ No → Guards t n x b
+pub unfalse_guards : (t : TrailView) (n : ℕ) (x b : ℤ) → IsSoundTrail t → value_by t.lits x ≢ No → Guards t n x b
 unfalse_guards t n x b sound h = record { at = λ p lt e. absurd (h (stands_no t.lits x sound.partial (record { place = p; within = lt; there = e }))) }
 
 -- the guard of a watch beside one that is false
-pub guards_beside_false : (t : TrailView) (n : ℕ) (a l x : ℤ) → IsSound t → value_by t.lits l ≡ No → Guards t n a l → Guards t n a x
+pub guards_beside_false : (t : TrailView) (n : ℕ) (a l x : ℤ) → IsSoundTrail t → value_by t.lits l ≡ No → Guards t n a l → Guards t n a x
 guards_beside_false t n a l x sound f g = record { at = λ p lt e. by_guard p (g.at p lt e) }
   where
     by_guard : (p : ℕ) → IsTrueBy t l (level_at t.marks p) ⊎ ((n ≤ p) × (level_at t.marks p ≡ t.level)) → IsTrueBy t x (level_at t.marks p) ⊎ ((n ≤ p) × (level_at t.marks p ≡ t.level))
@@ -71,7 +71,7 @@ guards_beside_false t n a l x sound f g = record { at = λ p lt e. by_guard p (g
     by_guard p (inr y) = inr y
 
 -- the first watcher ahead is passed, beside a true literal
-pub keep_guarded : (ws : List (Option ℤ)) (t : TrailView) (w : ℕ) (rest : List ℕ) (c : ℤ) → IsSound t → watch_at ws (other w) ≡ Some c → Stands t.lits c → Guarded ws t (w ∷ rest) → Guarded ws t rest
+pub keep_guarded : (ws : List (Option ℤ)) (t : TrailView) (w : ℕ) (rest : List ℕ) (c : ℤ) → IsSoundTrail t → watch_at ws (other w) ≡ Some c → Stands t.lits c → Guarded ws t (w ∷ rest) → Guarded ws t rest
 keep_guarded ws t w rest c sound is s g = record { at = λ x a b e f. by_watcher x a b e f (eqb_tells w x); alone = g.alone }
   where
     by_watcher : (x : ℕ) (a b : ℤ) → watch_at ws x ≡ Some a → watch_at ws (other x) ≡ Some b → ((eqb w x ≡ true) × (w ≡ x)) ⊎ ((eqb w x ≡ false) × (w ≢ x)) → Guards t (t.given - times x rest) a b
@@ -81,7 +81,7 @@ keep_guarded ws t w rest c sound is s g = record { at = λ x a b e f. by_watcher
     by_watcher x a b e f (inr o) = subst (λ (k : ℕ). Guards t (t.given - k) a b) (times_other x w rest (λ z. o.1 (sym z))) (g.at x a b e f)
 
 -- a literal is implied
-pub implied_guarded : (ws : List (Option ℤ)) (t : TrailView) (ahead : List ℕ) (l : ℤ) (n : ℕ) → IsSound t → Guarded ws t ahead → Guarded ws (joined t l (Clause n)) ahead
+pub implied_guarded : (ws : List (Option ℤ)) (t : TrailView) (ahead : List ℕ) (l : ℤ) (n : ℕ) → IsSoundTrail t → Guarded ws t ahead → Guarded ws (joined t l (Clause n)) ahead
 implied_guarded ws t ahead l n sound g = record {
   at = λ w a b e f. guards_joined t l a b (Clause n) (t.given - times w ahead) sound.as_many (omega (arith, sound.given_in)) (λ p x y. refl) (g.at w a b e f);
   alone = λ w a e f. true_joined t l a (Clause n) 0 sound.as_many (g.alone w a e f);
@@ -91,7 +91,7 @@ some_same : {a b : ℤ} {o : Option ℤ} → o ≡ Some a → o ≡ Some b → a
 some_same e f = cc
 
 -- the first watcher ahead leaves for a literal that is not false
-pub move_guarded : (ws : List (Option ℤ)) (t : TrailView) (w : ℕ) (rest : List ℕ) (l m x : ℤ) → IsSound t → w < length ws → watch_at ws w ≡ Some l → watch_at ws (other w) ≡ Some m → x ≢ m → value_by t.lits l ≡ No → value_by t.lits x ≢ No → Guarded ws t (w ∷ rest) → Guarded (set ws w (Some x)) t rest
+pub move_guarded : (ws : List (Option ℤ)) (t : TrailView) (w : ℕ) (rest : List ℕ) (l m x : ℤ) → IsSoundTrail t → w < length ws → watch_at ws w ≡ Some l → watch_at ws (other w) ≡ Some m → x ≢ m → value_by t.lits l ≡ No → value_by t.lits x ≢ No → Guarded ws t (w ∷ rest) → Guarded (set ws w (Some x)) t rest
 move_guarded ws t w rest l m x sound lt is mate differ f h g = record {
   at = λ y a b e k. by_watcher y a b e k (eqb_tells w y) (eqb_tells w (other y));
   alone = λ y a e k. by_lone y a e k (eqb_tells w y) (eqb_tells w (other y));
@@ -182,7 +182,7 @@ guards_passed t a b n g = record { at = λ p lt e. by_guard p e (g.at p lt e) }
         by_place (inr o) = inr (omega (arith, y.0, o.1), y.1)
 
 -- where the trail has given all, guarded watches make a clause quiet
-quiet_by : (t : TrailView) (c : List ℤ) (a b : ℤ) (v w : Value) → IsSound t → value_by t.lits a ≡ v → value_by t.lits b ≡ w → Stands c a → Stands c b → a ≢ b → Guards t (length t.lits) a b → Guards t (length t.lits) b a → IsQuiet t.lits c
+quiet_by : (t : TrailView) (c : List ℤ) (a b : ℤ) (v w : Value) → IsSoundTrail t → value_by t.lits a ≡ v → value_by t.lits b ≡ w → Stands c a → Stands c b → a ≢ b → Guards t (length t.lits) a b → Guards t (length t.lits) b a → IsQuiet t.lits c
 quiet_by t c a b Yes w sound e f s r d g h = quiet_by_true t.lits c a s e
 quiet_by t c a b No w sound e f s r d g h = by_guard (let z = no_stands t.lits a e in g.at z.place z.within z.there) (no_stands t.lits a e).within
   where
@@ -200,7 +200,7 @@ quiet_by t c a b Unset Unset sound e f s r d g h = quiet_by_two t.lits c a b s r
     unset_no : Unset ≡ No → ⊥
     unset_no z = cc
 
-pub quiet_watched : (t : TrailView) (c : List ℤ) (a b : ℤ) → IsSound t → Stands c a → Stands c b → (a ≡ b → IsTrueBy t a 0) → Guards t (length t.lits) a b → Guards t (length t.lits) b a → IsQuiet t.lits c
+pub quiet_watched : (t : TrailView) (c : List ℤ) (a b : ℤ) → IsSoundTrail t → Stands c a → Stands c b → (a ≡ b → IsTrueBy t a 0) → Guards t (length t.lits) a b → Guards t (length t.lits) b a → IsQuiet t.lits c
 quiet_watched t c a b sound s r alone g h = elim (int_tells a b) [
   | inl e ↦ quiet_by_true t.lits c a s (let i = alone e in stands_yes t.lits a (record { place = i.place; within = i.within; there = i.there }))
   | inr d ↦ quiet_by t c a b (value_by t.lits a) (value_by t.lits b) sound refl refl s r d g h

@@ -5,7 +5,7 @@ use Rattle.std.proofs.lemmas.Bool.{and_from}
 use Rattle.std.proofs.lemmas.List.{get_or_append_left, get_or_past}
 use Rattle.std.proofs.Math.Seq.{get_or-append_seam}
 use Rattle.mono_base.specs.Partial.{is_quiet, unit_quiet}
-use Rattle.mono_trail.specs.TrailView.{TrailView, IsSound}
+use Rattle.mono_trail.specs.TrailView.{TrailView, IsSoundTrail}
 use Rattle.mono_clauses.proofs.DueClauses.{times_place}
 use Rattle.mono_clauses.proofs.FollowsKept.{below_of}
 use Rattle.mono_clauses.proofs.Growth.{Grows-vars, HasTrue-grows}
@@ -39,7 +39,7 @@ pub store_kept : (c : ClausesView) (v u : WatchesView) (due less : List ℕ) →
 store_kept c v u due less i e p h d = record { vars = i.vars ∙ sym e; paired = p; empty = h; kept = d }
 
 -- every clause is quiet once all due ones were settled and all watches looked at
-pub quiet_all : (c : ClausesView) (v x u : WatchesView) (due : List ℕ) (t s r : TrailView) → IsSound r → DueKept c.list x due → DueVisited c.list v x t s due → Followed c.list x u s r → (k : ℕ) → k < length c.list → IsQuiet r.lits (clause_at c.list k).lits
+pub quiet_all : (c : ClausesView) (v x u : WatchesView) (due : List ℕ) (t s r : TrailView) → IsSoundTrail r → DueKept c.list x due → DueVisited c.list v x t s due → Followed c.list x u s r → (k : ℕ) → k < length c.list → IsQuiet r.lits (clause_at c.list k).lits
 quiet_all c v x u due t s r sound i d f k lt = by_watch k lt (watch_at u.watched (2 * k)) refl
   where
     guards : (w : ℕ) (a b : ℤ) → watch_at u.watched w ≡ Some a → watch_at u.watched (other w) ≡ Some b → Guards r (length r.lits) a b
@@ -65,7 +65,7 @@ pub quiet_lists : (cs : List Held) (u : List ℤ) → ((k : ℕ) → k < length 
 quiet_lists [] u q = refl
 quiet_lists (c ∷ cs) u q = and_from (is_quiet u c.lits) (unit_quiet (lists_of cs) u) (quiet_clause u c.lits (q 0 (omega arith))) (quiet_lists cs u (λ k lt. q (suc k) (omega (arith, lt))))
 
-pub quiet_found : (c : ClausesView) (v x u : WatchesView) (due : List ℕ) (t s r : TrailView) → IsSound r → DueKept c.list x due → DueVisited c.list v x t s due → Followed c.list x u s r → c.vars ≡ u.vars → QuietFound (record { vars = c.vars; clauses = c.list; watched = u.watched }) r
+pub quiet_found : (c : ClausesView) (v x u : WatchesView) (due : List ℕ) (t s r : TrailView) → IsSoundTrail r → DueKept c.list x due → DueVisited c.list v x t s due → Followed c.list x u s r → c.vars ≡ u.vars → QuietFound (record { vars = c.vars; clauses = c.list; watched = u.watched }) r
 quiet_found c v x u due t s r sound i d f z = record {
   quiet = quiet_lists c.list r.lits (quiet_all c v x u due t s r sound i d f);
   all_given = f.all_given;

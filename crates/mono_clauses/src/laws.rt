@@ -3,7 +3,7 @@
 ghost use Rattle.std.specs.Prelude.{◌≡◌, ◌≢◌, ℕ, ℤ, ◌<◌, ◌≤◌, length};
 ghost use Rattle.mono_clauses.specs.Store.{StoreView, no_clauses, Follows, FollowsBelow};
 ghost use Rattle.mono_trail.specs.Moves.{joined, lowered, settled};
-ghost use Rattle.mono_trail.specs.TrailView.{TrailView, IsSound};
+ghost use Rattle.mono_trail.specs.TrailView.{TrailView, IsSoundTrail};
 ghost use Rattle.mono_trail.specs.declared.reason.Reason.{Reason};
 ghost use Rattle.mono_trail.specs.declared.reason.Reason.TheVariants.{Decided};
 
@@ -14,22 +14,22 @@ pub fn a_new_store_follows()
 
 /// A decision keeps it where the trail has given all its literals.
 pub fn deciding_keeps()
-    ensures { (s : StoreView) (t : TrailView) (l : ℤ) → IsSound t → t.given ≡ length t.lits → Follows s t → Follows s (joined t l Decided) }
+    ensures { (s : StoreView) (t : TrailView) (l : ℤ) → IsSoundTrail t → t.given ≡ length t.lits → Follows s t → Follows s (joined t l Decided) }
 {}
 
 /// An implied literal keeps it.
 pub fn implying_keeps()
-    ensures { (s : StoreView) (t : TrailView) (l : ℤ) (why : Reason) → IsSound t → why ≢ Decided → Follows s t → Follows s (joined t l why) }
+    ensures { (s : StoreView) (t : TrailView) (l : ℤ) (why : Reason) → IsSoundTrail t → why ≢ Decided → Follows s t → Follows s (joined t l why) }
 {}
 
 /// Going back keeps it.
 pub fn going_back_keeps()
-    ensures { (s : StoreView) (t : TrailView) (level : ℕ) → IsSound t → level ≤ t.level → Follows s t → Follows s (lowered level t) }
+    ensures { (s : StoreView) (t : TrailView) (level : ℕ) → IsSoundTrail t → level ≤ t.level → Follows s t → Follows s (lowered level t) }
 {}
 
 /// After a false clause was found it holds again once the trail has gone back below the level of that propagation.
 pub fn going_below_restores()
-    ensures { (s : StoreView) (t : TrailView) (level : ℕ) → IsSound t → level < t.level → FollowsBelow s t → Follows s (lowered level t) }
+    ensures { (s : StoreView) (t : TrailView) (level : ℕ) → IsSoundTrail t → level < t.level → FollowsBelow s t → Follows s (lowered level t) }
 {}
 
 /// Settling a late reason keeps both.

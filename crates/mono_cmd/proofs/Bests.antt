@@ -27,7 +27,7 @@ use Rattle.mono_check.proofs.Accepted.{refutation_iff, progress_iff, model_iff}
 use Rattle.mono_answer.proofs.Tokens.{numbers_tokens}
 use Rattle.mono_best.specs.Asking.{asking, predicate_of, HasBoundedAtom, HasRoomToAsk}
 use Rattle.mono_best.specs.Bounds.{beyond, weakest, IsBoundOf}
-use Rattle.mono_best.specs.Best.{IsOutcome, IsBest, IsBeyond, IsOpen}
+use Rattle.mono_best.specs.Best.{IsBestOutcome, IsBest, IsBeyond, IsOpen}
 use Rattle.mono_best.specs.Optimum.{IsNeverMet}
 use Rattle.mono_best.specs.declared.outcome.BestOutcome.{BestOutcome}
 use Rattle.mono_best.specs.declared.outcome.BestOutcome.TheVariants as bounded
@@ -81,19 +81,19 @@ keeps_open b = keeps_note (codes "open" ∷ numbers_text (b ∷ [])) (open_word,
 
 -- ---- what `best` writes is accepted
 
-refutation_accepted : (q : Instance) (notes : List ℕ) (steps : List Step) → IsInstance q → length steps < 2 ^ 63 → KeepsSteps notes → IsTrimRefutation q steps
+refutation_accepted : (q : Instance) (notes : List ℕ) (steps : List Step) → IsInstance q → KeepsSteps notes → IsTrimRefutation q steps
     → IsVerdict q (notes ++ answer_text (answer.Refutation steps)) verdict.Refutation
-refutation_accepted q notes steps ok few keeps h =
+refutation_accepted q notes steps ok keeps h =
     let justified = (and_parts (are_justified q steps) (ends_empty steps) h.refutes).0 in
-    let within = steps_within q q.clauses steps ok (few_steps q steps ok few) justified in
+    let within = steps_within q q.clauses steps ok (few_steps q steps ok h.short) justified in
     let alone = printed_steps (length q.clauses) kind.Refutation (answer.Refutation steps) steps refl within in
     (refutation_iff q (notes ++ answer_text (answer.Refutation steps))).1
     (steps, keeps (length q.clauses) kind.Refutation (answer_text (answer.Refutation steps)) steps alone, h.refutes)
 
-progress_accepted : (q : Instance) (budget : ℕ) (notes : List ℕ) (steps : List Step) → IsInstance q → length steps < 2 ^ 63 → KeepsSteps notes → IsProgress q budget steps
+progress_accepted : (q : Instance) (budget : ℕ) (notes : List ℕ) (steps : List Step) → IsInstance q → KeepsSteps notes → IsProgress q budget steps
     → IsVerdict q (notes ++ answer_text (answer.Progress steps)) (verdict.Progress (chain_count steps))
-progress_accepted q budget notes steps ok few keeps h =
-    let within = steps_within q q.clauses steps ok (few_steps q steps ok few) h.justified in
+progress_accepted q budget notes steps ok keeps h =
+    let within = steps_within q q.clauses steps ok (few_steps q steps ok h.short) h.justified in
     let alone = printed_steps (length q.clauses) kind.Progress (answer.Progress steps) steps refl within in
     (progress_iff q (notes ++ answer_text (answer.Progress steps)) (chain_count steps)).1
     (steps, keeps (length q.clauses) kind.Progress (answer_text (answer.Progress steps)) steps alone, h.justified, refl)
@@ -103,27 +103,27 @@ model_accepted q ts values ok tokens h =
     (model_iff q (note ts ++ answer_text (answer.Model values))).1
     (values, keeps_model ts tokens q (answer_text (answer.Model values)) values (printed_model q values ok h.len), h.satisfies)
 
-pub best_bounds : (p : Instance) (budget n : ℕ) (b : ℤ) (model : List Bool) (steps : List Step) → IsInstance p → HasBoundedAtom p n → HasRoomToAsk p → length steps < 2 ^ 63
+best_bounds : (p : Instance) (budget n : ℕ) (b : ℤ) (model : List Bool) (steps : List Step) → IsInstance p → HasBoundedAtom p n → HasRoomToAsk p
     → IsBest p n b model steps → IsBounding p budget n (bounded.Best b model steps)
-best_bounds p budget n b model steps ok atom room few h =
+best_bounds p budget n b model steps ok atom room h =
     let q = predicate_of p n in
     let asked_ok = asking-instance p n (beyond q b) ok atom room (next_in q b atom.bounded h.low h.high) in
     record {
       right = h;
-      accepted = refutation_accepted (asking p n (beyond q b)) (note (codes "best" ∷ signed_decimal b ∷ []) ++ values_note model) steps asked_ok few (keeps_best b model) h.refutes;
+      accepted = refutation_accepted (asking p n (beyond q b)) (note (codes "best" ∷ signed_decimal b ∷ []) ++ values_note model) steps asked_ok (keeps_best b model) h.refutes;
     }
 
-pub never_bounds : (p : Instance) (budget n : ℕ) (steps : List Step) → IsInstance p → HasBoundedAtom p n → HasRoomToAsk p → length steps < 2 ^ 63
+never_bounds : (p : Instance) (budget n : ℕ) (steps : List Step) → IsInstance p → HasBoundedAtom p n → HasRoomToAsk p
     → IsTrimRefutation (asking p n (weakest (predicate_of p n))) steps → IsBounding p budget n (bounded.Never steps)
-never_bounds p budget n steps ok atom room few h =
+never_bounds p budget n steps ok atom room h =
     let q = predicate_of p n in
     let asked_ok = asking-instance p n (weakest q) ok atom room (weakest_in q atom.bounded) in
     record {
       right = h;
-      accepted = refutation_accepted (asking p n (weakest q)) (note (codes "never" ∷ [])) steps asked_ok few keeps_never h;
+      accepted = refutation_accepted (asking p n (weakest q)) (note (codes "never" ∷ [])) steps asked_ok keeps_never h;
     }
 
-pub beyond_bounds : (p : Instance) (budget n : ℕ) (model : List Bool) → IsInstance p → HasBoundedAtom p n → HasRoomToAsk p → IsBeyond p n model → IsBounding p budget n (bounded.Beyond model)
+beyond_bounds : (p : Instance) (budget n : ℕ) (model : List Bool) → IsInstance p → HasBoundedAtom p n → HasRoomToAsk p → IsBeyond p n model → IsBounding p budget n (bounded.Beyond model)
 beyond_bounds p budget n model ok atom room h =
     let b = pos (MAX_BOUND + 1) in
     let asked_ok = asking-instance p n b ok atom room (beyond_flow (predicate_of p n) h.flow) in
@@ -132,16 +132,22 @@ beyond_bounds p budget n model ok atom room h =
       accepted = model_accepted (asking p n b) (codes "beyond" ∷ []) model asked_ok (beyond_word, tt) h.met;
     }
 
-pub open_bounds : (p : Instance) (budget n : ℕ) (b : ℤ) (steps : List Step) → IsInstance p → HasBoundedAtom p n → HasRoomToAsk p → length steps < 2 ^ 63
+open_bounds : (p : Instance) (budget n : ℕ) (b : ℤ) (steps : List Step) → IsInstance p → HasBoundedAtom p n → HasRoomToAsk p
     → IsOpen p n budget b steps → IsBounding p budget n (bounded.Unknown b steps)
-open_bounds p budget n b steps ok atom room few h = record {
+open_bounds p budget n b steps ok atom room h = record {
   right = h;
-  accepted = progress_accepted (asking p n b) budget (note (codes "open" ∷ signed_decimal b ∷ [])) steps (asking-instance p n b ok atom room h.bound) few (keeps_open b) h.progress;
+  accepted = progress_accepted (asking p n b) budget (note (codes "open" ∷ signed_decimal b ∷ [])) steps (asking-instance p n b ok atom room h.bound) (keeps_open b) h.progress;
 }
+
+pub outcome_bounds : (p : Instance) (budget n : ℕ) (o : BestOutcome) → IsInstance p → HasBoundedAtom p n → HasRoomToAsk p → IsBestOutcome p n budget o → IsBounding p budget n o
+outcome_bounds p budget n (bounded.Best b model steps) ok atom room h = best_bounds p budget n b model steps ok atom room h
+outcome_bounds p budget n (bounded.Never steps) ok atom room h = never_bounds p budget n steps ok atom room h
+outcome_bounds p budget n (bounded.Beyond model) ok atom room h = beyond_bounds p budget n model ok atom room h
+outcome_bounds p budget n (bounded.Unknown b steps) ok atom room h = open_bounds p budget n b steps ok atom room h
 
 -- ---- two outcomes
 
-pub consistent_bounds : (p : Instance) (budget n : ℕ) (a b : BestOutcome) → IsInstance p → HasBoundedAtom p n → HasRoomToAsk p → IsOutcome p n budget a → IsOutcome p n budget b → AreConsistentBounds a b
+pub consistent_bounds : (p : Instance) (budget n : ℕ) (a b : BestOutcome) → IsInstance p → HasBoundedAtom p n → HasRoomToAsk p → IsBestOutcome p n budget a → IsBestOutcome p n budget b → AreConsistentBounds a b
 consistent_bounds p budget n (bounded.Best b model steps) (bounded.Best c other later) ok atom room x y = one_best p n b c model other steps later ok atom room x y
 consistent_bounds p budget n (bounded.Best b model steps) (bounded.Never later) ok atom room x y = best_or_never p n b model steps later ok atom room x y
 consistent_bounds p budget n (bounded.Best b model steps) (bounded.Beyond other) ok atom room x y = best_or_beyond p n b model other steps ok atom room x y

@@ -1,5 +1,5 @@
 -- What is found under assumptions, and that `check-with` accepts what `core` writes of it.
-use Rattle.std.proofs.Common.{ℕ, ◌<◌, ◌^◌, Bool, true, false, List, [], ◌∷◌, length, map, All, ℤ, refl, sym, subst}
+use Rattle.std.proofs.Common.{ℕ, Bool, true, false, List, [], ◌∷◌, length, map, All, ℤ, refl, sym, subst}
 use Rattle.std.specs.Prelude.{IsTrue}
 use Rattle.std.proofs.lemmas.Bool.{and_parts, and_from}
 use Rattle.std.proofs.lemmas.List.Folds.{list_all-append}
@@ -11,7 +11,7 @@ use Rattle.mono_problem.specs.Holds.{Satisfies, HasNoModel}
 use Rattle.mono_problem.specs.Assuming.{assuming, HasRoom}
 use Rattle.mono_problem.proofs.Assumed.{assuming-instance}
 use Rattle.mono_steps.specs.declared.step.Step.{Step}
-use Rattle.mono_steps.specs.Steps.{are_justified, ends_empty, is_refutation}
+use Rattle.mono_steps.specs.Steps.{are_justified, ends_empty}
 use Rattle.mono_steps.specs.Renumbering.{pick}
 use Rattle.mono_steps.proofs.StepTruth.{refutation_excludes}
 use Rattle.mono_answer.specs.declared.kind.Kind.TheVariants as kind
@@ -22,10 +22,11 @@ use Rattle.mono_check.specs.Verdicts.{IsVerdict}
 use Rattle.mono_check.proofs.Accepted.{refutation_iff}
 use Rattle.mono_search.specs.Outcomes.{HasModel}
 use Rattle.mono_steps.specs.New.{IsProgress}
+use Rattle.mono_steps.specs.Trimmed.{IsTrimRefutation}
 use Rattle.mono_core.specs.declared.outcome.Need.{Need}
 use Rattle.mono_core.specs.declared.outcome.CoreOutcome.{CoreOutcome}
 use Rattle.mono_core.specs.declared.outcome.CoreOutcome.TheVariants as outcome
-use Rattle.mono_core.specs.Cores.{IsCore}
+use Rattle.mono_core.specs.Cores.{IsCore, IsCoreOutcome}
 use Rattle.mono_core.proofs.Minimal.{pick_within}
 use Rattle.mono_core.proofs.Needs.{room_fewer}
 use Rattle.mono_cmd.specs.CoreTexts.{outcome_text}
@@ -69,7 +70,7 @@ core_excludes p budget assumed lits steps needs ok within room core = λ a satis
 
 -- ---- what `core` writes is accepted
 
-pub model_narrows : (p : Instance) (budget : ℕ) (assumed : List ℤ) (values : List Bool) → IsInstance p → All (IsLitWithin MAX_VARS) assumed → HasRoom p assumed
+model_narrows : (p : Instance) (budget : ℕ) (assumed : List ℤ) (values : List Bool) → IsInstance p → All (IsLitWithin MAX_VARS) assumed → HasRoom p assumed
     → HasModel (assuming p assumed) values → IsNarrowing p budget assumed (outcome.Model values)
 model_narrows p budget assumed values ok within room h = record {
   literals = within;
@@ -77,31 +78,37 @@ model_narrows p budget assumed values ok within room h = record {
   accepted = (model_solves (assuming p assumed) budget values (assuming-instance p assumed ok within room) h).accepted;
 }
 
-pub progress_narrows : (p : Instance) (budget : ℕ) (assumed : List ℤ) (steps : List Step) → IsInstance p → All (IsLitWithin MAX_VARS) assumed → HasRoom p assumed → length steps < 2 ^ 63
+progress_narrows : (p : Instance) (budget : ℕ) (assumed : List ℤ) (steps : List Step) → IsInstance p → All (IsLitWithin MAX_VARS) assumed → HasRoom p assumed
     → IsProgress (assuming p assumed) budget steps → IsNarrowing p budget assumed (outcome.Unknown steps)
-progress_narrows p budget assumed steps ok within room few h = record {
+progress_narrows p budget assumed steps ok within room h = record {
   literals = within;
   right = h;
-  accepted = (progress_solves (assuming p assumed) budget steps (assuming-instance p assumed ok within room) few h).accepted;
+  accepted = (progress_solves (assuming p assumed) budget steps (assuming-instance p assumed ok within room) h).accepted;
 }
 
 -- the lines of the core and of its needs are skipped
-core_accepted : (q : Instance) (lits : List ℤ) (steps : List Step) (needs : List Need) → IsInstance q → length steps < 2 ^ 63 → IsTrue (is_refutation q steps)
+core_accepted : (q : Instance) (lits : List ℤ) (steps : List Step) (needs : List Need) → IsInstance q → IsTrimRefutation q steps
     → IsVerdict q (outcome_text (outcome.Core lits steps needs)) verdict.Refutation
-core_accepted q lits steps needs ok few refutes =
-    let justified = (and_parts (are_justified q steps) (ends_empty steps) refutes).0 in
-    let within = steps_within q q.clauses steps ok (few_steps q steps ok few) justified in
+core_accepted q lits steps needs ok trim =
+    let justified = (and_parts (are_justified q steps) (ends_empty steps) trim.refutes).0 in
+    let within = steps_within q q.clauses steps ok (few_steps q steps ok trim.short) justified in
     let alone = printed_steps (length q.clauses) kind.Refutation (answer.Refutation steps) steps refl within in
     (refutation_iff q (outcome_text (outcome.Core lits steps needs))).1
-    (steps, keeps_core lits needs (length q.clauses) kind.Refutation (answer_text (answer.Refutation steps)) steps alone, refutes)
+    (steps, keeps_core lits needs (length q.clauses) kind.Refutation (answer_text (answer.Refutation steps)) steps alone, trim.refutes)
 
-pub core_narrows : (p : Instance) (budget : ℕ) (assumed lits : List ℤ) (steps : List Step) (needs : List Need) → IsInstance p → All (IsLitWithin MAX_VARS) assumed → HasRoom p assumed → length steps < 2 ^ 63
+core_narrows : (p : Instance) (budget : ℕ) (assumed lits : List ℤ) (steps : List Step) (needs : List Need) → IsInstance p → All (IsLitWithin MAX_VARS) assumed → HasRoom p assumed
     → IsCore p budget assumed lits steps needs → IsNarrowing p budget assumed (outcome.Core lits steps needs)
-core_narrows p budget assumed lits steps needs ok within room few core = record {
+core_narrows p budget assumed lits steps needs ok within room core = record {
   literals = within;
   right = core;
-  accepted = core_accepted (assuming p lits) lits steps needs (core_instance p budget assumed lits steps needs ok within room core) few core.refutes.refutes;
+  accepted = core_accepted (assuming p lits) lits steps needs (core_instance p budget assumed lits steps needs ok within room core) core.refutes;
 }
+
+pub outcome_narrows : (p : Instance) (budget : ℕ) (assumed : List ℤ) (o : CoreOutcome) → IsInstance p → All (IsLitWithin MAX_VARS) assumed → HasRoom p assumed → IsCoreOutcome p budget assumed o
+    → IsNarrowing p budget assumed o
+outcome_narrows p budget assumed (outcome.Model values) ok within room h = model_narrows p budget assumed values ok within room h
+outcome_narrows p budget assumed (outcome.Core lits steps needs) ok within room h = core_narrows p budget assumed lits steps needs ok within room h
+outcome_narrows p budget assumed (outcome.Unknown steps) ok within room h = progress_narrows p budget assumed steps ok within room h
 
 -- ---- two outcomes
 

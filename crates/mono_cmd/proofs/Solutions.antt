@@ -46,18 +46,18 @@ printed_steps c k a steps is within =
 pub few_steps : (p : Instance) (steps : List Step) → IsInstance p → length steps < 2 ^ 63 → length p.clauses + length steps < 2 ^ 64
 few_steps p steps ok few = omega (arith, few, ok.few_clauses)
 
-pub refutation_solves : (p : Instance) (budget : ℕ) (steps : List Step) → IsInstance p → length steps < 2 ^ 63 → IsTrimRefutation p steps → IsSolution p budget (answer.Refutation steps)
-refutation_solves p budget steps ok few h =
+pub refutation_solves : (p : Instance) (budget : ℕ) (steps : List Step) → IsInstance p → IsTrimRefutation p steps → IsSolution p budget (answer.Refutation steps)
+refutation_solves p budget steps ok h =
     let justified = (and_parts (are_justified p steps) (ends_empty steps) h.refutes).0 in
-    let within = steps_within p p.clauses steps ok (few_steps p steps ok few) justified in
+    let within = steps_within p p.clauses steps ok (few_steps p steps ok h.short) justified in
     record {
       right = h;
       accepted = (refutation_iff p (answer_text (answer.Refutation steps))).1 (steps, printed_steps (length p.clauses) kind.Refutation (answer.Refutation steps) steps refl within, h.refutes);
     }
 
-pub progress_solves : (p : Instance) (budget : ℕ) (steps : List Step) → IsInstance p → length steps < 2 ^ 63 → IsProgress p budget steps → IsSolution p budget (answer.Progress steps)
-progress_solves p budget steps ok few h =
-    let within = steps_within p p.clauses steps ok (few_steps p steps ok few) h.justified in
+pub progress_solves : (p : Instance) (budget : ℕ) (steps : List Step) → IsInstance p → IsProgress p budget steps → IsSolution p budget (answer.Progress steps)
+progress_solves p budget steps ok h =
+    let within = steps_within p p.clauses steps ok (few_steps p steps ok h.short) h.justified in
     record {
       right = h;
       accepted = (progress_iff p (answer_text (answer.Progress steps)) (chain_count steps)).1 (steps, printed_steps (length p.clauses) kind.Progress (answer.Progress steps) steps refl within, h.justified, refl);

@@ -1,5 +1,5 @@
 -- `check` accepts what `team` writes.
-use Rattle.std.proofs.Common.{ℕ, ◌<◌, ◌^◌, Bool, List, length, refl}
+use Rattle.std.proofs.Common.{ℕ, Bool, List, length, refl}
 use Rattle.mono_problem.specs.Instance.{Instance}
 use Rattle.mono_problem.specs.WellFormed.{IsInstance}
 use Rattle.mono_steps.specs.declared.step.Step.{Step}
@@ -18,13 +18,13 @@ use Rattle.mono_cmd.proofs.Solutions.{model_solves, refutation_solves, printed_s
 pub team_model_solves : (p : Instance) (workers rounds : ℕ) (values : List Bool) (board : List Step) → IsInstance p → IsModelOfTurn p workers rounds values board → IsTeamSolution p workers rounds (answer.Model values)
 team_model_solves p workers rounds values board ok h = record { right = (board, h); accepted = (model_solves p 1 values ok h.model).accepted }
 
-pub team_refutation_solves : (p : Instance) (workers rounds : ℕ) (board steps : List Step) → IsInstance p → length steps < 2 ^ 63 → IsRefutationOfTurn p workers rounds board → IsTrimmed p board steps
+pub team_refutation_solves : (p : Instance) (workers rounds : ℕ) (board steps : List Step) → IsInstance p → IsRefutationOfTurn p workers rounds board → IsTrimmed p board steps
     → IsTeamSolution p workers rounds (answer.Refutation steps)
-team_refutation_solves p workers rounds board steps ok few h trimmed = record { right = (board, h, trimmed); accepted = (refutation_solves p 1 steps ok few trimmed.trim).accepted }
+team_refutation_solves p workers rounds board steps ok h trimmed = record { right = (board, h, trimmed); accepted = (refutation_solves p 1 steps ok trimmed.trim).accepted }
 
-pub team_board_solves : (p : Instance) (workers rounds : ℕ) (board : List Step) → IsInstance p → length board < 2 ^ 63 → IsBoardOfRounds p workers rounds board → IsTeamSolution p workers rounds (answer.Progress board)
-team_board_solves p workers rounds board ok few h =
-    let within = steps_within p p.clauses board ok (few_steps p board ok few) h.justified in
+pub team_board_solves : (p : Instance) (workers rounds : ℕ) (board : List Step) → IsInstance p → IsBoardOfRounds p workers rounds board → IsTeamSolution p workers rounds (answer.Progress board)
+team_board_solves p workers rounds board ok h =
+    let within = steps_within p p.clauses board ok (few_steps p board ok h.short) h.justified in
     record {
       right = h;
       accepted = (progress_iff p (answer_text (answer.Progress board)) (chain_count board)).1 (board, printed_steps (length p.clauses) kind.Progress (answer.Progress board) board refl within, h.justified, refl);

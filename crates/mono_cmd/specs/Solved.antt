@@ -22,7 +22,7 @@ use Rattle.mono_best.specs.declared.outcome.BestOutcome.{BestOutcome}
 use Rattle.mono_best.specs.declared.outcome.BestOutcome.TheVariants as bounded
 use Rattle.mono_best.specs.Asking.{asking, predicate_of}
 use Rattle.mono_best.specs.Bounds.{beyond, weakest}
-use Rattle.mono_best.specs.Best.{IsOutcome as IsBestOutcome}
+use Rattle.mono_best.specs.Best.{IsBestOutcome}
 use Rattle.mono_cmd.specs.BestTexts.{best_text}
 use Rattle.mono_cmd.specs.CoreTexts.{outcome_text}
 use Rattle.mono_cmd.specs.declared.summary.Summary.{Summary}

@@ -3,7 +3,6 @@
 ghost use Rattle.std.specs.Prelude.{◌≡◌, IfOk, IfSome, None};
 ghost use Rattle.mono_problem.specs.WellFormed.{IsInstance};
 ghost use Rattle.mono_best.specs.Asking.{HasBoundedAtom, HasRoomToAsk, predicate_of};
-ghost use Rattle.mono_best.specs.Best.{IsOutcome};
 ghost use Rattle.mono_best.specs.Bounds.{IsBoundOf};
 ghost use Rattle.mono_cmd.specs.declared.command.TheConstants.{DEFAULT_BUDGET};
 ghost use Rattle.mono_cmd.specs.BestTexts.{refusal_text};
@@ -12,7 +11,6 @@ ghost use Rattle.mono_cmd.specs.Solved.{IsBounding};
 
 use crate::command::DEFAULT_BUDGET;
 use crate::ending::Ending;
-use crate::solving::few_steps;
 use mono_base::Row;
 use mono_best::{BestOutcome, ask, best, has_bounded_atom, has_room_to_ask, is_bound_of};
 use mono_gnf::print_gnf;
@@ -67,35 +65,7 @@ fn best_of(alloc: Global, problem: &Problem, atom: u32) -> Result<BestOutcome, A
     ensures { IfOk result (IsBounding problem.now DEFAULT_BUDGET atom) }
 {
     let make = |p: &Problem| all_theories(alloc, p);
-    let outcome = best(alloc, problem, &make, atom, DEFAULT_BUDGET)?;
-    Ok(bounding(problem, atom, outcome))
-}
-
-/// The outcome as it is, with steps that are few.
-fn bounding(problem: &Problem, atom: u32, outcome: BestOutcome) -> BestOutcome
-    requires problem { IsInstance problem.now }
-    requires atom { HasBoundedAtom problem.now atom }
-    requires room { HasRoomToAsk problem.now }
-    requires outcome { IsOutcome problem.now atom DEFAULT_BUDGET outcome }
-    ensures { IsBounding problem.now DEFAULT_BUDGET atom result }
-{
-    match outcome {
-        BestOutcome::Best {
-            bound,
-            model,
-            steps,
-        } => BestOutcome::Best {
-            bound,
-            model,
-            steps: few_steps(steps),
-        },
-        BestOutcome::Never(steps) => BestOutcome::Never(few_steps(steps)),
-        BestOutcome::Beyond(model) => BestOutcome::Beyond(model),
-        BestOutcome::Unknown { bound, steps } => BestOutcome::Unknown {
-            bound,
-            steps: few_steps(steps),
-        },
-    }
+    best(alloc, problem, &make, atom, DEFAULT_BUDGET)
 }
 
 /// `ask`, for the problem of FILE, the number of a predicate and a bound.

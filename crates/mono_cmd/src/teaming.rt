@@ -8,7 +8,6 @@ ghost use Rattle.mono_portfolio.specs.Outcomes.{IsTeamOutcome};
 ghost use Rattle.mono_cmd.specs.declared.command.TheConstants.{MAX_WORKERS};
 ghost use Rattle.mono_cmd.specs.Teams.{IsTeamSolution};
 
-use crate::solving::few_steps;
 use mono_answer::Answer;
 use mono_base::Row;
 use mono_kinds::all_theories;
@@ -50,7 +49,7 @@ fn answer_of(
     match outcome {
         TeamOutcome::Model { values, board: _ } => Ok(Answer::Model(values)),
         TeamOutcome::Refutation(steps) => refutation(alloc, problem, steps.as_slice()),
-        TeamOutcome::Board(board) => Ok(Answer::Progress(few_steps(board))),
+        TeamOutcome::Board(board) => Ok(Answer::Progress(board)),
     }
 }
 

@@ -237,6 +237,7 @@ module _ (p : Instance) (lits : List ℤ) (named : List Bool) (steps : List Step
         let stay = all_stay number steps in
         let within : k + 1 < length steps = omega (arith, lt, ap (λ (ss : List Step). length ss) stay, length-map steps (with_numbers number)) in
         subst (λ (ss : List Step). IsNamedLater (length after.clauses) ss k) (sym stay) (still_named k (trim.named k within));
+    short = omega (arith, trim.short, ap (λ (ss : List Step). length ss) (all_stay number steps), length-map steps (with_numbers number));
   }
 
 -- ---- some of the assumptions, without those that the refutation doesn't name

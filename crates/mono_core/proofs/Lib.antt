@@ -1,5 +1,6 @@
-pub mod WideModels
-pub mod Fewer
-pub mod Needs
 pub mod Dropped
+pub mod Fewer
+pub mod Left
 pub mod Minimal
+pub mod Needs
+pub mod WideModels

@@ -84,3 +84,13 @@ IsFoundAt p budget assumed kept j (Some (need.Tried tried steps)) = IsTried p bu
 -- what was found of the last assumptions, the last one first
 pub record AreFound (p : Instance) (budget : ℕ) (assumed : List ℤ) (kept : List Bool) (found : List (Option Need)) : Type 0 where
   pub at : (i : ℕ) (o : Option Need) → i < length found → IsFoundAt p budget assumed kept (length assumed - 1 - i) (slice_index_or found i o)
+
+-- what is left of that where a smaller budget may have been spent, which shows nothing
+abbrev pub IsLeftAt : Instance → List ℤ → List Bool → ℕ → Option Need → Type 0
+IsLeftAt p assumed kept j None = is_set kept j ≡ false
+IsLeftAt p assumed kept j (Some (need.Model values)) = IsWideModel (assuming p (others_of assumed kept j)) values
+IsLeftAt p assumed kept j (Some (need.Tried tried steps)) = Unit {0}
+
+-- what is left of that of the first assumptions, the first one first
+pub record AreLeft (p : Instance) (assumed : List ℤ) (kept : List Bool) (found : List (Option Need)) : Type 0 where
+  pub at : (i : ℕ) (o : Option Need) → i < length found → IsLeftAt p assumed kept i (slice_index_or found i o)

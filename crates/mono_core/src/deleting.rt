@@ -1,13 +1,14 @@
 //! Assumptions deleted one by one.
 //!
-//! What is left after each deletion is what the last refutation names.
+//! What is left after each deletion is what the last refutation names. Each assumption is tried by a short search first, so
+//! that a hard one doesn't stand before easy ones; those that are left are tried by the whole budget.
 
 ghost use Rattle.std.specs.Prelude.{◌≡◌, ◌<◌, ◌≤◌, ℕ, false, length, slice_set, IfOk, OnOk};
 ghost use Rattle.mono_theory.specs.Owners.{facts_of};
 ghost use Rattle.mono_steps.specs.Trimmed.{IsTrimRefutation};
 ghost use Rattle.mono_search.specs.Solving.{MakesTheories};
 ghost use Rattle.mono_problem.specs.Assuming.{assuming, HasRoom};
-ghost use Rattle.mono_core.specs.Cores.{IsRefuted, AreAmong, IsFoundAt, IsCoreOutcome, AreFound};
+ghost use Rattle.mono_core.specs.Cores.{IsRefuted, AreAmong, IsFoundAt, IsLeftAt, IsCoreOutcome, AreFound, AreLeft};
 
 use crate::needing::needs_of;
 use crate::outcome::{CoreOutcome, Need};
@@ -20,6 +21,9 @@ use mono_search::Solved;
 use mono_steps::Step;
 use mono_theory::Theory;
 use std::alloc::{AllocError, Global};
+
+/// How many clauses a short search may learn.
+const SHORT: u64 = 2_000;
 
 /// What is known after some deletions.
 #[derive(Drop)]
@@ -54,7 +58,8 @@ pub fn core<T: Theory, F: Fn(&Problem) -> Result<Vec<T>, AllocError>>(
     }
 }
 
-/// Deletes assumptions as long as one can be done without.
+/// Deletes assumptions as long as one can be done without. Those on which a small budget is spent are tried again at the end, since
+/// others may have been dropped since then, and one of them with it.
 fn delete_each<T: Theory, F: Fn(&Problem) -> Result<Vec<T>, AllocError>>(
     alloc: Global,
     problem: &Problem,
@@ -74,14 +79,119 @@ fn delete_each<T: Theory, F: Fn(&Problem) -> Result<Vec<T>, AllocError>>(
     let refuted = shrunk(alloc, problem, assumed, all, steps)?;
     let model = Vec::new(alloc);
     let mut deletion = Deletion { refuted, model };
+    let short = at_most(budget, SHORT);
+    let mut soon = tried_each(alloc, problem, make, assumed, short, &mut deletion)?;
+    soon.reverse();
+    let found = tried_again(alloc, problem, make, assumed, budget, &mut deletion, soon)?;
+    with_needs(alloc, problem, assumed, deletion.refuted, found)
+}
+
+/// The budget, or less.
+fn at_most(budget: u64, most: u64) -> u64
+    requires budget { 1 ≤ budget }
+    requires most { 1 ≤ most }
+    ensures { 1 ≤ result }
+{
+    if most < budget {
+        return most;
+    }
+    budget
+}
+
+/// Tries to do without each of the assumptions, the last one first.
+fn tried_each<T: Theory, F: Fn(&Problem) -> Result<Vec<T>, AllocError>>(
+    alloc: Global,
+    problem: &Problem,
+    make: &F,
+    assumed: &[Lit],
+    budget: u64,
+    deletion: &mut Deletion,
+) -> Result<Vec<Option<Need>>, AllocError>
+    requires callable { F.IsAlwaysCallable make.now }
+    requires makes { MakesTheories (F.post make.now) (λ ts. facts_of T.graph T.atoms T.seen ts.items) }
+    requires room { HasRoom problem.now assumed.now }
+    requires budget { 1 ≤ budget }
+    requires refuted { IsRefuted problem.now assumed.now deletion.old.refuted.kept.items deletion.old.refuted.steps }
+    ensures refuted { OnOk result (IsRefuted problem.now assumed.now deletion.new.refuted.kept.items deletion.new.refuted.steps) }
+    ensures found { IfOk result (λ found. AreFound problem.now budget assumed.now deletion.new.refuted.kept.items found.items) }
+    ensures all { IfOk result (λ found. length found.items ≡ length assumed.now) }
+{
     let mut found = Vec::new(alloc);
     let mut place = assumed.len();
     while place > 0 {
         place -= 1;
-        let need = try_without(alloc, problem, make, assumed, budget, &mut deletion, place)?;
+        let need = try_without(alloc, problem, make, assumed, budget, deletion, place)?;
         found.push(need)?;
     }
-    with_needs(alloc, problem, assumed, deletion.refuted, found)
+    Ok(found)
+}
+
+/// Tries once more to do without those on which a smaller budget was spent, the last one first.
+fn tried_again<T: Theory, F: Fn(&Problem) -> Result<Vec<T>, AllocError>>(
+    alloc: Global,
+    problem: &Problem,
+    make: &F,
+    assumed: &[Lit],
+    budget: u64,
+    deletion: &mut Deletion,
+    mut soon: Vec<Option<Need>>,
+) -> Result<Vec<Option<Need>>, AllocError>
+    requires callable { F.IsAlwaysCallable make.now }
+    requires makes { MakesTheories (F.post make.now) (λ ts. facts_of T.graph T.atoms T.seen ts.items) }
+    requires room { HasRoom problem.now assumed.now }
+    requires budget { 1 ≤ budget }
+    requires refuted { IsRefuted problem.now assumed.now deletion.old.refuted.kept.items deletion.old.refuted.steps }
+    requires soon { AreLeft problem.now assumed.now deletion.old.refuted.kept.items soon.items }
+    requires all { length soon.items ≡ length assumed.now }
+    ensures refuted { OnOk result (IsRefuted problem.now assumed.now deletion.new.refuted.kept.items deletion.new.refuted.steps) }
+    ensures found { IfOk result (λ found. AreFound problem.now budget assumed.now deletion.new.refuted.kept.items found.items) }
+    ensures all { IfOk result (λ found. length found.items ≡ length assumed.now) }
+{
+    let mut found = Vec::new(alloc);
+    let mut place = assumed.len();
+    while place > 0 {
+        place -= 1;
+        let Some(one) = soon.pop() else {
+            unreachable!()
+        };
+        let need = try_again(alloc, problem, make, assumed, budget, deletion, place, one)?;
+        found.push(need)?;
+    }
+    Ok(found)
+}
+
+/// What is found of the assumption at a place: what was found of it soon, unless a smaller budget was spent on it.
+fn try_again<T: Theory, F: Fn(&Problem) -> Result<Vec<T>, AllocError>>(
+    alloc: Global,
+    problem: &Problem,
+    make: &F,
+    assumed: &[Lit],
+    budget: u64,
+    deletion: &mut Deletion,
+    place: usize,
+    soon: Option<Need>,
+) -> Result<Option<Need>, AllocError>
+    requires callable { F.IsAlwaysCallable make.now }
+    requires makes { MakesTheories (F.post make.now) (λ ts. facts_of T.graph T.atoms T.seen ts.items) }
+    requires room { HasRoom problem.now assumed.now }
+    requires budget { 1 ≤ budget }
+    requires refuted { IsRefuted problem.now assumed.now deletion.old.refuted.kept.items deletion.old.refuted.steps }
+    requires place { place < length assumed.now }
+    requires soon { IsLeftAt problem.now assumed.now deletion.old.refuted.kept.items place soon }
+    ensures refuted { OnOk result (IsRefuted problem.now assumed.now deletion.new.refuted.kept.items deletion.new.refuted.steps) }
+    ensures fewer { OnOk result (AreAmong deletion.new.refuted.kept.items deletion.old.refuted.kept.items) }
+    ensures need { IfOk result (IsFoundAt problem.now budget assumed.now deletion.new.refuted.kept.items place) }
+{
+    let Some(need) = soon else {
+        return Ok(None);
+    };
+    match need {
+        Need::Model(values) => Ok(Some(Need::Model(values))),
+        Need::Tried { tried: _, steps: _ } => {
+            let found = try_without(alloc, problem, make, assumed, budget, deletion, place)?;
+            Ok(found)
+        }
+    }
 }
 
 /// Tries to do without the assumption at a place: `None` where it isn't kept.

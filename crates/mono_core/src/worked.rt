@@ -1,10 +1,10 @@
 //! Worked rows: what the definitions make of needs, cores, outcomes, minimal sets and dropped assumptions.
 
-ghost use Rattle.std.specs.Prelude.{◌≡◌, ℕ, true, false, List, [], ◌∷◌, pos};
+ghost use Rattle.std.specs.Prelude.{◌≡◌, ℕ, true, false, List, [], ◌∷◌, pos, None, Some};
 ghost use Rattle.mono_steps.specs.declared.step.Step.{Step};
 ghost use Rattle.mono_steps.specs.WorkedLemmas.{minus, chain};
 ghost use Rattle.mono_search.specs.Worked.{both_signs};
-ghost use Rattle.mono_core.specs.Cores.{AreNeeds, IsCore, IsNeed, IsCoreOutcome, IsTried, others_of};
+ghost use Rattle.mono_core.specs.Cores.{AreNeeds, IsCore, IsNeed, IsCoreOutcome, IsLeftAt, IsTried, others_of};
 ghost use Rattle.mono_core.specs.Dropped.{is_over};
 ghost use Rattle.mono_core.specs.Minimal.{IsMinimal, IsModelNeed};
 ghost use Rattle.mono_core.specs.Worked.{one_clause};
@@ -91,4 +91,12 @@ pub fn minimal_sets()
     ensures needless { IsMinimal one_clause (pos 2 ∷ minus 1 ∷ []) → ⊥ }
     ensures needless_last { IsMinimal one_clause (minus 1 ∷ pos 2 ∷ []) → ⊥ }
     ensures needless_alone { IsMinimal both_signs (pos 1 ∷ []) → ⊥ }
+{}
+
+/// Of what short searches found, a budget that was spent shows nothing; what isn't kept and models stay.
+pub fn left_by_short_searches()
+    ensures dropped { IsLeftAt one_clause (minus 1 ∷ []) (false ∷ []) 0 None }
+    ensures kept { IsLeftAt one_clause (minus 1 ∷ []) (true ∷ []) 0 None → ⊥ }
+    ensures spent { IsLeftAt one_clause (minus 1 ∷ []) (true ∷ []) 0 (Some (need.Tried [] [])) }
+    ensures no_model { IsLeftAt one_clause (minus 1 ∷ []) (true ∷ []) 0 (Some (need.Model (false ∷ []))) → ⊥ }
 {}

@@ -12,8 +12,8 @@ use Rattle.mono_graph.proofs.Places.{all_of}
 use Rattle.mono_graph.proofs.Membership.{has_range}
 use Rattle.mono_graph.specs.Cycles.{rank_in, all_rise, is_order}
 use Rattle.mono_cycles.specs.Arranged.{AreRanks, arranged, parted, is_marked}
-use Rattle.mono_cycles.specs.Behind.{AllClear, IsClosed}
-use Rattle.mono_cycles.specs.Kept.{IsGrownBy, AreKept}
+use Rattle.mono_cycles.specs.Behind.{IsClosed}
+use Rattle.mono_cycles.specs.Kept.{IsGrownBy, IsRanked}
 use Rattle.mono_graph.proofs.RisingRanks.{climbs, all_climb}
 use Rattle.mono_cycles.proofs.Ranked.{rank_at}
 use Rattle.mono_cycles.proofs.Arranged.{before, before_ranks, ranks_before, before_left, before_right, arranged_before, arranged_has, parted_across, window_split, window_index, window_has, distinct_ranked}
@@ -186,25 +186,18 @@ arranged_every p xs low high u le h =
     subst (λ (i : ℕ). IsTrue (has (take low xs ++ (parted p (take n (drop low xs)) ++ drop i xs)) u)) e
     (arranged_has p (take low xs) (take n (drop low xs)) (drop (low + n) xs) u (subst (λ (ks : List ℕ). IsTrue (has ks u)) (window_split xs low n) h))
 
-pub kept_arranged : (p : ℕ → Bool) (order ranks order' ranks' : List ℕ) (marks marks' : List Bool) (onward onward' : List ℕ) (f b c f' b' low high : ℕ) → AreKept order ranks marks onward f b c → low ≤ high
-    → order' ≡ arranged p order low high → AreRanks ranks' order' → length order' ≡ length order → length ranks' ≡ length ranks → length marks' ≡ length order → length onward' ≡ length order → AllClear marks'
-    → length order ≤ f' → b ≤ b' → AreKept order' ranks' marks' onward' f' b' c
-kept_arranged p order ranks order' ranks' marks marks' onward onward' f b c f' b' low high k le is r len rlen mlen olen clear froom more = record {
+pub ranked_arranged : (p : ℕ → Bool) (order ranks order' ranks' : List ℕ) (low high : ℕ) → IsRanked order ranks → low ≤ high → order' ≡ arranged p order low high → AreRanks ranks' order'
+    → length order' ≡ length order → length ranks' ≡ length ranks → IsRanked order' ranks'
+ranked_arranged p order ranks order' ranks' low high k le is r len rlen = record {
   few = let few = k.few in omega arith;
   ranks_len = rlen ∙ (k.ranks_len ∙ sym len);
-  marks_len = mlen ∙ sym len;
-  onward_len = olen ∙ sym len;
-  room_found = omega arith;
-  room_buffer = let room = k.room_buffer in omega arith;
-  room_cycle = let room = k.room_cycle in omega arith;
-  clear = clear;
   known = subst (λ (n : ℕ). All (λ u. u < n) order') (sym len) (subst (λ (ks : List ℕ). All (λ u. u < length order) ks) (sym is) (arranged_all p (λ u. u < length order) order low high k.known));
   every = λ u lt. subst (λ (ks : List ℕ). IsTrue (has ks u)) (sym is) (arranged_every p order low high u le (k.every u (omega arith)));
   ranks_are = r;
 }
 
-pub kept_at : (o o' r r' : List ℕ) (m : List Bool) (w : List ℕ) (f b c : ℕ) → o' ≡ o → r' ≡ r → AreKept o r m w f b c → AreKept o' r' m w f b c
-kept_at o o' r r' m w f b c eo er k = subst (λ (x : List ℕ). AreKept x r' m w f b c) (sym eo) (subst (λ (x : List ℕ). AreKept o x m w f b c) (sym er) k)
+pub ranked_at : (o o' r r' : List ℕ) → o' ≡ o → r' ≡ r → IsRanked o r → IsRanked o' r'
+ranked_at o o' r r' eo er k = subst (λ (x : List ℕ). IsRanked x r') (sym eo) (subst (λ (x : List ℕ). IsRanked o x) (sym er) k)
 
 -- ---- the first order
 
@@ -221,18 +214,12 @@ numbers_ranked n = record {
       subst (λ (v : ℕ). get_or (range_with_len 0 n) v 0 ≡ i) (sym (number_at n i low)) (number_at n i low);
 }
 
-pub kept_first : (n : ℕ) (marks : List Bool) (onward : List ℕ) (f b c : ℕ) → n ≤ MAX_NODES → length marks ≡ n → length onward ≡ n → n ≤ f → n ≤ b → n + 1 ≤ c → AllClear marks → AreKept (range_with_len 0 n) (range_with_len 0 n) marks onward f b c
-kept_first n marks onward f b c few ml ol rf rb rc clear =
+pub ranked_first : (n : ℕ) → n ≤ MAX_NODES → IsRanked (range_with_len 0 n) (range_with_len 0 n)
+ranked_first n few =
     let len : length (range_with_len 0 n) ≡ n = length-range_with_len 0 n in
     record {
       few = omega arith;
       ranks_len = refl;
-      marks_len = ml ∙ sym len;
-      onward_len = ol ∙ sym len;
-      room_found = omega arith;
-      room_buffer = omega arith;
-      room_cycle = omega arith;
-      clear = clear;
       known = All-from_get_or (λ u. u < length (range_with_len 0 n)) (range_with_len 0 n) 0 (λ i lt. subst (λ (v : ℕ). v < length (range_with_len 0 n)) (sym (number_at n i (omega arith))) lt);
       every = λ u lt. has_range 0 n u (omega arith) (omega arith);
       ranks_are = numbers_ranked n;

@@ -3,7 +3,7 @@ use Rattle.std.specs.Prelude.{◌≡◌, ◌<◌, ℕ, Bool, true, false, List, 
 use Rattle.std.specs.declared.alloc.Global.{Global}
 use Rattle.mono_graph.specs.Digraph.{Digraph, has}
 use Rattle.mono_graph.specs.Cycles.{is_cycle, is_order}
-use Rattle.mono_cycles.specs.Searches.{IsSearch}
+use Rattle.mono_cycles.specs.Searches.{IsCycleSearch}
 use Rattle.mono_cycles.specs.declared.search.CycleSearch.{CycleSearch}
 use Rattle.mono_cycles.specs.declared.finder.CycleOrOrder.{CycleOrOrder}
 use Rattle.mono_cycles.specs.declared.finder.CycleOrOrder.TheVariants as found
@@ -24,7 +24,7 @@ is_cycle_found (found.Order ns) = false
 
 -- a cycle was found, or the search is done with the root and all that was done before
 pub record IsDoneWith (g : Digraph) (P : List Bool) (root : ℕ) (old new : CycleSearch) : Type 0 where
-  pub search : IsSearch g P new
+  pub search : IsCycleSearch g P new
   pub none_open : new.path.items ≡ []
   pub root_done : IsTrue (has new.order.items root)
   pub before : (u : ℕ) → IsTrue (has old.order.items u) → IsTrue (has new.order.items u)

@@ -7,7 +7,7 @@
 ghost use Rattle.std.specs.Prelude.{◌≡◌, ◌<◌, ◌≤◌, ◌-◌, ◌++◌, ◌∷◌, [], ℕ, Bool, List, true, false, All, IfOk, MatchOption, IsTrue, length, take, slice_index, slice_index_or, slice_set};
 ghost use Rattle.mono_graph.specs.Digraph.{Digraph, IsPartOf, HasEnds, present, edge_at, entering, has};
 ghost use Rattle.mono_graph.specs.Cycles.{is_cycle};
-ghost use Rattle.mono_cycles.specs.Searches.{HasRoom, IsStep, IsPath, IsSearch};
+ghost use Rattle.mono_cycles.specs.Searches.{HasRoom, IsStep, IsPath, IsCycleSearch};
 ghost use Rattle.mono_cycles.specs.Found.{IsSearched};
 
 use mono_graph::{Graph, Part};
@@ -95,7 +95,7 @@ impl CycleSearch {
     /// Forgets what the search before found.
     pub fn clear(&mut self)
         ensures room { (n : ℕ) → HasRoom n self.old → HasRoom n self.new }
-        ensures search { (g : Digraph) (P : List Bool) → HasRoom g.nodes self.old → IsSearch g P self.new }
+        ensures search { (g : Digraph) (P : List Bool) → HasRoom g.nodes self.old → IsCycleSearch g P self.new }
         ensures path { self.new.path.items ≡ [] }
         ensures order { self.new.order.items ≡ [] }
     {
@@ -161,8 +161,8 @@ impl CycleSearch {
     fn next_edge(&mut self, graph: &Graph, part: &Part, node: u32) -> Option<u32>
         requires part { IsPartOf part.now graph.now }
         requires node { node < graph.now.nodes }
-        requires search { IsSearch graph.now part.now self.old }
-        ensures search { IsSearch graph.now part.now self.new }
+        requires search { IsCycleSearch graph.now part.now self.old }
+        ensures search { IsCycleSearch graph.now part.now self.new }
         ensures on_path { self.new.on_path.items ≡ self.old.on_path.items }
         ensures done { self.new.done.items ≡ self.old.done.items }
         ensures path { self.new.path.items ≡ self.old.path.items }
@@ -195,7 +195,7 @@ impl CycleSearch {
     ) -> Result<Option<Vec<u32>>, AllocError>
         requires part { IsPartOf part.now graph.now }
         requires root { root < graph.now.nodes }
-        requires search { IsSearch graph.now part.now self.old }
+        requires search { IsCycleSearch graph.now part.now self.old }
         requires path { self.old.path.items ≡ [] }
         requires fresh { has self.old.order.items root ≡ false }
         ensures room { HasRoom graph.now.nodes self.new }

@@ -60,7 +60,7 @@ use Rattle.mono_distance.proofs.TableLabels.{label_is}
 use Rattle.mono_theory.proofs.AskedRows.{last_asked, limit_asked}
 use Rattle.mono_theory.proofs.PossibleParts.{only_shrinks}
 use Rattle.mono_theory.proofs.WalksTold.{cut_off_fails, lacking_decides, none_later}
-use Rattle.mono_distance.proofs.SureLabels.{label_walk, label_decides, labels_uncut, of_holds}
+use Rattle.mono_distance.proofs.SureLabels.{label_walk, label_decides, labels_uncut, of_holds, own_alike, own_beyond}
 
 -- ---- with the surely present edges
 
@@ -68,14 +68,13 @@ under_is_reached : {f : Facts} {s : SureLabels} {n : ℕ} (a v : ℕ) → a < le
     → IsReached f.graph (under f.graph f.seen) (atom_at f.atoms a).predicate v (under_label s a v)
 under_is_reached {f = f} {s = s} a v lt inside fits h low =
     let q = (atom_at f.atoms a).predicate in
-    let own = h.each a lt in
-    let row = costs_at s.rows.rows (row_of_atom s.rows a) in
-    let w = label_walk a v lt inside fits h (under_cap (under_label s a v) row.cap (bound_of (limit_of q)) low own.beyond) in
+    let row = costs_at s.rows (row_of_atom s a) in
+    let w = label_walk a v lt inside fits h (under_cap (under_label s a v) row.cap (bound_of (limit_of q)) low (own_beyond a lt h)) in
     record {
       within = low;
       walk = w.0;
       leads = w.1;
-      cost = (let cost = w.2 in let same = same_cost row.limit (limit_of q) f.graph w.0 own.alike in omega (arith, cost, same));
+      cost = (let cost = w.2 in let same = same_cost row.limit (limit_of q) f.graph w.0 (own_alike a lt h) in omega (arith, cost, same));
     }
 
 -- ---- with the possibly present edges
@@ -164,14 +163,14 @@ witness_below g P kind.Acyclic v (by.Label ls) bound d h = absurd cc
 -- where nothing is shown, nothing is known
 pub over_none : (l : Limit) (v : ℕ) (s : Stage) (o : Option Evidence) → shows s ≡ false → over_of l v s o ≡ 0
 over_none l v stage.Waits o e = refl
-over_none l v stage.Supported o e = refl
-over_none l v (stage.Forcing m) o e = absurd cc
+over_none l v stage.Stands o e = refl
+over_none l v (stage.Shows m) o e = absurd cc
 
 pub over_some : (l : Limit) (v : ℕ) (s : Stage) (o : Option Evidence) (w : Witness) → shows s ≡ true → MatchOption o ⊥ (λ e. w ≡ e.witness) → over_of l v s o ≡ over_by l v w
 over_some l v stage.Waits o w e is = absurd cc
-over_some l v stage.Supported o w e is = absurd cc
-over_some l v (stage.Forcing m) None w e is = absurd is
-over_some l v (stage.Forcing m) (Some x) w e is = ap (over_by l v) (sym is)
+over_some l v stage.Stands o w e is = absurd cc
+over_some l v (stage.Shows m) None w e is = absurd is
+over_some l v (stage.Shows m) (Some x) w e is = ap (over_by l v) (sym is)
 
 -- ---- a witness against a predicate puts its last node above the bound
 
@@ -224,7 +223,7 @@ decides_by : (g : Digraph) (P : List Bool) (q : Predicate) (b c : Bool) → c �
 decides_by g P q b c e h = subst (Decides g P q) (sym e) h
 
 shown_high : (g : Digraph) (P : List Bool) (q : Predicate) (m : ℕ) (o : Option Evidence) → length P ≡ length g.edges → HasBound (limit_of q) → IsTrue (is_distance q) → IfSome o (IsSound g q false) → IsRightIn P false o
-    → admits (limit_of q) (over_of (limit_of q) (last_node q) (stage.Forcing m) o) ≡ false
+    → admits (limit_of q) (over_of (limit_of q) (last_node q) (stage.Shows m) o) ≡ false
 shown_high g P q m None len bound d sound right = absurd right
 shown_high g P q m (Some e) len bound d sound right = (let w = sound_witness g P q false e len sound right in witness_high g P q e.witness bound d w.rests w.passes)
 
@@ -239,20 +238,20 @@ bound_of_kind g kind.Acyclic d h = absurd cc
 at_stage : {f : Facts} {r : SideView} (a : ℕ) (st : Stage) → IsGraph f.graph → IsOver f.graph (atom_at f.atoms a).predicate → IsTrue (is_distance (atom_at f.atoms a).predicate) → a < length f.atoms → IsSideFor f true true r → stage_at r.stages a ≡ st → (st ≡ stage.Waits → ⊥)
     → Decides f.graph (over f.graph f.seen) (atom_at f.atoms a).predicate (admits (limit_of (atom_at f.atoms a).predicate) (over_of (limit_of (atom_at f.atoms a).predicate) (last_node (atom_at f.atoms a).predicate) st (evidence_at r.shown a)))
 at_stage a stage.Waits graph over-it kind-it lt h at some = absurd (some refl)
-at_stage {f = f} {r = r} a stage.Supported graph over-it kind-it lt h at some =
+at_stage {f = f} {r = r} a stage.Stands graph over-it kind-it lt h at some =
     let q = (atom_at f.atoms a).predicate in
     let P = over f.graph f.seen in
-    let right : StageIs f true r a stage.Supported = subst (StageIs f true r a) at (h.side.right a lt) in
+    let right : StageIs f true r a stage.Stands = subst (StageIs f true r a) at (h.side.right a lt) in
     let holds : Holds f.graph P q = rising_decides f.graph P q true (evidence_at r.supports a) (distance_rises q kind-it) graph over-it (part_len f.graph f.seen true) (h.side.supports.each a lt) right in
     let w = of_holds f.graph P q (limit_of q) kind-it refl holds in
     decides_by f.graph P q true (admits (limit_of q) 0) (low_enough 0 (cost_along (limit_of q) f.graph w.0) (bound_of (limit_of q)) (omega arith) w.2) holds
-at_stage {f = f} {r = r} a (stage.Forcing m) graph over-it kind-it lt h at some =
+at_stage {f = f} {r = r} a (stage.Shows m) graph over-it kind-it lt h at some =
     let q = (atom_at f.atoms a).predicate in
     let P = over f.graph f.seen in
-    let shown : StageIs f true r a (stage.Forcing m) = subst (StageIs f true r a) at (h.side.right a lt) in
+    let shown : StageIs f true r a (stage.Shows m) = subst (StageIs f true r a) at (h.side.right a lt) in
     let sound = h.side.shown.each a lt in
     let right : IsRightIn P false (evidence_at r.shown a) = shown_now {x = atom_at f.atoms a} shown h.thorough sound in
-    decides_by f.graph P q false (admits (limit_of q) (over_of (limit_of q) (last_node q) (stage.Forcing m) (evidence_at r.shown a)))
+    decides_by f.graph P q false (admits (limit_of q) (over_of (limit_of q) (last_node q) (stage.Shows m) (evidence_at r.shown a)))
     (shown_high f.graph P q m (evidence_at r.shown a) (part_len f.graph f.seen true) (bound_of_kind f.graph q kind-it over-it) kind-it sound right)
     (rising_decides f.graph P q false (evidence_at r.shown a) (distance_rises q kind-it) graph over-it (part_len f.graph f.seen true) sound right)
 
@@ -279,10 +278,10 @@ decided_by_rows {f = f} {s = s} {n = n} a over-it kind-it lt e h =
 by_stage : {f : Facts} {s : SideView} (a : ℕ) (st : Stage) → IsGraph f.graph → IsOver f.graph (atom_at f.atoms a).predicate → IsTrue (is_distance (atom_at f.atoms a).predicate) → a < length f.atoms → IsSideFor f false true s → stage_at s.stages a ≡ st → (st ≡ stage.Waits → ⊥)
     → Decides f.graph (under f.graph f.seen) (atom_at f.atoms a).predicate (shows st)
 by_stage a stage.Waits graph over-it kind-it lt h at some = absurd (some refl)
-by_stage {f = f} {s = s} a stage.Supported graph over-it kind-it lt h at some =
+by_stage {f = f} {s = s} a stage.Stands graph over-it kind-it lt h at some =
     rising_decides f.graph (under f.graph f.seen) (atom_at f.atoms a).predicate false (evidence_at s.supports a) (distance_rises (atom_at f.atoms a).predicate kind-it) graph over-it (part_len f.graph f.seen false) (h.side.supports.each a lt) (subst (StageIs f false s a) at (h.side.right a lt))
-by_stage {f = f} {s = s} a (stage.Forcing m) graph over-it kind-it lt h at some =
-    let shown : StageIs f false s a (stage.Forcing m) = subst (StageIs f false s a) at (h.side.right a lt) in
+by_stage {f = f} {s = s} a (stage.Shows m) graph over-it kind-it lt h at some =
+    let shown : StageIs f false s a (stage.Shows m) = subst (StageIs f false s a) at (h.side.right a lt) in
     let sound = h.side.shown.each a lt in
     rising_decides f.graph (under f.graph f.seen) (atom_at f.atoms a).predicate true (evidence_at s.shown a) (distance_rises (atom_at f.atoms a).predicate kind-it) graph over-it (part_len f.graph f.seen false) sound (shown_now {x = atom_at f.atoms a} shown h.thorough sound)
 
@@ -392,15 +391,15 @@ labels_decide s n x graph known covered right possibly decides is =
 
 -- ---- what is known stays while literals come
 
-over_stays : (l : Limit) (v : ℕ) (st later : Stage) (o : Option Evidence) → (later ≡ st) ⊎ ((st ≡ stage.Supported) × (later ≡ stage.Waits)) → over_of l v later o ≡ over_of l v st o
+over_stays : (l : Limit) (v : ℕ) (st later : Stage) (o : Option Evidence) → (later ≡ st) ⊎ ((st ≡ stage.Stands) × (later ≡ stage.Waits)) → over_of l v later o ≡ over_of l v st o
 over_stays l v st later o (inl same) = ap (λ (x : Stage). over_of l v x o) same
 over_stays l v st later o (inr lost) = ap (λ (x : Stage). over_of l v x o) lost.1 ∙ sym (ap (λ (x : Stage). over_of l v x o) lost.0)
 
-shows_stays : (st later : Stage) → (later ≡ st) ⊎ ((st ≡ stage.Supported) × (later ≡ stage.Waits)) → shows later ≡ shows st
+shows_stays : (st later : Stage) → (later ≡ st) ⊎ ((st ≡ stage.Stands) × (later ≡ stage.Waits)) → shows later ≡ shows st
 shows_stays st later (inl same) = ap shows same
 shows_stays st later (inr lost) = ap shows lost.1 ∙ sym (ap shows lost.0)
 
-stage_stays : {g : Digraph} {possible : Bool} {l : ℤ} {s r : SideView} (a : ℕ) → IsKeptBy g possible l s r → (stage_at r.stages a ≡ stage_at s.stages a) ⊎ ((stage_at s.stages a ≡ stage.Supported) × (stage_at r.stages a ≡ stage.Waits))
+stage_stays : {g : Digraph} {possible : Bool} {l : ℤ} {s r : SideView} (a : ℕ) → IsKeptBy g possible l s r → (stage_at r.stages a ≡ stage_at s.stages a) ⊎ ((stage_at s.stages a ≡ stage.Stands) × (stage_at r.stages a ≡ stage.Waits))
 stage_stays a kept = elim (kept.each a) [ inl same ↦ inl same | inr lost ↦ inr (lost.stood, lost.waits) ]
 
 under_stays : (f : Facts) (l : ℤ) (c d : EitherSide SureLabels) (a : ℕ) (q : Predicate) (v : ℕ) → IsEitherKept f l c d → under_in d a q v ≡ under_in c a q v

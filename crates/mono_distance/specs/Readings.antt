@@ -75,7 +75,7 @@ over_by l v w = 0
 
 -- the label by what is shown against a predicate
 abbrev pub over_of : Limit → ℕ → Stage → Option Evidence → ℕ
-over_of l v (stage.Forcing m) (Some e) = over_by l v e.witness
+over_of l v (stage.Shows m) (Some e) = over_by l v e.witness
 over_of l v s o = 0
 
 -- what is kept with the possibly present edges is right

@@ -42,42 +42,37 @@ possibly at w = side.Searches (showing at w)
 
 -- these labels were shown of it
 abbrev pub labelled : List Label → EitherSide PossibleView
-labelled ls = possibly (stage.Forcing 0) (Some (by.Label ls))
+labelled ls = possibly (stage.Shows 0) (Some (by.Label ls))
 
 abbrev row_of_labels : List ℕ → Costs
 row_of_labels labels = record { limit = limit.Weight (pos 7); cap = 9; labels = labels; changes = [] }
+
+-- the atom asks for a walk to node 1 within 7
+abbrev pub to_node_1 : WalkTarget
+to_node_1 = record { node = 1; limit = limit.Weight (pos 7) }
 
 -- the atom's row has these labels. There is another row before it
 abbrev pub rows_with : ℕ → List ℕ → EitherSide SureLabels
 rows_with looked labels = side.Rows (record {
   part = [];
   looked = looked;
-  rows = record {
-    rows = record { rows = row_of_labels (3 ∷ 3 ∷ []) ∷ row_of_labels labels ∷ []; row_of = 1 ∷ []; lasts = 1 ∷ [] };
-    limits = limit.Weight (pos 7) ∷ [];
-  };
+  rows = record { rows = row_of_labels (3 ∷ 3 ∷ []) ∷ row_of_labels labels ∷ []; row_of = 1 ∷ []; targets = to_node_1 ∷ [] };
   due = [];
 })
 
 -- the same two rows, of two atoms: they ask for node 1 within 7, and for node 0 within 4
 abbrev pub labels_with : List ℕ → SureLabels
 labels_with labels = record {
-  rows = record { rows = row_of_labels (3 ∷ 3 ∷ []) ∷ row_of_labels labels ∷ []; row_of = 1 ∷ 1 ∷ []; lasts = 1 ∷ 0 ∷ [] };
-  limits = limit.Weight (pos 7) ∷ limit.Weight (pos 4) ∷ [];
+  rows = row_of_labels (3 ∷ 3 ∷ []) ∷ row_of_labels labels ∷ [];
+  row_of = 1 ∷ 1 ∷ [];
+  targets = to_node_1 ∷ record { node = 0; limit = limit.Weight (pos 4) } ∷ [];
 }
-
--- rows from nodes 1 and 0, with labels up to 9
-abbrev pub rows_up_to_9 : List Costs
-rows_up_to_9 = row_of_labels (9 ∷ 0 ∷ []) ∷ row_of_labels (0 ∷ 9 ∷ []) ∷ []
 
 -- what searches found of it with the surely present edges
 abbrev pub searched : Stage → EitherSide SureLabels
 searched at = side.Searches (record (showing at None) { possible = false })
 
 -- ---- rows of the possibly present edges
-
-abbrev pub to_node_1 : WalkTarget
-to_node_1 = record { node = 1; limit = limit.Weight (pos 7) }
 
 -- behind node 0 these arrivals are in the tree, and its nodes have these labels
 abbrev pub ways_from : ℕ → List Arrival → List ℕ → Ways

@@ -145,7 +145,7 @@ fn walk_near(
     ensures mender { mender.new ≡ mender.old }
     ensures evidence { IfOk result (λ found. IfSome found (IsEvidence graph.now part.now (predicate_of asked.from asked.to asked.limit))) }
 {
-    let _ = graph.nodes();
+    graph.known();
     match mender.mend(alloc, graph, part, asked.from, asked.to, asked.limit, edges)? {
         Some(places) => Ok(Some(walk_evidence(alloc, graph, places)?)),
         None => Ok(None),
@@ -186,7 +186,7 @@ impl Kind for Distance {
         part: &Part,
         predicate: Predicate,
     ) -> Result<Evidence, AllocError> {
-        let _ = graph.nodes();
+        graph.known();
         let asked = what_is_asked(predicate);
         match self
             .finder
@@ -213,7 +213,7 @@ impl Kind for Distance {
         predicate: Predicate,
         kept: Option<&Evidence>,
     ) -> Result<Option<Evidence>, AllocError> {
-        let _ = graph.nodes();
+        graph.known();
         let asked = what_is_asked(predicate);
         match kept_walk(kept) {
             Some(edges) => walk_near(alloc, &mut self.mender, graph, part, asked, edges),

@@ -13,8 +13,6 @@ pub mod laws;
 mod nearest;
 /// What a theory knows of a node.
 mod node_labels;
-/// What the atoms ask for.
-mod sources;
 /// Rows of what is told of labels, worked by hand.
 pub mod worked;
 

@@ -2,6 +2,7 @@
 
 ghost use Rattle.std.specs.Prelude.{◌≡◌, ◌<◌, ◌≤◌, ◌==◌, ◌&&◌, None, Some, false, true, length, IfSome, IsTrue, MatchOption, if◌then◌else◌};
 ghost use Rattle.mono_graph.specs.Walks.{admits, bound_of};
+ghost use Rattle.mono_dynamic.specs.LeastRows.{costs_at};
 ghost use Rattle.mono_paths.specs.Found.{HasBound};
 ghost use Rattle.mono_problem.specs.Quiet.{over, under};
 ghost use Rattle.mono_theory.specs.Evidences.{Decides};
@@ -13,7 +14,8 @@ ghost use Rattle.mono_theory.specs.Supports.{atom_at, IsSideFor};
 ghost use Rattle.mono_distance.specs.Distances.{is_distance, predicate_of};
 ghost use Rattle.mono_distance.specs.Labels.{entry_in, value_by};
 ghost use Rattle.mono_distance.specs.Readings.{above, bound_number, over_at, over_by as over_by_of, over_known as over_known_of, over_of, under_at, under_in, IsBelowEachWalk, IsPossiblyDecided, IsPossiblyRight, IsReached, IsRightSide};
-ghost use Rattle.mono_distance.specs.SureLabels.{last_node, limit_of, AreLabelsAfter};
+ghost use Rattle.mono_theory.specs.SureRows.{row_of_atom};
+ghost use Rattle.mono_distance.specs.SureLabels.{last_node, limit_of, under_label, AreLabelsAfter};
 
 use crate::distance::{Distance, what_is_asked};
 use crate::label_table::others_of;
@@ -126,6 +128,16 @@ fn where_within(label: u64, limit: Limit) -> Option<u64>
     }
 }
 
+/// The label of a node in the row of the atom at a place.
+fn row_label(rows: &LeastRows, place: usize, node: u32) -> u64
+    requires place { place < length rows.now.row_of }
+    requires row { row_of_atom rows.now place < length rows.now.rows }
+    requires node { node < length (costs_at rows.now.rows (row_of_atom rows.now place)).labels }
+    ensures { result ≡ under_label rows.now place node }
+{
+    rows.row(place).label(node)
+}
+
 /// What rows have of a node for the atom at a place.
 fn under_by_rows(
     rows: &LeastRows,
@@ -143,8 +155,9 @@ fn under_by_rows(
     ensures value { result ≡ under_at rows.now place (atom_at frame.now.atoms place).predicate node }
     ensures reached { IfSome result (IsReached frame.now.graph (under frame.now.graph frame.now.seen) (atom_at frame.now.atoms place).predicate node) }
 {
-    let _ = (frame.seen(), looked);
-    let label = rows.label(place as usize, node);
+    frame.known();
+    let _ = looked;
+    let label = row_label(rows, place as usize, node);
     where_within(label, asked.limit)
 }
 
@@ -225,7 +238,7 @@ fn over_by_rows(
         → Decides frame.now.graph (over frame.now.graph frame.now.seen) (atom_at frame.now.atoms place).predicate
         (admits (limit_of (atom_at frame.now.atoms place).predicate) result) }
 {
-    let _ = frame.seen();
+    frame.known();
     if node != asked.to {
         return 0;
     }
@@ -249,7 +262,7 @@ fn over_by_searches(kept: &KeptSide, frame: &Frame, place: u32, asked: Asked, no
         → Decides frame.now.graph (over frame.now.graph frame.now.seen) (atom_at frame.now.atoms place).predicate
         (admits (limit_of (atom_at frame.now.atoms place).predicate) result) }
 {
-    let _ = frame.graph();
+    frame.known();
     let witness = kept.shown_witness(place);
     over_by(witness, asked.limit, node)
 }
@@ -291,7 +304,7 @@ impl HasLabels for GraphTheory<Distance, EitherSide<LeastRows>, EitherSide<Possi
 
     fn labels(&self, atom: u32, node: u32) -> Labels {
         let frame = self.frame();
-        let _ = frame.graph();
+        frame.known();
         let place = frame.place_of(atom);
         let surely = self.surely();
         let possibly = self.possibly();

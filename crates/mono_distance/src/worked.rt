@@ -7,9 +7,9 @@ ghost use Rattle.mono_problem.specs.declared.atom.Predicate.TheVariants as kind;
 ghost use Rattle.mono_steps.specs.declared.lemma.Witness.TheVariants as by;
 ghost use Rattle.mono_theory.specs.declared.stage.Stage.TheVariants as stage;
 ghost use Rattle.mono_distance.specs.Readings.{AreBothDecided, IsBelowEachWalk, IsReached, labels_in};
-ghost use Rattle.mono_distance.specs.SureLabels.{shows_last, IsRowFor};
+ghost use Rattle.mono_distance.specs.SureLabels.{shows_last};
 ghost use Rattle.mono_theory.specs.PossibleRows.{AreTargetsOf};
-ghost use Rattle.mono_distance.specs.Worked.{along_the_edge, facts_with, keeping, labelled, labels_with, possibly, rows_up_to_9, rows_with, searched, to_node_1, tree_rows, tree_view, trees_with, ways_from, within_7};
+ghost use Rattle.mono_distance.specs.Worked.{along_the_edge, facts_with, keeping, labelled, labels_with, possibly, rows_with, searched, to_node_1, tree_rows, tree_view, trees_with, ways_from, within_7};
 
 /// Where a node has a label with the surely present edges, some walk costs at most so much, and the label is within the bound.
 pub fn nodes_reached()
@@ -43,10 +43,10 @@ pub fn labels_with_surely_present_edges()
     ensures first_node { (labels_in (keeping within_7 (rows_with 1 (0 ∷ 5 ∷ [])) (labelled [])) 4 0).under ≡ Some 0 }
     ensures at_the_bound { (labels_in (keeping within_7 (rows_with 1 (0 ∷ 7 ∷ [])) (labelled [])) 4 1).under ≡ Some 7 }
     ensures beyond { (labels_in (keeping within_7 (rows_with 1 (0 ∷ 8 ∷ [])) (labelled [])) 4 1).under ≡ None }
-    ensures found { (labels_in (keeping within_7 (searched (stage.Forcing 1)) (labelled [])) 4 1).under ≡ Some 7 }
-    ensures found_in_steps { (labels_in (keeping (kind.Steps 0 1 (pos 3)) (searched (stage.Forcing 1)) (labelled [])) 4 1).under ≡ Some 3 }
-    ensures found_elsewhere { (labels_in (keeping within_7 (searched (stage.Forcing 1)) (labelled [])) 4 0).under ≡ None }
-    ensures stands { (labels_in (keeping within_7 (searched stage.Supported) (labelled [])) 4 1).under ≡ None }
+    ensures found { (labels_in (keeping within_7 (searched (stage.Shows 1)) (labelled [])) 4 1).under ≡ Some 7 }
+    ensures found_in_steps { (labels_in (keeping (kind.Steps 0 1 (pos 3)) (searched (stage.Shows 1)) (labelled [])) 4 1).under ≡ Some 3 }
+    ensures found_elsewhere { (labels_in (keeping within_7 (searched (stage.Shows 1)) (labelled [])) 4 0).under ≡ None }
+    ensures stands { (labels_in (keeping within_7 (searched stage.Stands) (labelled [])) 4 1).under ≡ None }
     ensures waits { (labels_in (keeping within_7 (searched stage.Waits) (labelled [])) 4 1).under ≡ None }
 {}
 
@@ -59,16 +59,6 @@ pub fn atoms_shown_by_rows()
     ensures of_the_second_beyond { shows_last (labels_with (5 ∷ 0 ∷ [])) 1 ≡ false }
 {}
 
-/// A row serves a predicate where it is from its first node, by its measure, and has labels beyond its bound.
-pub fn rows_of_predicates()
-    ensures its { IsRowFor (1 ∷ 0 ∷ []) rows_up_to_9 1 within_7 }
-    ensures just_beyond { IsRowFor (1 ∷ 0 ∷ []) rows_up_to_9 1 (kind.Distance 0 1 (pos 8)) }
-    ensures up_to_the_bound { IsRowFor (1 ∷ 0 ∷ []) rows_up_to_9 1 (kind.Distance 0 1 (pos 9)) → ⊥ }
-    ensures of_steps { IsRowFor (1 ∷ 0 ∷ []) rows_up_to_9 1 (kind.Steps 0 1 (pos 7)) → ⊥ }
-    ensures from_another_node { IsRowFor (1 ∷ 0 ∷ []) rows_up_to_9 0 within_7 → ⊥ }
-    ensures no_row { IsRowFor (1 ∷ 0 ∷ 0 ∷ []) rows_up_to_9 2 within_7 → ⊥ }
-{}
-
 /// With the possibly present edges the label is that of the list that was shown, up to one more than the bound, and 0 while
 /// nothing is shown.
 pub fn labels_with_possibly_present_edges()
@@ -78,9 +68,9 @@ pub fn labels_with_possibly_present_edges()
     ensures cut { (labels_in (keeping within_7 (searched stage.Waits) (labelled (label 1 20 ∷ []))) 4 1).over ≡ 8 }
     ensures never_met { (labels_in (keeping (kind.Distance 0 1 (negsuc 0)) (searched stage.Waits) (labelled (label 1 20 ∷ []))) 4 1).over ≡ 0 }
     ensures waits { (labels_in (keeping within_7 (searched stage.Waits) (possibly stage.Waits (Some (by.Label (label 1 5 ∷ []))))) 4 1).over ≡ 0 }
-    ensures stands { (labels_in (keeping within_7 (searched stage.Waits) (possibly stage.Supported (Some (by.Label (label 1 5 ∷ []))))) 4 1).over ≡ 0 }
-    ensures other_witness { (labels_in (keeping within_7 (searched stage.Waits) (possibly (stage.Forcing 0) (Some (by.Path [])))) 4 1).over ≡ 0 }
-    ensures nothing_shown { (labels_in (keeping within_7 (searched stage.Waits) (possibly (stage.Forcing 0) None)) 4 1).over ≡ 0 }
+    ensures stands { (labels_in (keeping within_7 (searched stage.Waits) (possibly stage.Stands (Some (by.Label (label 1 5 ∷ []))))) 4 1).over ≡ 0 }
+    ensures other_witness { (labels_in (keeping within_7 (searched stage.Waits) (possibly (stage.Shows 0) (Some (by.Path [])))) 4 1).over ≡ 0 }
+    ensures nothing_shown { (labels_in (keeping within_7 (searched stage.Waits) (possibly (stage.Shows 0) None)) 4 1).over ≡ 0 }
 {}
 
 /// Where rows of the possibly present edges are kept, the label of the last node is one more than the bound where the last search
@@ -118,12 +108,12 @@ pub fn rows_of_the_possibly_present_edges()
 /// What is kept decides where rows are up to date for all literals seen, or searches leave no atom waiting, on each of the two
 /// sides.
 pub fn theories_that_decide()
-    ensures rows { AreBothDecided (keeping within_7 (rows_with 1 (0 ∷ 5 ∷ [])) (possibly stage.Supported None)) }
-    ensures searches { AreBothDecided (keeping within_7 (searched stage.Supported) (possibly (stage.Forcing 1) None)) }
-    ensures possibly_rows { AreBothDecided (keeping within_7 (searched stage.Supported)
+    ensures rows { AreBothDecided (keeping within_7 (rows_with 1 (0 ∷ 5 ∷ [])) (possibly stage.Stands None)) }
+    ensures searches { AreBothDecided (keeping within_7 (searched stage.Stands) (possibly (stage.Shows 1) None)) }
+    ensures possibly_rows { AreBothDecided (keeping within_7 (searched stage.Stands)
         (trees_with 1 (Some 0) None (ways_from 0 along_the_edge (0 ∷ 5 ∷ [])))) }
-    ensures rows_behind { AreBothDecided (keeping within_7 (rows_with 0 (0 ∷ 5 ∷ [])) (possibly stage.Supported None)) → ⊥ }
-    ensures surely_waits { AreBothDecided (keeping within_7 (searched stage.Waits) (possibly stage.Supported None)) → ⊥ }
+    ensures rows_behind { AreBothDecided (keeping within_7 (rows_with 0 (0 ∷ 5 ∷ [])) (possibly stage.Stands None)) → ⊥ }
+    ensures surely_waits { AreBothDecided (keeping within_7 (searched stage.Waits) (possibly stage.Stands None)) → ⊥ }
     ensures possibly_behind { AreBothDecided (keeping within_7 (rows_with 1 (0 ∷ 5 ∷ [])) (trees_with 0 (Some 0) None (ways_from 0 [] (0 ∷ 8 ∷ [])))) → ⊥ }
     ensures an_edge_went { AreBothDecided (keeping within_7 (rows_with 1 (0 ∷ 5 ∷ [])) (trees_with 1 (Some 0) (Some 1) (ways_from 0 [] (0 ∷ 8 ∷ [])))) → ⊥ }
     ensures not_searched { AreBothDecided (keeping within_7 (rows_with 1 (0 ∷ 5 ∷ [])) (trees_with 1 None None (ways_from 0 [] (0 ∷ 8 ∷ [])))) → ⊥ }

@@ -19,3 +19,4 @@ pub mod Lightest
 pub mod RowTables
 pub mod Lacking
 pub mod WaysRows
+pub mod RowsAlong

@@ -10,3 +10,4 @@ pub mod Mending
 pub mod Ways
 pub mod Sources
 pub mod Targets
+pub mod RowsAlong

@@ -1,6 +1,5 @@
 -- Nodes that are reached from each of several sources.
 use Rattle.std.specs.Prelude.{◌≡◌, ℕ, ◌<◌, ◌≤◌, Bool, List, [], ◌∷◌, length, slice_index_or, All}
-use Rattle.mono_base.specs.declared.limits.TheConstants.{MAX_NODES}
 use Rattle.mono_graph.specs.Digraph.{Digraph}
 use Rattle.mono_dynamic.specs.Arrivals.{at_source, within, AreReachedAlong, GrowsAfter}
 use Rattle.mono_dynamic.specs.Reached.{Reached}
@@ -10,11 +9,6 @@ no_row = record { nodes = 0; source = 0; arrivals = [] }
 
 abbrev pub row_at : List Reached → ℕ → Reached
 row_at rows i = slice_index_or rows i no_row
-
--- the node is one of a graph with this many, which are few enough
-pub record IsSource (n u : ℕ) : Type 0 where
-  pub few : n ≤ MAX_NODES
-  pub known : u < n
 
 -- the source alone, of a graph with this many nodes
 abbrev pub alone : ℕ → ℕ → Reached

@@ -1,11 +1,14 @@
 //! Rows from several sources, in one part that grows.
 
-ghost use Rattle.std.specs.Prelude.{◌≡◌, ◌+◌, ◌<◌, ◌^◌, All, IfOk, OnErr, OnOk, length, map, slice_index_or};
+ghost use Rattle.std.specs.Prelude.{◌≡◌, ◌+◌, ◌<◌, ◌≤◌, ◌^◌, All, IfOk, OnErr, OnOk, length, map, slice_index_or};
 ghost use Rattle.std.specs.List.{AllZip};
 ghost use Rattle.mono_graph.specs.Digraph.{IsPartOf};
 ghost use Rattle.mono_dynamic.specs.BySource.{IsBack, OrSame};
+ghost use Rattle.mono_dynamic.specs.LeastRows.{IsCostSource};
 
-use crate::row::Row;
+use crate::cost_source::CostSource;
+use crate::row::SourceRow;
+use mono_base::limits::MAX_NODES;
 use mono_graph::{Graph, Part};
 use std::alloc::{AllocError, Global};
 use std::marker::Model;
@@ -27,8 +30,13 @@ impl<R> Model for BySource<R> {
 }
 
 /// A row for each source.
-fn rows_of<R: Row>(alloc: Global, nodes: u32, sources: &[R::Source]) -> Result<Vec<R>, AllocError>
-    requires { All (R.can_begin nodes) sources.now }
+fn rows_of<R: SourceRow>(
+    alloc: Global,
+    nodes: u32,
+    sources: &[CostSource],
+) -> Result<Vec<R>, AllocError>
+    requires few { nodes ≤ MAX_NODES }
+    requires sources { All (IsCostSource nodes) sources.now }
     ensures { IfOk result (λ rows. rows.items ≡ map (R.at_first nodes) sources.now) }
 {
     let mut rows = Vec::new(alloc);
@@ -40,7 +48,7 @@ fn rows_of<R: Row>(alloc: Global, nodes: u32, sources: &[R::Source]) -> Result<V
 }
 
 /// Edges have come into the part: each row grows, up to the first for which memory is missing.
-fn grow_each<R: Row>(
+fn grow_each<R: SourceRow>(
     rows: &mut Vec<R>,
     graph: &Graph,
     part: &Part,
@@ -62,7 +70,7 @@ fn grow_each<R: Row>(
 }
 
 /// Each row goes back.
-fn undo_each<R: Row>(rows: &mut Vec<R>, kept: u32)
+fn undo_each<R: SourceRow>(rows: &mut Vec<R>, kept: u32)
     ensures { AllZip (IsBack R.fits R.grown R.undone kept) rows.old.items rows.new.items }
 {
     for i in 0..rows.len() {
@@ -71,10 +79,11 @@ fn undo_each<R: Row>(rows: &mut Vec<R>, kept: u32)
     }
 }
 
-impl<R: Row> BySource<R> {
+impl<R: SourceRow> BySource<R> {
     /// A row from each source, in a part with no edge.
-    pub fn new(alloc: Global, nodes: u32, sources: &[R::Source]) -> Result<Self, AllocError>
-        requires { All (R.can_begin nodes) sources.now }
+    pub fn new(alloc: Global, nodes: u32, sources: &[CostSource]) -> Result<Self, AllocError>
+        requires few { nodes ≤ MAX_NODES }
+        requires sources { All (IsCostSource nodes) sources.now }
         ensures { IfOk result (λ s. s ≡ map (R.at_first nodes) sources.now) }
     {
         let rows = rows_of::<R>(alloc, nodes, sources)?;

@@ -1,9 +1,8 @@
 //! From where walks are measured, and how.
 
-ghost use Rattle.std.specs.Prelude.{◌≡◌, ◌<◌};
+ghost use Rattle.std.specs.Prelude.{◌≡◌, ◌*◌, ◌<◌, ◌≤◌, ℕ};
 ghost use Rattle.mono_dynamic.specs.LeastRows.{measure_of as measure_by};
 
-use crate::row_source::RowSource;
 use mono_graph::Limit;
 
 /// A node from which walks are measured, what they cost, and the least cost that no longer matters.
@@ -29,28 +28,34 @@ pub(crate) fn measure_of(limit: Limit) -> usize
     }
 }
 
-impl RowSource for CostSource {
+impl CostSource {
     ghost use Rattle.mono_dynamic.specs.LeastRows.{cost_slot, IsCostSource};
-    ghost use Rattle.std.specs.Prelude.{◌*◌};
 
-    ghost is_known = { IsCostSource };
-
-    ghost slots = { λ n. n * 3 };
-
-    ghost slot = { cost_slot };
-
-    ghost amount = { λ s. s.cap };
-
-    fn slots(nodes: u32) -> usize {
+    /// How many slots there are in a graph with so many nodes.
+    pub(crate) fn slots(nodes: u32) -> usize
+        ensures { result ≡ nodes * 3 }
+    {
         nodes as usize * 3
     }
 
-    fn slot(self, nodes: u32) -> usize {
+    /// The slot of the source, one of so many nodes: sources of the same slot share a row.
+    pub(crate) fn slot(self, nodes: u32) -> usize
+        requires { IsCostSource nodes self }
+        ensures slot { result ≡ cost_slot self }
+        ensures within { result < nodes * 3 }
+    {
         let _ = nodes;
         self.node as usize * 3 + measure_of(self.limit)
     }
 
-    fn joined(self, other: CostSource) -> CostSource {
+    /// The source of a row that goes as far as either asks for.
+    pub(crate) fn joined(self, other: CostSource) -> CostSource
+        requires { cost_slot other ≡ cost_slot self }
+        ensures slot { cost_slot result ≡ cost_slot self }
+        ensures own { self.cap ≤ result.cap }
+        ensures others { other.cap ≤ result.cap }
+        ensures known { (n : ℕ) → IsCostSource n self → IsCostSource n other → IsCostSource n result }
+    {
         if other.cap <= self.cap {
             return self;
         }

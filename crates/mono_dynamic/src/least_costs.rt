@@ -17,7 +17,7 @@ use crate::cost_source::CostSource;
 use crate::cost_table::{CostTable, walk_back};
 use crate::part_after::PartAfter;
 use crate::relaxation::Relaxation;
-use crate::row::Row;
+use crate::row::SourceRow;
 use mono_base::limits::MAX_BOUND;
 use mono_graph::{Edge, Graph, Limit, Part};
 use std::alloc::{AllocError, Global};
@@ -85,13 +85,12 @@ impl LeastCosts {
         self.relaxation.table.given_after(node, kept).label
     }
 
-    /// A walk to a node that costs what its label was after so many steps, where that is below the cap. It is a walk in
-    /// the part as it was then.
+    /// A walk to a node, where its label was below the cap after so many steps. It is a walk in the part as it was then, and
+    /// costs what that label was.
     pub fn walk_to(&self, alloc: Global, node: u32, kept: u32) -> Result<Vec<u32>, AllocError>
         requires node { node < length self.now.labels }
-        requires below { label_of (labels_after kept self.now) node < self.now.cap }
-        ensures { IfOk result (λ walk. (g : Digraph) (parts : ℕ → List Bool) (n u : ℕ) → kept ≤ n → AreLeastAlong g parts n u self.now
-            → IsTrue (is_walk g (parts kept) u node walk.items)
+        ensures { IfOk result (λ walk. label_of (labels_after kept self.now) node < self.now.cap
+            → (g : Digraph) (parts : ℕ → List Bool) (n u : ℕ) → kept ≤ n → AreLeastAlong g parts n u self.now → IsTrue (is_walk g (parts kept) u node walk.items)
             × (cost_along self.now.limit g walk.items ≡ label_of (labels_after kept self.now) node)) }
     {
         let given = self.relaxation.table.given_after(node, kept);
@@ -132,7 +131,7 @@ impl LeastCosts {
             → GrowsAfter parts n stamp part.now places.now → AreLeastAlong graph.now parts stamp u self.new) }
     {
         // The edges of a graph lead between its nodes.
-        let _ = graph.nodes();
+        graph.known();
         let count = self.relaxation.table.change_count();
         let step = PartAfter { graph, part, stamp };
         match self.relaxation.relax_from(&step, places) {
@@ -173,7 +172,7 @@ impl LeastCosts {
         ensures least { OnOk result (AreLeast graph.now part.now self.old.limit source self.old.cap self.new.labels) }
     {
         // The edges of a graph lead between its nodes.
-        let _ = graph.nodes();
+        graph.known();
         self.relaxation.table.undo_to(0);
         let step = PartAfter {
             graph,
@@ -238,7 +237,7 @@ impl LeastCosts {
         ensures { IfOk result (AreLightest graph.now part.now self.now.limit self.now.cap self.now.labels) }
     {
         // The edges of a graph lead between its nodes.
-        let _ = graph.nodes();
+        graph.known();
         let mut light = Part::none(alloc, graph.edge_count())?;
         self.put_leaving(graph, part, source, &mut light);
         for change in self.relaxation.table.changes() {
@@ -252,15 +251,11 @@ impl LeastCosts {
     }
 }
 
-impl Row for LeastCosts {
+impl SourceRow for LeastCosts {
     ghost use Rattle.mono_dynamic.specs.Costs.{made_after};
-    ghost use Rattle.mono_dynamic.specs.LeastRows.{costs_from, IsBackCosts, IsCostRow, IsCostSource, IsGrownCosts};
-
-    type Source = CostSource;
+    ghost use Rattle.mono_dynamic.specs.LeastRows.{costs_from, IsBackCosts, IsCostRow, IsGrownCosts};
 
     type Change = Change;
-
-    ghost can_begin = { IsCostSource };
 
     ghost at_first = { costs_from };
 

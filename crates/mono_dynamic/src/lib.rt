@@ -30,8 +30,6 @@ mod reached_targets;
 mod relaxation;
 /// What is kept for one source.
 mod row;
-/// From where rows are asked for.
-mod row_source;
 /// Trees of walks from one source.
 mod search_tree;
 /// The rows that are asked for.
@@ -55,8 +53,7 @@ pub use cost_source::CostSource;
 pub use least_costs::LeastCosts;
 pub use reached_nodes::ReachedNodes;
 pub use reached_targets::ReachedTargets;
-pub use row::Row;
-pub use row_source::RowSource;
+pub use row::SourceRow;
 pub use search_tree::SearchTree;
 pub use sources::Sources;
 pub use targets_by_source::TargetsBySource;

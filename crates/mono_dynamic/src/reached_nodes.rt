@@ -13,7 +13,8 @@ ghost use Rattle.mono_dynamic.specs.Arrivals.{arrival_at, at_source, after, is_r
 ghost use Rattle.mono_dynamic.specs.Reached.{ArePlaced, AreOrdered, IsArrivalOf, AreFollowed};
 
 use crate::arrival::Arrival;
-use crate::row::Row;
+use crate::cost_source::CostSource;
+use crate::row::SourceRow;
 use mono_base::limits::MAX_NODES;
 use mono_graph::{Graph, Part};
 use std::alloc::{AllocError, Global};
@@ -171,7 +172,7 @@ impl ReachedNodes {
     }
 
     /// Whether the node is reached. The source is.
-    pub(crate) fn has(&self, node: u32) -> bool
+    pub fn has(&self, node: u32) -> bool
         requires { node < self.now.nodes }
         ensures reached { result ≡ is_reached self.now.arrivals node }
         ensures source { IsTrue (is_reached self.now.arrivals self.now.source) }
@@ -300,17 +301,13 @@ impl ReachedNodes {
     }
 }
 
-impl Row for ReachedNodes {
+impl SourceRow for ReachedNodes {
     ghost use Rattle.mono_dynamic.specs.Arrivals.{after};
-    ghost use Rattle.mono_dynamic.specs.Rows.{alone, back_to, IsGrownRow, IsRow, IsSource};
-
-    type Source = u32;
+    ghost use Rattle.mono_dynamic.specs.Rows.{alone, back_to, IsGrownRow, IsRow};
 
     type Change = Arrival;
 
-    ghost can_begin = { IsSource };
-
-    ghost at_first = { alone };
+    ghost at_first = { λ n s. alone n s.node };
 
     ghost fits = { IsRow };
 
@@ -320,8 +317,8 @@ impl Row for ReachedNodes {
 
     ghost changed_after = { λ kept r. after kept r.arrivals };
 
-    fn new(alloc: Global, nodes: u32, source: u32) -> Result<Self, AllocError> {
-        ReachedNodes::new(alloc, nodes, source)
+    fn new(alloc: Global, nodes: u32, source: CostSource) -> Result<Self, AllocError> {
+        ReachedNodes::new(alloc, nodes, source.node)
     }
 
     fn grow(

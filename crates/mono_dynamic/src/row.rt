@@ -1,28 +1,26 @@
 //! What is kept for one source.
 
-ghost use Rattle.std.specs.Prelude.{◌≡◌, ◌+◌, ◌<◌, ◌^◌, All, IfOk, OnErr, OnOk, length};
+ghost use Rattle.std.specs.Prelude.{◌≡◌, ◌+◌, ◌<◌, ◌≤◌, ◌^◌, All, IfOk, OnErr, OnOk, length};
 
 use crate::at_node::AtNode;
+use crate::cost_source::CostSource;
+use mono_base::limits::MAX_NODES;
 use mono_graph::{Graph, Part};
 use std::alloc::{AllocError, Global};
 
 /// What was found from one source, after each number of steps by which a part of a graph grew.
-pub trait Row: Drop {
+pub trait SourceRow: Drop {
     ghost use Rattle.std.specs.Prelude.{ℕ, Bool, List};
     ghost use Rattle.mono_graph.specs.Digraph.{Digraph, IsPartOf};
+    ghost use Rattle.mono_dynamic.specs.declared.cost_source.CostSource.{CostSource};
     ghost use Rattle.mono_dynamic.specs.BySource.{IsBack};
-
-    /// From where a row is, and what it measures.
-    type Source: Copy;
+    ghost use Rattle.mono_dynamic.specs.LeastRows.{IsCostSource};
 
     /// What a step changes in a row, each time at a node.
     type Change: AtNode;
 
-    /// A row of a graph with so many nodes can be from this source.
-    ghost can_begin: { ℕ → Self.Source → Type 0 };
-
-    /// The row from this source in a part with no edge.
-    ghost at_first: { ℕ → Self.Source → Self };
+    /// The row from this source, of a graph with so many nodes, in a part with no edge.
+    ghost at_first: { ℕ → CostSource → Self };
 
     /// The row is of a graph with so many nodes, and nothing in it is of a later step than so many.
     ghost fits: { ℕ → ℕ → Self → Type 0 };
@@ -37,8 +35,9 @@ pub trait Row: Drop {
     ghost changed_after: { ℕ → Self → List Self.Change };
 
     /// The row from a source, in a part with no edge.
-    fn new(alloc: Global, nodes: u32, source: Self::Source) -> Result<Self, AllocError>
-        requires { can_begin nodes source }
+    fn new(alloc: Global, nodes: u32, source: CostSource) -> Result<Self, AllocError>
+        requires few { nodes ≤ MAX_NODES }
+        requires source { IsCostSource nodes source }
         ensures { IfOk result (λ row. row ≡ at_first nodes source) };
 
     /// Edges have come into the part, with the step after the first `looked`, and no others since the last call. Where memory

@@ -113,7 +113,7 @@ fn lightest_part(
     ensures light { IfOk result (λ light. IsLight graph.now part.now (searched_part part.now light) source costs.new) }
 {
     // The edges of a graph lead between its nodes.
-    let _ = graph.nodes();
+    graph.known();
     match costs {
         None => Ok(None),
         Some(costs) => {

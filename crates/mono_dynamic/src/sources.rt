@@ -1,38 +1,39 @@
 //! The rows that are asked for, each once.
 
-ghost use Rattle.std.specs.Prelude.{◌≡◌, ◌+◌, ◌<◌, ◌≤◌, ◌^◌, ℕ, All, IfOk, length};
+ghost use Rattle.std.specs.Prelude.{◌≡◌, ◌+◌, ◌*◌, ◌<◌, ◌≤◌, ◌^◌, All, IfOk, length};
+ghost use Rattle.mono_dynamic.specs.LeastRows.{cost_slot, IsCostSource};
 ghost use Rattle.mono_dynamic.specs.Sources.{AreApart, AreMore, HaveRows, IsRowTable, IsServed};
 
-use crate::row_source::RowSource;
+use crate::cost_source::CostSource;
 use std::alloc::{AllocError, Global};
 
-/// The sources of rows, one for each slot that is asked for, and for each that asks which row is its own.
+/// The sources of rows, one for each node and measure that is asked for, and for each that asks which row is its own.
 #[derive(Drop)]
-pub struct Sources<S: Drop> {
+pub struct Sources {
     /// The sources of the rows.
-    pub rows: Vec<S>,
+    pub rows: Vec<CostSource>,
     /// By place of those that ask the row.
     pub row_of: Vec<u32>,
 }
 
 /// The row that serves what is wanted, which is a new one where the slot has none.
-fn row_for<S: RowSource>(
+fn row_for(
     table: &mut Vec<Option<u32>>,
-    rows: &mut Vec<S>,
+    rows: &mut Vec<CostSource>,
     nodes: u32,
-    wanted: S,
+    wanted: CostSource,
 ) -> Result<u32, AllocError>
-    requires table { IsRowTable S.slot table.old.items rows.old.items }
-    requires size { length table.old.items ≡ S.slots nodes }
-    requires wanted { S.is_known nodes wanted }
-    requires known { All (S.is_known nodes) rows.old.items }
+    requires table { IsRowTable cost_slot table.old.items rows.old.items }
+    requires size { length table.old.items ≡ nodes * 3 }
+    requires wanted { IsCostSource nodes wanted }
+    requires known { All (IsCostSource nodes) rows.old.items }
     requires few { length rows.old.items < 2 ^ 32 }
-    ensures table { IfOk result (λ _. IsRowTable S.slot table.new.items rows.new.items) }
+    ensures table { IfOk result (λ _. IsRowTable cost_slot table.new.items rows.new.items) }
     ensures size { IfOk result (λ _. length table.new.items ≡ length table.old.items) }
-    ensures known { IfOk result (λ _. All (S.is_known nodes) rows.new.items) }
+    ensures known { IfOk result (λ _. All (IsCostSource nodes) rows.new.items) }
     ensures few { IfOk result (λ _. length rows.new.items ≤ length rows.old.items + 1) }
-    ensures more { IfOk result (λ _. AreMore S.slot S.amount rows.old.items rows.new.items) }
-    ensures served { IfOk result (IsServed S.slot S.amount wanted rows.new.items) }
+    ensures more { IfOk result (λ _. AreMore cost_slot (λ s. s.cap) rows.old.items rows.new.items) }
+    ensures served { IfOk result (IsServed cost_slot (λ s. s.cap) wanted rows.new.items) }
 {
     let slot = wanted.slot(nodes);
     if let Some(row) = table[slot] {
@@ -45,17 +46,17 @@ fn row_for<S: RowSource>(
     Ok(row)
 }
 
-impl<S: RowSource + Drop> Sources<S> {
+impl Sources {
     /// The rows for all that is asked in a graph with so many nodes.
-    pub fn of(alloc: Global, nodes: u32, asked: &[S]) -> Result<Self, AllocError>
-        requires known { All (S.is_known nodes) asked.now }
+    pub fn of(alloc: Global, nodes: u32, asked: &[CostSource]) -> Result<Self, AllocError>
+        requires known { All (IsCostSource nodes) asked.now }
         requires few { length asked.now < 2 ^ 32 }
-        ensures known { IfOk result (λ s. All (S.is_known nodes) s.rows.items) }
+        ensures known { IfOk result (λ s. All (IsCostSource nodes) s.rows.items) }
         ensures few { IfOk result (λ s. length s.rows.items ≤ length asked.now) }
-        ensures apart { IfOk result (λ s. AreApart S.slot s.rows.items) }
-        ensures rows { IfOk result (λ s. HaveRows S.slot S.amount asked.now (length asked.now) s.row_of.items s.rows.items) }
+        ensures apart { IfOk result (λ s. AreApart cost_slot s.rows.items) }
+        ensures rows { IfOk result (λ s. HaveRows cost_slot (λ x. x.cap) asked.now (length asked.now) s.row_of.items s.rows.items) }
     {
-        let mut table = vec![in alloc; None; S::slots(nodes)]?;
+        let mut table = vec![in alloc; None; CostSource::slots(nodes)]?;
         let mut rows = Vec::new(alloc);
         let mut row_of = Vec::new(alloc);
         for wanted in asked {

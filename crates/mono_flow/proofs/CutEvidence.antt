@@ -37,7 +37,7 @@ total_split f p a b (k ∷ ks) h = one (p k) (a k) (b k) (h k) (total_split f p 
     one true false false i le = absurd (elim (i refl) [ inl e ↦ both_ways false refl e | inr e ↦ both_ways false refl e ])
 
 -- an edge of that part isn't named
-not_named : (g : Digraph) (named : List ℕ) (k : ℕ) → IsTrue (present (all_but g named) k) → IsTrue (not (has named k))
+pub not_named : (g : Digraph) (named : List ℕ) (k : ℕ) → IsTrue (present (all_but g named) k) → IsTrue (not (has named k))
 not_named g named k here =
     let low = present_below (all_but g named) k here in
     let lt : k < length g.edges = omega (arith, low, length-map-range_with_len (λ j. not (has named j)) 0 (length g.edges)) in

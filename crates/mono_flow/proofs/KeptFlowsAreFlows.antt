@@ -82,21 +82,21 @@ witness_flows g P (kind.Flow s t least) (by.Order us) ok h = no_flow g P s t
 
 showing_none : (at : Stage) (o : Option Evidence) → shows at ≡ false → showing at o ≡ []
 showing_none stage.Waits o h = refl
-showing_none stage.Supported o h = refl
-showing_none (stage.Forcing m) o h = absurd cc
+showing_none stage.Stands o h = refl
+showing_none (stage.Shows m) o h = absurd cc
 
 showing_some : (at : Stage) (o : Option Evidence) (w : Witness) → shows at ≡ true → MatchOption o ⊥ (λ e. w ≡ e.witness) → showing at o ≡ amounts_in w
 showing_some stage.Waits o w h is = absurd cc
-showing_some stage.Supported o w h is = absurd cc
-showing_some (stage.Forcing m) None w h is = absurd is
-showing_some (stage.Forcing m) (Some e) w h is = ap amounts_in (sym is)
+showing_some stage.Stands o w h is = absurd cc
+showing_some (stage.Shows m) None w h is = absurd is
+showing_some (stage.Shows m) (Some e) w h is = ap amounts_in (sym is)
 
-supporting_none : (at : Stage) (o : Option Evidence) → (at ≢ stage.Supported) → supporting at o ≡ []
+supporting_none : (at : Stage) (o : Option Evidence) → (at ≢ stage.Stands) → supporting at o ≡ []
 supporting_none stage.Waits o h = refl
-supporting_none stage.Supported o h = absurd (h refl)
-supporting_none (stage.Forcing m) o h = refl
+supporting_none stage.Stands o h = absurd (h refl)
+supporting_none (stage.Shows m) o h = refl
 
-supporting_some : (at : Stage) (o : Option Evidence) (w : Witness) → at ≡ stage.Supported → MatchOption o ⊥ (λ e. w ≡ e.witness) → supporting at o ≡ amounts_in w
+supporting_some : (at : Stage) (o : Option Evidence) (w : Witness) → at ≡ stage.Stands → MatchOption o ⊥ (λ e. w ≡ e.witness) → supporting at o ≡ amounts_in w
 supporting_some at None w h is = absurd is
 supporting_some at (Some e) w h is = ap (λ (a : Stage). supporting a (Some e)) h ∙ ap amounts_in (sym is)
 
@@ -109,7 +109,7 @@ pub shown_read : (r : Option (Bor Witness)) (at : Stage) (o : Option Evidence) �
 shown_read None at o lacks stands its = record { none = showing_none at o lacks; some = tt }
 shown_read (Some w) at o lacks stands its = record { none = tt; some = showing_some at o w.now (stands refl) its }
 
-pub support_read : (r : Option (Bor Witness)) (at : Stage) (o : Option Evidence) → IfNone r (at ≢ stage.Supported) → (IsSome r → at ≡ stage.Supported) → IfSome r (λ w. MatchOption o ⊥ (λ e. w.now ≡ e.witness)) → IsRead r (supporting at o)
+pub support_read : (r : Option (Bor Witness)) (at : Stage) (o : Option Evidence) → IfNone r (at ≢ stage.Stands) → (IsSome r → at ≡ stage.Stands) → IfSome r (λ w. MatchOption o ⊥ (λ e. w.now ≡ e.witness)) → IsRead r (supporting at o)
 support_read None at o lacks stands its = record { none = supporting_none at o lacks; some = tt }
 support_read (Some w) at o lacks stands its = record { none = tt; some = supporting_some at o w.now (stands refl) its }
 

@@ -86,12 +86,12 @@ under_decided f s ok atoms h none a lt = by (stage_at s.stages a) refl (h.side.r
   where
     by : (at : Stage) → stage_at s.stages a ≡ at → StageIs f false s a at → IsDecidedBy f.graph (part_of f.graph f.seen false) (atom_at f.atoms a).predicate (carried_at f.graph (showing at (evidence_at s.shown a)))
     by stage.Waits e is = absurd (not_waiting s.stages a none e (let len = h.side.stages_len in omega arith))
-    by stage.Supported e is =
+    by stage.Stands e is =
         nothing_decides f.graph (part_of f.graph f.seen false) (atom_at f.atoms a).predicate
         (sound_decides f.graph (part_of f.graph f.seen false) (atom_at f.atoms a).predicate false (evidence_at s.supports a) ok (over_of f atoms a lt) (part_len f.graph f.seen false) (h.side.supports.each a lt) is)
-    by (stage.Forcing m) e is =
+    by (stage.Shows m) e is =
         let sound = h.side.shown.each a lt in
-        kept_decides f.graph (part_of f.graph f.seen false) (atom_at f.atoms a).predicate (evidence_at s.shown a) (showing (stage.Forcing m)) ok (part_len f.graph f.seen false) sound
+        kept_decides f.graph (part_of f.graph f.seen false) (atom_at f.atoms a).predicate (evidence_at s.shown a) (showing (stage.Shows m)) ok (part_len f.graph f.seen false) sound
         (shown_now {x = atom_at f.atoms a} is h.thorough sound) (λ e. refl)
 
 pub over_decided : (f : Facts) (s : SideView) → IsGraph f.graph → AreAtomsOf f.graph f.atoms → IsSideFor f true true s → NoneWaits s.stages → (a : ℕ) → a < length f.atoms
@@ -100,9 +100,9 @@ over_decided f s ok atoms h none a lt = by (stage_at s.stages a) refl (h.side.ri
   where
     by : (at : Stage) → stage_at s.stages a ≡ at → StageIs f true s a at → IsDecidedBy f.graph (part_of f.graph f.seen true) (atom_at f.atoms a).predicate (carried_at f.graph (supporting at (evidence_at s.supports a)))
     by stage.Waits e is = absurd (not_waiting s.stages a none e (let len = h.side.stages_len in omega arith))
-    by stage.Supported e is =
-        kept_decides f.graph (part_of f.graph f.seen true) (atom_at f.atoms a).predicate (evidence_at s.supports a) (supporting stage.Supported) ok (part_len f.graph f.seen true) (h.side.supports.each a lt) is (λ e. refl)
-    by (stage.Forcing m) e is =
+    by stage.Stands e is =
+        kept_decides f.graph (part_of f.graph f.seen true) (atom_at f.atoms a).predicate (evidence_at s.supports a) (supporting stage.Stands) ok (part_len f.graph f.seen true) (h.side.supports.each a lt) is (λ e. refl)
+    by (stage.Shows m) e is =
         let sound = h.side.shown.each a lt in
         nothing_decides f.graph (part_of f.graph f.seen true) (atom_at f.atoms a).predicate
         (sound_decides f.graph (part_of f.graph f.seen true) (atom_at f.atoms a).predicate false (evidence_at s.shown a) ok (over_of f atoms a lt) (part_len f.graph f.seen true) sound (shown_now {x = atom_at f.atoms a} is h.thorough sound))

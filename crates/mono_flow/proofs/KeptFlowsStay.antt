@@ -54,7 +54,7 @@ flow_carries g P (kind.Flow s t least) (by.Least es) k is sign h used = absurd c
 flow_carries g P (kind.Flow s t least) (by.Cycle es) k is sign h used = absurd cc
 flow_carries g P (kind.Flow s t least) (by.Order us) k is sign h used = absurd cc
 
-support_carries : (g : Digraph) (q : Predicate) (o : Option Evidence) (k : ℕ) → IsTrue (is_flow_predicate q) → IfSome o (IsSound g q true) → RestsOn o k → 0 < carried_at g (supporting stage.Supported o) k
+support_carries : (g : Digraph) (q : Predicate) (o : Option Evidence) (k : ℕ) → IsTrue (is_flow_predicate q) → IfSome o (IsSound g q true) → RestsOn o k → 0 < carried_at g (supporting stage.Stands o) k
 support_carries g q None k is sound rests = absurd rests
 support_carries g q (Some e) k is sound rests = flow_carries g (only g e.edges) q e.witness k is sound.rests sound.passes (all_has (λ j. IsTrue (uses g e.witness j)) e.edges k sound.used rests)
 
@@ -78,10 +78,10 @@ undone_at kept (x ∷ xs) (suc a) = undone_at kept xs a
 
 supporting_undone : (kept : ℕ) (at : Stage) (o : Option Evidence) → supporting (undone kept at) o ≡ supporting at o
 supporting_undone kept stage.Waits o = refl
-supporting_undone kept stage.Supported o = refl
-supporting_undone kept (stage.Forcing m) o = by (nat_lt kept m)
+supporting_undone kept stage.Stands o = refl
+supporting_undone kept (stage.Shows m) o = by (nat_lt kept m)
   where
-    by : (b : Bool) → supporting (if b then stage.Waits else stage.Forcing m) o ≡ supporting (stage.Forcing m) o
+    by : (b : Bool) → supporting (if b then stage.Waits else stage.Shows m) o ≡ supporting (stage.Shows m) o
     by true = refl
     by false = refl
 

@@ -2,6 +2,10 @@ pub mod Numbered
 pub mod FlowEvidence
 pub mod Needed
 pub mod CutEvidence
+pub mod GrownCuts
+pub mod GrownSets
+pub mod JoinedNodes
+pub mod ReplacedEdges
 pub mod DistinctEdges
 pub mod KeptFlowsAreFlows
 pub mod KeptFlowsDecide

@@ -26,11 +26,11 @@ amounts_in w = []
 
 -- those of the support while an atom stands on it, and those of what is shown while it shows
 abbrev pub supporting : Stage → Option Evidence → List Amount
-supporting stage.Supported (Some e) = amounts_in e.witness
+supporting stage.Stands (Some e) = amounts_in e.witness
 supporting at o = []
 
 abbrev pub showing : Stage → Option Evidence → List Amount
-showing (stage.Forcing m) (Some e) = amounts_in e.witness
+showing (stage.Shows m) (Some e) = amounts_in e.witness
 showing at o = []
 
 -- the flow along the possibly present edges, and the one along the surely present ones, of the atom at a place

@@ -1,3 +1,4 @@
 pub mod Flowing
 pub mod KeptFlows
+pub mod Growing
 pub mod Worked

@@ -15,7 +15,7 @@ standing amounts = record {
   supports = Some (record { witness = by.Flow amounts; edges = 0 ∷ [] }) ∷ [];
   shown = [];
   watchers = (record { atom = 0; place = 0 } ∷ []) ∷ [];
-  stages = stage.Supported ∷ [];
+  stages = stage.Stands ∷ [];
   thorough = true;
 }
 

@@ -4,15 +4,19 @@
 //! since the present ones weigh too little. It needn't rest on those that could be present as well: as long as all others
 //! together weigh less than is asked for, they may come.
 
-ghost use Rattle.std.specs.Prelude.{◌≡◌, ◌<◌, ◌+◌, All, IfOk, IsTrue, int_lt, length, pos};
+ghost use Rattle.std.specs.Prelude.{◌≡◌, ◌<◌, ◌+◌, All, IfOk, IfSome, IsTrue, int_lt, length, pos};
 ghost use Rattle.mono_flows.specs.Answers.{HasValue, IsDistinct, IsKnown, IsSmall, Passes};
 ghost use Rattle.mono_graph.specs.Digraph.{IsPartOf, is_distinct};
 ghost use Rattle.mono_problem.specs.WellFormed.{IsOver};
+ghost use Rattle.mono_steps.specs.Witnesses.{names_known};
 ghost use Rattle.mono_theory.specs.Evidences.{IsEvidence};
 ghost use Rattle.mono_theory.specs.Resting.{absent_out};
+ghost use Rattle.mono_flow.specs.Growing.{IsGrownOf};
 ghost use Rattle.mono_flow.specs.Flowing.{numbered as numbered_by, carrying as carrying_of, flow_evidence as flow_evidence_of, AreNeeded, EachIsNeeded, IsCutEvidence};
 
+use crate::growing::CutGrowth;
 use crate::kept_flows::KeptFlows;
+use crate::node_paths::NodePaths;
 use mono_base::Row;
 use mono_flows::{FlowFinder, FlowOrCut, Found};
 use mono_graph::{Amount, Graph, Part};
@@ -27,6 +31,8 @@ use std::marker::Model;
 pub struct Flow {
     finder: FlowFinder,
     marks: NodeMarks,
+    growth: CutGrowth,
+    paths: NodePaths,
     kept: KeptFlows,
 }
 
@@ -37,7 +43,7 @@ impl Model for Flow {
 
     ghost view = { λ f. f.finder };
 
-    ghost invariant = { λ f. f.marks ≡ f.finder };
+    ghost invariant = { λ f. (f.marks ≡ f.finder) × (f.growth ≡ f.finder) };
 }
 
 /// The amounts with edges named by their numbers.
@@ -160,6 +166,14 @@ impl Flow {
         ensures value { IfOk result (λ found. HasValue graph.now part.now source found.value found.answer) }
     {
         let mut flow = self.kept.choose(alloc, graph, part, source, sink)?;
+        if self.paths.are_apt(graph) && self.kept.may_be_whole(graph, part, source, sink) {
+            let once = self
+                .paths
+                .find(alloc, graph, part, source, sink, least, flow.as_slice())?;
+            if let Some(paths) = once {
+                flow = paths;
+            }
+        }
         let found = self
             .finder
             .find_flow_from(alloc, graph, part, source, sink, least, &mut flow)?;
@@ -184,7 +198,7 @@ impl Flow {
         ensures size { self.new ≡ self.old }
         ensures evidence { IfOk result (IsEvidence graph.now part.now (Predicate.Flow source sink least)) }
     {
-        let _ = graph.nodes();
+        graph.known();
         let found = self.search(alloc, graph, part, source, sink, least)?;
         let Found { answer, value } = found;
         match answer {
@@ -193,6 +207,35 @@ impl Flow {
                 let slack = slack_of(least, value);
                 cut_evidence(alloc, &mut self.marks, graph, part, nodes, slack)
             }
+        }
+    }
+}
+
+impl Flow {
+    /// The evidence that a kept cut is once its edges that came lead on. `None` for evidence that is no cut, and where the sink joins.
+    fn grown(
+        &mut self,
+        alloc: Global,
+        graph: &Graph,
+        part: &Part,
+        sink: u32,
+        known: &Evidence,
+    ) -> Result<Option<Evidence>, AllocError>
+        requires size { self.old ≡ graph.now.nodes }
+        requires part { IsPartOf part.now graph.now }
+        requires sink { sink < graph.now.nodes }
+        requires named { IsTrue (names_known graph.now known.now.witness) }
+        requires held { All (λ k. k < length graph.now.edges) known.now.edges }
+        ensures size { self.new ≡ self.old }
+        ensures grown { IfOk result (λ found. IfSome found (IsGrownOf graph.now part.now sink known.now)) }
+    {
+        match &known.witness {
+            Witness::FlowCut(nodes) => {
+                let edges = known.edges.as_slice();
+                self.growth
+                    .grow(alloc, graph, part, sink, nodes.as_slice(), edges)
+            }
+            _ => Ok(None),
         }
     }
 }
@@ -216,10 +259,14 @@ impl Kind for Flow {
     fn with_nodes(alloc: Global, count: u32) -> Result<Self, AllocError> {
         let finder = FlowFinder::new(alloc, count)?;
         let marks = NodeMarks::new(alloc, count)?;
+        let growth = CutGrowth::new(alloc, count)?;
+        let paths = NodePaths::new(alloc, count)?;
         let kept = KeptFlows::new(alloc);
         Ok(Flow {
             finder,
             marks,
+            growth,
+            paths,
             kept,
         })
     }
@@ -238,6 +285,27 @@ impl Kind for Flow {
                 least,
             } => self.show(alloc, graph, part, source, sink, least),
             _ => unreachable!(),
+        }
+    }
+
+    fn mend(
+        &mut self,
+        alloc: Global,
+        graph: &Graph,
+        part: &Part,
+        predicate: Predicate,
+        kept: Option<&Evidence>,
+    ) -> Result<Option<Evidence>, AllocError> {
+        let _ = graph.nodes();
+        let Predicate::Flow { source, sink, .. } = predicate else {
+            unreachable!()
+        };
+        if self.kept.still_carries(graph, part, source, sink) {
+            return Ok(None);
+        }
+        match kept {
+            None => Ok(None),
+            Some(known) => self.grown(alloc, graph, part, sink, known),
         }
     }
 }

@@ -43,7 +43,7 @@ fn present_count(part: &Part, amounts: &[Amount]) -> usize
 }
 
 /// Whether all edges are of the graph.
-fn are_known(graph: &Graph, amounts: &[Amount]) -> bool
+pub(crate) fn are_known(graph: &Graph, amounts: &[Amount]) -> bool
     ensures { IsTrue result → All (λ a. a.edge < length graph.now.edges) amounts.now }
 {
     for amount in amounts {
@@ -127,6 +127,34 @@ impl KeptFlows {
             return Vec::from_slice(alloc, flow.less.as_slice());
         }
         Ok(Vec::new(alloc))
+    }
+
+    /// Whether a flow that carries as much as is asked for may well be there: none was found yet, or the last one is nearly whole.
+    pub(crate) fn may_be_whole(&self, graph: &Graph, part: &Part, source: u32, sink: u32) -> bool
+        requires { IsPartOf part.now graph.now }
+    {
+        match self.place_of(source, sink) {
+            None => true,
+            Some(place) => {
+                let whole = self.flows[place].whole.as_slice();
+                whole.is_empty() || is_nearly_whole(graph, part, whole)
+            }
+        }
+    }
+
+    /// Whether the last flow that carried less than was asked for is there still, and carries something: then the sink can be reached.
+    pub(crate) fn still_carries(&self, graph: &Graph, part: &Part, source: u32, sink: u32) -> bool
+        requires { IsPartOf part.now graph.now }
+    {
+        match self.place_of(source, sink) {
+            None => false,
+            Some(place) => {
+                let less = self.flows[place].less.as_slice();
+                !less.is_empty()
+                    && are_known(graph, less)
+                    && present_count(part, less) == less.len()
+            }
+        }
     }
 
     /// Keeps a flow in place of the last of its sort between these nodes.

@@ -35,37 +35,37 @@ pub fn flows_that_are_lost()
 /// Only an atom that stands on its flow can lose it.
 pub fn flows_that_are_kept()
     ensures waits { LosesFlow (single (edge 1 0 1 5)) (minus 1) (at_stage stage.Waits (amount 1 3 ∷ [])) 0 → ⊥ }
-    ensures shows { LosesFlow (single (edge 1 0 1 5)) (minus 1) (at_stage (stage.Forcing 1) (amount 1 3 ∷ [])) 0 → ⊥ }
+    ensures shows { LosesFlow (single (edge 1 0 1 5)) (minus 1) (at_stage (stage.Shows 1) (amount 1 3 ∷ [])) 0 → ⊥ }
 {}
 
 /// The flow along the surely present edges is the one that is shown of the atom, and the one along the possibly present edges
 /// is its support, each while its stage says so. The atom is told by its number, and the edge by its place.
 pub fn flows_of_an_edge()
-    ensures both { flows_in (keeping (side_of (stage.Forcing 0) (amount 9 7 ∷ []) (amount 1 2 ∷ []))
-        (side_of stage.Supported (amount 1 3 ∷ []) (amount 9 7 ∷ []))) 4 0 ≡ record { under = 2; over = 3 } }
-    ensures exchanged { flows_in (keeping (side_of stage.Supported (amount 1 3 ∷ []) (amount 1 2 ∷ []))
-        (side_of (stage.Forcing 0) (amount 1 3 ∷ []) (amount 1 2 ∷ []))) 4 0 ≡ record { under = 0; over = 0 } }
+    ensures both { flows_in (keeping (side_of (stage.Shows 0) (amount 9 7 ∷ []) (amount 1 2 ∷ []))
+        (side_of stage.Stands (amount 1 3 ∷ []) (amount 9 7 ∷ []))) 4 0 ≡ record { under = 2; over = 3 } }
+    ensures exchanged { flows_in (keeping (side_of stage.Stands (amount 1 3 ∷ []) (amount 1 2 ∷ []))
+        (side_of (stage.Shows 0) (amount 1 3 ∷ []) (amount 1 2 ∷ []))) 4 0 ≡ record { under = 0; over = 0 } }
     ensures waiting { flows_in (keeping (side_of stage.Waits (amount 1 3 ∷ []) (amount 1 2 ∷ []))
         (side_of stage.Waits (amount 1 3 ∷ []) (amount 1 2 ∷ []))) 4 0 ≡ record { under = 0; over = 0 } }
-    ensures other_edge { flows_in (keeping (side_of (stage.Forcing 0) [] (amount 0 2 ∷ [])) (side_of stage.Supported (amount 0 3 ∷ []) [])) 4 0
+    ensures other_edge { flows_in (keeping (side_of (stage.Shows 0) [] (amount 0 2 ∷ [])) (side_of stage.Stands (amount 0 3 ∷ []) [])) 4 0
         ≡ record { under = 0; over = 0 } }
-    ensures other_atom { flows_in (keeping (side_of (stage.Forcing 0) [] (amount 1 2 ∷ [])) (side_of stage.Supported (amount 1 3 ∷ []) [])) 0 0
+    ensures other_atom { flows_in (keeping (side_of (stage.Shows 0) [] (amount 1 2 ∷ [])) (side_of stage.Stands (amount 1 3 ∷ []) [])) 0 0
         ≡ record { under = 0; over = 0 } }
 {}
 
 /// An atom stands at a place of its own among the atoms, whatever the place of the edge is.
 pub fn flows_of_two_atoms()
-    ensures second { flows_in (keeping_second (side_of (stage.Forcing 0) [] (amount 1 2 ∷ [])) (side_of stage.Supported (amount 1 3 ∷ []) [])) 4 0
+    ensures second { flows_in (keeping_second (side_of (stage.Shows 0) [] (amount 1 2 ∷ [])) (side_of stage.Stands (amount 1 3 ∷ []) [])) 4 0
         ≡ record { under = 2; over = 3 } }
-    ensures first { flows_in (keeping_second (side_of (stage.Forcing 0) [] (amount 1 2 ∷ [])) (side_of stage.Supported (amount 1 3 ∷ []) [])) 2 0
+    ensures first { flows_in (keeping_second (side_of (stage.Shows 0) [] (amount 1 2 ∷ [])) (side_of stage.Stands (amount 1 3 ∷ []) [])) 2 0
         ≡ record { under = 0; over = 0 } }
-    ensures no_edge { flows_in (keeping_second (side_of (stage.Forcing 0) [] (amount 1 2 ∷ [])) (side_of stage.Supported (amount 1 3 ∷ []) [])) 4 1
+    ensures no_edge { flows_in (keeping_second (side_of (stage.Shows 0) [] (amount 1 2 ∷ [])) (side_of stage.Stands (amount 1 3 ∷ []) [])) 4 1
         ≡ record { under = 0; over = 0 } }
 {}
 
 /// What is kept decides where no atom waits, on either side.
 pub fn theories_that_decide()
-    ensures none_waits { AreBothDecided (keeping (side_of (stage.Forcing 0) [] []) (side_of stage.Supported [] [])) }
-    ensures surely_waits { AreBothDecided (keeping (side_of stage.Waits [] []) (side_of stage.Supported [] [])) → ⊥ }
-    ensures possibly_waits { AreBothDecided (keeping (side_of (stage.Forcing 0) [] []) (side_of stage.Waits [] [])) → ⊥ }
+    ensures none_waits { AreBothDecided (keeping (side_of (stage.Shows 0) [] []) (side_of stage.Stands [] [])) }
+    ensures surely_waits { AreBothDecided (keeping (side_of stage.Waits [] []) (side_of stage.Stands [] [])) → ⊥ }
+    ensures possibly_waits { AreBothDecided (keeping (side_of (stage.Shows 0) [] []) (side_of stage.Waits [] [])) → ⊥ }
 {}

@@ -9,7 +9,7 @@ use Rattle.mono_graph.proofs.Membership.{places_at, at_places, has_get_or}
 use Rattle.mono_flows.specs.declared.search.AugmentingSearch.{AugmentingSearch}
 use Rattle.mono_flows.specs.declared.visit.Visit.{Visit}
 use Rattle.mono_flows.specs.Residual.{residual_at, start_of, end_of}
-use Rattle.mono_flows.specs.Visits.{visit_at, first_visit, is_marked, IsSearchTree, AreMarks, IsSearch, Extends, Continues, CameTo, IsExpanded}
+use Rattle.mono_flows.specs.Visits.{visit_at, first_visit, is_marked, IsSearchTree, AreMarks, IsFlowSearch, Extends, Continues, CameTo, IsExpanded}
 use Rattle.mono_flows.proofs.Expand.{Covers}
 
 -- each edge with capacity left out of a marked node leads to a marked node, or its node waits from some place on
@@ -171,7 +171,7 @@ pub tree_within : (g : Digraph) (P : List Bool) (f : ℕ → ℕ) (vs : List Vis
 tree_within g P f vs t = All-from_get_or (λ v. v.node < g.nodes) vs (first_visit 0 0) t.nodes
 
 -- marks and visits of a search tree are those of a search
-pub search_of : {g : Digraph} {P : List Bool} {f : ℕ → ℕ} (marks : List Bool) (vs : List Visit) (search : AugmentingSearch) → search.marks.items ≡ marks → search.visits.items ≡ vs → IsSearchTree g P f vs → AreMarks g marks vs → IsSearch g.nodes search
+pub search_of : {g : Digraph} {P : List Bool} {f : ℕ → ℕ} (marks : List Bool) (vs : List Visit) (search : AugmentingSearch) → search.marks.items ≡ marks → search.visits.items ≡ vs → IsSearchTree g P f vs → AreMarks g marks vs → IsFlowSearch g.nodes search
 search_of {g = g} {P = P} {f = f} marks vs search marks-is visits-is tree ok = record {
   len = ap (λ (ms : List Bool). length ms) marks-is ∙ ok.len;
   inside = subst (λ (us : List Visit). All (λ v. v.node < g.nodes) us) (sym visits-is) (tree_within g P f vs tree);

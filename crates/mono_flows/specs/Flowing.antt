@@ -9,7 +9,7 @@ use Rattle.mono_flows.specs.declared.network.Network.{Network}
 use Rattle.mono_flows.specs.declared.flow.Flow.{Flow}
 use Rattle.mono_flows.specs.Residual.{amount_of, capacity}
 use Rattle.mono_flows.specs.declared.search.AugmentingSearch.{AugmentingSearch}
-use Rattle.mono_flows.specs.Visits.{AreMarks, IsBlocked, IsSearch}
+use Rattle.mono_flows.specs.Visits.{AreMarks, IsBlocked, IsFlowSearch}
 
 -- a flow from s to t of this value, which no amount exceeds
 pub record IsFlowing (g : Digraph) (P : List Bool) (s t : ℕ) (f : ℕ → ℕ) (value : ℕ) : Type 0 where
@@ -42,6 +42,6 @@ pub record IsFlowTowards (n : Network) (goal : ℕ) (f : Flow) : Type 0 where
 -- are those visited
 pub record HasEnded (n : Network) (goal : ℕ) (f : Flow) (last : AugmentingSearch) : Type 0 where
   pub flow : IsFlowTowards n goal f
-  pub search : IsSearch n.graph.now.nodes last
+  pub search : IsFlowSearch n.graph.now.nodes last
   pub marks : f.value < goal → AreMarks n.graph.now last.marks.items last.visits.items
   pub blocked : f.value < goal → IsBlocked n.graph.now n.part.now (amount_of f.amounts.items) n.source n.sink last.marks.items

@@ -41,7 +41,7 @@ pub record AreMarks (g : Digraph) (marks : List Bool) (vs : List Visit) : Type 0
   pub once : (i j : ℕ) → i < length vs → j < length vs → (visit_at vs i).node ≡ (visit_at vs j).node → i ≡ j
 
 -- what holds between searches as well: no node is marked that wasn't visited
-pub record IsSearch (nodes : ℕ) (search : AugmentingSearch) : Type 0 where
+pub record IsFlowSearch (nodes : ℕ) (search : AugmentingSearch) : Type 0 where
   pub len : length search.marks.items ≡ nodes
   pub inside : All (λ v. v.node < nodes) search.visits.items
   pub visited : (u : ℕ) → IsTrue (is_marked search.marks.items u) → IsTrue (has (map (λ v. v.node) search.visits.items) u)

@@ -10,7 +10,7 @@ ghost use Rattle.std.specs.Prelude.{◌≡◌, ◌≢◌, ◌<◌, ◌≤◌, �
 ghost use Rattle.mono_graph.specs.Flows.{amount_at};
 ghost use Rattle.mono_graph.specs.Digraph.{IsPartOf};
 ghost use Rattle.mono_flows.specs.Residual.{amount_of};
-ghost use Rattle.mono_flows.specs.Visits.{IsSearch};
+ghost use Rattle.mono_flows.specs.Visits.{IsFlowSearch};
 ghost use Rattle.mono_flows.specs.Flowing.{IsFlow, IsFlowing, IsFlowTowards, IsListing, HasEnded};
 ghost use Rattle.mono_flows.specs.Levels.{AreLevels};
 ghost use Rattle.mono_flows.specs.Rooms.{HasRoomFor, IsClearRoom};
@@ -186,13 +186,13 @@ fn begin(
     goal: u64,
 ) -> Result<Flow, AllocError>
     requires kept { All (λ a. a.edge < length network.now.graph.now.edges) kept.now }
-    requires search { IsSearch network.now.graph.now.nodes search.old }
+    requires search { IsFlowSearch network.now.graph.now.nodes search.old }
     requires sums { AreZero network.now.graph.now.nodes sums.old }
     requires clear { IsClearRoom room.old }
     requires fits { HasRoomFor (length network.now.graph.now.edges) room.old }
     ensures flow { IfOk result (IsFlow network.now) }
     ensures most { IfOk result (λ flow. flow.value ≤ goal) }
-    ensures search { IsSearch network.now.graph.now.nodes search.new }
+    ensures search { IsFlowSearch network.now.graph.now.nodes search.new }
     ensures sums { AreZero network.now.graph.now.nodes sums.new }
     ensures clear { IsClearRoom room.new }
 {
@@ -217,10 +217,10 @@ fn grow(
     goal: u64,
 ) -> Result<(), AllocError>
     requires flow { IsFlowTowards network.now goal flow.old }
-    requires search { IsSearch network.now.graph.now.nodes search.old }
+    requires search { IsFlowSearch network.now.graph.now.nodes search.old }
     requires levels { AreLevels network.now.graph.now.nodes levels.old }
     ensures ended { OnOk result (HasEnded network.now goal flow.new search.new) }
-    ensures search { IsSearch network.now.graph.now.nodes search.new }
+    ensures search { IsFlowSearch network.now.graph.now.nodes search.new }
     ensures levels { AreLevels network.now.graph.now.nodes levels.new }
 {
     while flow.value < goal {

@@ -9,7 +9,7 @@
 ghost use Rattle.std.specs.Prelude.{◌≡◌, ◌≢◌, ◌<◌, All, IfOk, length};
 ghost use Rattle.mono_flows.specs.Mending.{IsPreflow};
 ghost use Rattle.mono_flows.specs.Residual.{amount_of};
-ghost use Rattle.mono_flows.specs.Visits.{IsAugmentingPath, IsSearch};
+ghost use Rattle.mono_flows.specs.Visits.{IsAugmentingPath, IsFlowSearch};
 
 use crate::kept_flow::{edges_of, put_amounts};
 use crate::listing::drain;
@@ -124,9 +124,9 @@ impl Preflow {
     ) -> Result<u64, AllocError>
         requires apart { network.now.source ≢ network.now.sink }
         requires flow { IsPreflow network.now.graph.now self.old }
-        requires search { IsSearch network.now.graph.now.nodes search.old }
+        requires search { IsFlowSearch network.now.graph.now.nodes search.old }
         ensures flow { IsPreflow network.now.graph.now self.new }
-        ensures search { IsSearch network.now.graph.now.nodes search.new }
+        ensures search { IsFlowSearch network.now.graph.now.nodes search.new }
     {
         let mut left = amount;
         while left > 0 {
@@ -151,9 +151,9 @@ impl Preflow {
     ) -> Result<u64, AllocError>
         requires known { lost.edge < length network.now.graph.now.edges }
         requires flow { IsPreflow network.now.graph.now self.old }
-        requires search { IsSearch network.now.graph.now.nodes search.old }
+        requires search { IsFlowSearch network.now.graph.now.nodes search.old }
         ensures flow { IsPreflow network.now.graph.now self.new }
-        ensures search { IsSearch network.now.graph.now.nodes search.new }
+        ensures search { IsFlowSearch network.now.graph.now.nodes search.new }
     {
         network.graph.known();
         let edge = network.graph.edge(lost.edge);
@@ -179,9 +179,9 @@ impl Preflow {
     ) -> Result<(), AllocError>
         requires known { All (λ a. a.edge < length network.now.graph.now.edges) listed.now }
         requires flow { IsPreflow network.now.graph.now self.old }
-        requires search { IsSearch network.now.graph.now.nodes search.old }
+        requires search { IsFlowSearch network.now.graph.now.nodes search.old }
         ensures flow { IsPreflow network.now.graph.now self.new }
-        ensures search { IsSearch network.now.graph.now.nodes search.new }
+        ensures search { IsFlowSearch network.now.graph.now.nodes search.new }
     {
         let mut falls = false;
         for old in listed {
@@ -292,9 +292,9 @@ pub(crate) fn mend(
     listed: &[Amount],
 ) -> Result<Vec<Amount>, AllocError>
     requires known { All (λ a. a.edge < length network.now.graph.now.edges) listed.now }
-    requires search { IsSearch network.now.graph.now.nodes search.old }
+    requires search { IsFlowSearch network.now.graph.now.nodes search.old }
     ensures known { IfOk result (λ left. All (λ a. a.edge < length network.now.graph.now.edges) left.items) }
-    ensures search { IsSearch network.now.graph.now.nodes search.new }
+    ensures search { IsFlowSearch network.now.graph.now.nodes search.new }
 {
     let spare = mem::replace(room, Vec::new(alloc));
     let mut flow = Preflow::of(alloc, network, spare, listed)?;

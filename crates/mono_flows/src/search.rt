@@ -7,7 +7,7 @@
 ghost use Rattle.std.specs.Prelude.{◌≡◌, ◌≢◌, ◌<◌, ℕ, [], false, IfOk, IfSome, OnSome, IfNone, All, length, map, IsTrue, min};
 ghost use Rattle.mono_graph.specs.Digraph.{edge_at, has};
 ghost use Rattle.mono_flows.specs.Residual.{amount_of, residual_at, start_of, end_of};
-ghost use Rattle.mono_flows.specs.Visits.{visit_at, is_marked, IsSearch, IsSearchTree, AreMarks, GoesOn, CameTo, IsExpanded, IsAugmentingPath, IsBlocked};
+ghost use Rattle.mono_flows.specs.Visits.{visit_at, is_marked, IsFlowSearch, IsSearchTree, AreMarks, GoesOn, CameTo, IsExpanded, IsAugmentingPath, IsBlocked};
 
 use crate::network::{Network, ResidualEdge};
 use crate::visit::Visit;
@@ -35,7 +35,7 @@ fn unmark_visits(marks: &mut Vec<bool>, visits: &[Visit])
 impl AugmentingSearch {
     /// A search that has visited nothing, in a graph of this many nodes.
     pub fn new(alloc: Global, nodes: u32) -> Result<Self, AllocError>
-        ensures { IfOk result (IsSearch nodes) }
+        ensures { IfOk result (IsFlowSearch nodes) }
     {
         Ok(AugmentingSearch {
             marks: vec![in alloc; false; nodes as usize]?,
@@ -45,7 +45,7 @@ impl AugmentingSearch {
 
     /// Takes the visits back, and the marks off their nodes.
     fn clear(&mut self)
-        requires search { IsSearch (length self.old.marks.items) self.old }
+        requires search { IsFlowSearch (length self.old.marks.items) self.old }
         ensures len { length self.new.marks.items ≡ length self.old.marks.items }
         ensures clear { (u : ℕ) → is_marked self.new.marks.items u ≡ false }
         ensures visits { self.new.visits.items ≡ [] }
@@ -108,7 +108,7 @@ impl AugmentingSearch {
         requires at { at < length self.old.visits.items }
         requires tree { IsSearchTree network.now.graph.now network.now.part.now (amount_of amounts.now) self.old.visits.items }
         requires marks { AreMarks network.now.graph.now self.old.marks.items self.old.visits.items }
-        ensures search { IsSearch network.now.graph.now.nodes self.new }
+        ensures search { IsFlowSearch network.now.graph.now.nodes self.new }
         ensures goes_on { IfOk result (λ _. GoesOn network.now amounts.now self.old self.new) }
         ensures came { IfOk result (CameTo network.now.sink self.old self.new) }
         ensures covers { IfOk result (λ found. found ≡ false → (k : ℕ) → IsTrue (has places.now k)
@@ -142,7 +142,7 @@ impl AugmentingSearch {
         requires at { at < length self.old.visits.items }
         requires tree { IsSearchTree network.now.graph.now network.now.part.now (amount_of amounts.now) self.old.visits.items }
         requires marks { AreMarks network.now.graph.now self.old.marks.items self.old.visits.items }
-        ensures search { IsSearch network.now.graph.now.nodes self.new }
+        ensures search { IsFlowSearch network.now.graph.now.nodes self.new }
         ensures goes_on { IfOk result (λ _. GoesOn network.now amounts.now self.old self.new) }
         ensures came { IfOk result (CameTo network.now.sink self.old self.new) }
         ensures covers { IfOk result (λ found. found ≡ false
@@ -166,10 +166,10 @@ impl AugmentingSearch {
         most: u64,
     ) -> Result<bool, AllocError>
         requires amounts { length amounts.now ≡ length network.now.graph.now.edges }
-        requires search { IsSearch network.now.graph.now.nodes self.old }
+        requires search { IsFlowSearch network.now.graph.now.nodes self.old }
         requires apart { network.now.source ≢ network.now.sink }
         requires most { 0 < most }
-        ensures search { IsSearch network.now.graph.now.nodes self.new }
+        ensures search { IsFlowSearch network.now.graph.now.nodes self.new }
         ensures found { IfOk result (λ found. IsTrue found
             → IsAugmentingPath network.now.graph.now network.now.part.now
             (amount_of amounts.now) network.now.source network.now.sink most self.new.visits.items) }

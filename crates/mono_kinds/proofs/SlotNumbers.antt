@@ -27,7 +27,7 @@ use Rattle.mono_theory.specs.Theories.{Facts, owns_of}
 use Rattle.mono_theory.proofs.AtomsByNumber.{own_number, IsHeld}
 use Rattle.mono_theory.proofs.LemmasAreJustified.{numbered_is}
 use Rattle.mono_theory.proofs.WalksAsEvidence.{all_by}
-use Rattle.mono_kinds.specs.Sharing.{are_alike, kind_index}
+use Rattle.mono_kinds.specs.Sharing.{are_alike, kind_count, kind_index}
 use Rattle.mono_kinds.specs.Slots.{slot_of, slot_count, numbers_in, AreSlots, AreMade, made_of}
 
 -- ---- the numbers of a slot
@@ -90,8 +90,8 @@ slots_more p m lists lt h = record {
 
 -- ---- the theory of a slot
 
--- the numbers of kinds are below 5
-pub kind_few : (q : Predicate) → kind_index q < 5
+-- the numbers of kinds are below their count
+pub kind_few : (q : Predicate) → kind_index q < kind_count
 kind_few (kind.Reach u v) = omega arith
 kind_few (kind.Steps u v most) = omega arith
 kind_few (kind.Distance u v most) = omega arith
@@ -141,16 +141,16 @@ acyclic_kind (kind.Tree most) e = absurd (omega (arith, e))
 acyclic_kind kind.Acyclic e = refl
 
 -- a slot's graph and kind
-slot_parts : (x : Atom) (j : ℕ) → slot_of x ≡ j → (x.graph ≡ j / 5) × (kind_index x.predicate ≡ j % 5)
+slot_parts : (x : Atom) (j : ℕ) → slot_of x ≡ j → (x.graph ≡ j / kind_count) × (kind_index x.predicate ≡ j % kind_count)
 slot_parts x j e = let few = kind_few x.predicate in (omega (arith, e, few), omega (arith, e, few))
 
 held_in : (p : Instance) (j : ℕ) → All (IsHeld p) (numbers_in p (length p.atoms) j)
 held_in p j = all_by (IsHeld p) (numbers_in p (length p.atoms) j) (λ n h. let r = in_range p (length p.atoms) j n h in (r.0, r.1))
 
-graph_in : (p : Instance) (j : ℕ) → All (λ n. (atom_numbered p n).graph ≡ j / 5) (numbers_in p (length p.atoms) j)
-graph_in p j = all_by (λ n. (atom_numbered p n).graph ≡ j / 5) (numbers_in p (length p.atoms) j) (λ n h. (slot_parts (atom_numbered p n) j (in_range p (length p.atoms) j n h).2).0)
+graph_in : (p : Instance) (j : ℕ) → All (λ n. (atom_numbered p n).graph ≡ j / kind_count) (numbers_in p (length p.atoms) j)
+graph_in p j = all_by (λ n. (atom_numbered p n).graph ≡ j / kind_count) (numbers_in p (length p.atoms) j) (λ n h. (slot_parts (atom_numbered p n) j (in_range p (length p.atoms) j n h).2).0)
 
-pub numbers_are : (covers : Predicate → Bool) (p : Instance) (j k : ℕ) → j % 5 ≡ k → ((q : Predicate) → kind_index q ≡ k → IsTrue (covers q)) → AreNumbersOf covers p (j / 5) (numbers_in p (length p.atoms) j)
+pub numbers_are : (covers : Predicate → Bool) (p : Instance) (j k : ℕ) → j % kind_count ≡ k → ((q : Predicate) → kind_index q ≡ k → IsTrue (covers q)) → AreNumbersOf covers p (j / kind_count) (numbers_in p (length p.atoms) j)
 numbers_are covers p j k is of_kind = record {
   held = held_in p j;
   graph = graph_in p j;
@@ -176,10 +176,10 @@ exact_made p j ok =
     let held = held_in p j i d lt in
     ap (numbered p.atoms) (own_number p n ok held) ∙ numbered_is p n held.0 held.1)
 
-graphs_made : (p : Instance) (j : ℕ) → All (λ x. graph_at p (j / 5) ≡ graph_at p x.graph) (made_of p j (numbers_in p (length p.atoms) j)).atoms
+graphs_made : (p : Instance) (j : ℕ) → All (λ x. graph_at p (j / kind_count) ≡ graph_at p x.graph) (made_of p j (numbers_in p (length p.atoms) j)).atoms
 graphs_made p j =
     let ns : List ℕ = numbers_in p (length p.atoms) j in
-    All-map (λ (x : Atom). graph_at p (j / 5) ≡ graph_at p x.graph) (atom_numbered p) ns (λ i d lt. ap (graph_at p) (sym (graph_in p j i d lt)))
+    All-map (λ (x : Atom). graph_at p (j / kind_count) ≡ graph_at p x.graph) (atom_numbered p) ns (λ i d lt. ap (graph_at p) (sym (graph_in p j i d lt)))
 
 -- two atoms are of one slot exactly where they are alike
 one_slot : (x y : Atom) → (slot_of y == slot_of x) ≡ are_alike x y

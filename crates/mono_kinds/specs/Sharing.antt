@@ -15,6 +15,10 @@ kind_index (kind.Flow s t least) = 2
 kind_index (kind.Tree most) = 3
 kind_index kind.Acyclic = 4
 
+-- how many kinds there are
+abbrev pub kind_count : ℕ
+kind_count = 5
+
 -- two atoms are over one graph, and their predicates are of one kind
 abbrev pub are_alike : Atom → Atom → Bool
 are_alike x y = x.graph == y.graph && kind_index x.predicate == kind_index y.predicate

@@ -5,14 +5,14 @@ use Rattle.mono_problem.specs.declared.atom.Atom.{Atom}
 use Rattle.mono_problem.specs.Instance.{Instance, graph_at, numbered}
 use Rattle.mono_problem.specs.Read.{atom_numbered}
 use Rattle.mono_theory.specs.Theories.{Facts, owns_of}
-use Rattle.mono_kinds.specs.Sharing.{AreByGraphAndKind, kind_index}
+use Rattle.mono_kinds.specs.Sharing.{AreByGraphAndKind, kind_count, kind_index}
 
 -- the slot of an atom: each graph has one for each kind
 abbrev pub slot_of : Atom → ℕ
-slot_of x = 5 * x.graph + kind_index x.predicate
+slot_of x = kind_count * x.graph + kind_index x.predicate
 
 abbrev pub slot_count : Instance → ℕ
-slot_count p = 5 * length p.graphs
+slot_count p = kind_count * length p.graphs
 
 -- of the first m atoms, the numbers of those in the slot
 abbrev pub numbers_in : Instance → ℕ → ℕ → List ℕ
@@ -25,7 +25,7 @@ pub record AreSlots (p : Instance) (m : ℕ) (lists : List (List ℕ)) : Type 0 
 
 -- the theory of a slot, which has seen nothing
 abbrev pub made_of : Instance → ℕ → List ℕ → Facts
-made_of p j ns = record { graph = graph_at p (j / 5); atoms = map (atom_numbered p) ns; seen = [] }
+made_of p j ns = record { graph = graph_at p (j / kind_count); atoms = map (atom_numbered p) ns; seen = [] }
 
 -- the theories of the first j slots: each atom there is one theory's
 pub record AreMade (p : Instance) (j : ℕ) (fs : List Facts) : Type 0 where

@@ -7,7 +7,7 @@ ghost use Rattle.mono_kinds.specs.Sharing.{AreByGraphAndKind};
 ghost use Rattle.mono_kinds.specs.Slots.{AreMade, AreSlots, made_of, numbers_in, slot_count as count_of_slots};
 
 use crate::AnyTheory;
-use crate::slots::{slot_count, slots_of};
+use crate::slots::{KINDS, slot_count, slots_of};
 use mono_acyclic::AcyclicTheory;
 use mono_base::Buckets;
 use mono_distance::DistanceTheory;
@@ -28,8 +28,8 @@ fn theory_of(
     requires numbers { numbers.now ≡ numbers_in problem.now (length problem.now.atoms) slot }
     ensures { IfOk result (λ t. fact_of graph_of atoms_of seen_of t ≡ made_of problem.now slot numbers.now) }
 {
-    let graph = slot / 5;
-    let kind = slot % 5;
+    let graph = slot / KINDS;
+    let kind = slot % KINDS;
     if kind == 0 {
         let theory = ReachTheory::new(alloc, problem, graph, numbers)?;
         return Ok(AnyTheory::Reach(theory));
@@ -59,7 +59,7 @@ fn theories_of(
     requires slots { AreSlots problem.now (length problem.now.atoms) slots.now }
     ensures { IfOk result (λ ts. AreMade problem.now (count_of_slots problem.now) (facts_of graph_of atoms_of seen_of ts.items)) }
 {
-    let _ = problem.vars();
+    problem.known();
     let mut theories = Vec::new(alloc);
     for slot in 0..slot_count(problem) {
         let numbers = slots.list(slot);
@@ -77,7 +77,7 @@ pub fn all_theories(alloc: Global, problem: &Problem) -> Result<Vec<AnyTheory>, 
     ensures shared { IfOk result (λ ts. AreByGraphAndKind problem.now (facts_of graph_of atoms_of seen_of ts.items)) }
     ensures unseen { IfOk result (λ ts. All (λ f. f.seen ≡ []) (facts_of graph_of atoms_of seen_of ts.items)) }
 {
-    let _ = problem.vars();
+    problem.known();
     let slots = slots_of(alloc, problem)?;
     theories_of(alloc, problem, &slots)
 }

@@ -16,7 +16,7 @@ use Rattle.mono_steps.proofs.StepLists.{numbered_more, length_clauses}
 use Rattle.mono_trail.specs.declared.reason.Reason.TheVariants.{Clause, Late}
 use Rattle.mono_trail.specs.Places.{reason_at, place_in}
 use Rattle.mono_trail.specs.Moves.{settled, settled_where, settled_at, HasLate}
-use Rattle.mono_trail.specs.TrailView.{TrailView, IsSound}
+use Rattle.mono_trail.specs.TrailView.{TrailView, IsSoundTrail}
 use Rattle.mono_steps.specs.Journals.{lemma_steps, AddsLemmas}
 use Rattle.mono_steps.proofs.JournalSteps.{after-append}
 use Rattle.mono_learn.specs.Explain.{IsExplanation}
@@ -96,7 +96,7 @@ pub record IsAsked (p : Instance) (shown : ℕ → List ℤ) (t0 : TrailView) (j
   pub why : reason_at t.marks place ≡ Clause n
 
 -- a literal's reason is late
-pub late_there : (t : TrailView) (place atom kept v : ℕ) (x : ℤ) → IsSound t → place < length t.lits → x ≡ lit_at t.lits place → v ≡ var_of x → reason_at t.marks place ≡ Late atom kept → HasLate t v
+pub late_there : (t : TrailView) (place atom kept v : ℕ) (x : ℤ) → IsSoundTrail t → place < length t.lits → x ≡ lit_at t.lits place → v ≡ var_of x → reason_at t.marks place ≡ Late atom kept → HasLate t v
 late_there t place atom kept v x s lt ex ev late = record { place = place; is = ap (place_in t.lits) (ev ∙ ap var_of ex) ∙ place_in_at t.lits place s.partial lt; atom = atom; kept = kept; late = late }
 
 -- the literal at a place was forced
@@ -107,7 +107,7 @@ was_forced p cs shown t k a q r lt e = subst (ReasonHolds p cs shown t.lits k) e
 pub was_unit : (p : Instance) (cs : List (List ℤ)) (shown : ℕ → List ℤ) (t : TrailView) (k n : ℕ) → HasReasons p cs shown t → k < length t.lits → reason_at t.marks k ≡ Clause n → WasUnit cs t.lits k n
 was_unit p cs shown t k n r lt e = subst (ReasonHolds p cs shown t.lits k) e (r.at k lt)
 
-pub late_asked : (p : Instance) (shown : ℕ → List ℤ) (t t' : TrailView) (j j' : List Step) (place atom kept n v : ℕ) (x : ℤ) (m : Lemma) → IsSound t → place < length t.lits → x ≡ lit_at t.lits place → v ≡ var_of x → HasReasons p (clauses_after p j) shown t → reason_at t.marks place ≡ Late atom kept
+pub late_asked : (p : Instance) (shown : ℕ → List ℤ) (t t' : TrailView) (j j' : List Step) (place atom kept n v : ℕ) (x : ℤ) (m : Lemma) → IsSoundTrail t → place < length t.lits → x ≡ lit_at t.lits place → v ≡ var_of x → HasReasons p (clauses_after p j) shown t → reason_at t.marks place ≡ Late atom kept
     → IsExplanation p (take kept (shown atom)) atom x m → j' ≡ j ++ step.Lemma m ∷ [] → n ≡ length (clauses_after p j') → (IsTrue (are_justified p j) → IsTrue (are_justified p j')) → t' ≡ settled t v n → IsAsked p shown t j t' j' place n
 late_asked p shown t t' j j' place atom kept n v x m s lt ex ev r late e ej en keeps et = record {
   asks = record {

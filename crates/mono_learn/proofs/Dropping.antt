@@ -10,7 +10,7 @@ use Rattle.mono_problem.specs.Instance.{numbered}
 use Rattle.mono_trail.specs.declared.reason.Reason.TheVariants.{Clause}
 use Rattle.mono_trail.specs.Places.{reason_at}
 use Rattle.mono_trail.specs.Seen.{is_marked}
-use Rattle.mono_trail.specs.TrailView.{TrailView, IsSound}
+use Rattle.mono_trail.specs.TrailView.{TrailView, IsSoundTrail}
 use Rattle.mono_learn.specs.Resolvents.{FalseBy}
 use Rattle.mono_learn.specs.Minimizing.{AreReasons, IsCovered, IsUncovered, IsRedundantAt, IsDropped, AreDropped}
 use Rattle.mono_learn.proofs.LitSets.{true_false, without_has}
@@ -35,7 +35,7 @@ stays_for_other cs t seen k none = stays cs t seen k (λ r. none r.number r.why)
 pub stays_unmarked : (cs : List (List ℤ)) (t : TrailView) (seen : List Bool) (k : ℕ) → is_marked seen k ≡ false → IsDropped cs t seen seen k
 stays_unmarked cs t seen k off = record { gone = λ on z. absurd (true_false (is_marked seen k) on off); left = λ on r. true_false (is_marked seen k) on off }
 
-pub stays_uncovered : (cs : List (List ℤ)) (t : TrailView) (seen : List Bool) (k n : ℕ) (r : List ℤ) → IsSound t → reason_at t.marks k ≡ Clause n → numbered cs n ≡ Some r → IsUncovered t.lits seen (without r (lit_at t.lits k)) → IsDropped cs t seen seen k
+pub stays_uncovered : (cs : List (List ℤ)) (t : TrailView) (seen : List Bool) (k n : ℕ) (r : List ℤ) → IsSoundTrail t → reason_at t.marks k ≡ Clause n → numbered cs n ≡ Some r → IsUncovered t.lits seen (without r (lit_at t.lits k)) → IsDropped cs t seen seen k
 stays_uncovered cs t seen k n r s e is u = stays cs t seen k (λ d.
     let same : n ≡ d.number = (let g : Clause n ≡ Clause d.number = sym e ∙ d.why in cc) in
     let at : r ≡ d.reason = same_Some r d.reason (sym is ∙ ap (numbered cs) same ∙ d.is) in
@@ -48,7 +48,7 @@ goes_covered cs t seen k n r e is h = record {
 }
 
 -- what is redundant depends on the marks of lower places alone
-pub redundant_same : (cs : List (List ℤ)) (t : TrailView) (a b : List Bool) (k : ℕ) → IsSound t → AreReasons cs t → k < length t.lits → ((j : ℕ) → j < k → is_marked a j ≡ is_marked b j) → IsRedundantAt cs t a k → IsRedundantAt cs t b k
+pub redundant_same : (cs : List (List ℤ)) (t : TrailView) (a b : List Bool) (k : ℕ) → IsSoundTrail t → AreReasons cs t → k < length t.lits → ((j : ℕ) → j < k → is_marked a j ≡ is_marked b j) → IsRedundantAt cs t a k → IsRedundantAt cs t b k
 redundant_same cs t a b k s reasons lt same d = record {
   number = d.number;
   reason = d.reason;
@@ -82,7 +82,7 @@ dropped_none cs t seen kept n le = record {
 pub at_or_above : (i j : ℕ) → i ≤ j → (j ≡ i) ⊎ (i + 1 ≤ j)
 at_or_above i j le = elim (cases_lt j (i + 1)) [ inl a ↦ inl (omega arith) | inr b ↦ inr b ]
 
-pub dropped_more : (cs : List (List ℤ)) (t : TrailView) (old mid new : List Bool) (kept : List ℕ) (n i p : ℕ) → IsSound t → AreReasons cs t → p < length t.lits → IsNonDecreasing kept → n ≡ i + 1 → n ≤ length kept → p ≡ get_or kept i 0 → AreDropped cs t old mid kept n → IsDropped cs t mid new p
+pub dropped_more : (cs : List (List ℤ)) (t : TrailView) (old mid new : List Bool) (kept : List ℕ) (n i p : ℕ) → IsSoundTrail t → AreReasons cs t → p < length t.lits → IsNonDecreasing kept → n ≡ i + 1 → n ≤ length kept → p ≡ get_or kept i 0 → AreDropped cs t old mid kept n → IsDropped cs t mid new p
     → ((k : ℕ) → k ≢ p → is_marked new k ≡ is_marked mid k) → ((k : ℕ) → is_marked new k ≡ true → is_marked mid k ≡ true) → AreDropped cs t old new kept i
 dropped_more cs t old mid new kept n i p s reasons lt up en within ep h d others fewer = record {
   fewer = λ k on. h.fewer k (fewer k on);

@@ -13,7 +13,7 @@ use Rattle.mono_trail.specs.declared.reason.Reason.{Reason}
 use Rattle.mono_trail.specs.declared.reason.Reason.TheVariants.{Decided, Clause, Late}
 use Rattle.mono_trail.specs.Places.{reason_at, level_at, no_mark}
 use Rattle.mono_trail.specs.Moves.{joined, lowered}
-use Rattle.mono_trail.specs.TrailView.{TrailView, IsSound, Climbs, next_level, count_to, StandsAt}
+use Rattle.mono_trail.specs.TrailView.{TrailView, IsSoundTrail, Climbs, next_level, count_to, StandsAt}
 use Rattle.mono_learn.specs.Explain.{AtomForces}
 use Rattle.mono_learn.specs.Reasons.{ReasonHolds, HasReasons}
 use Rattle.mono_learn.specs.Learned.{IsLearnt}
@@ -60,7 +60,7 @@ may_hold p cs shown t l (Late a q) w =
 
 -- ---- a literal joins
 
-pub reasons_joined : (p : Instance) (cs : List (List ℤ)) (shown : ℕ → List ℤ) (t : TrailView) (l : ℤ) (why : Reason) → IsSound t → HasReasons p cs shown t → MayJoin p cs shown t.lits l why → HasReasons p cs shown (joined t l why)
+pub reasons_joined : (p : Instance) (cs : List (List ℤ)) (shown : ℕ → List ℤ) (t : TrailView) (l : ℤ) (why : Reason) → IsSoundTrail t → HasReasons p cs shown t → MayJoin p cs shown t.lits l why → HasReasons p cs shown (joined t l why)
 reasons_joined p cs shown t l why s r may = record { at = λ k lt. by_place k (omega (arith, lt, length-append t.lits (l ∷ []))) (cases_lt k (length t.lits)) }
   where
     new : Mark
@@ -112,7 +112,7 @@ level_above low ms top j k c le lt = elim (cases_lt j (level_at ms k)) [
   | inr up_to ↦ absurd (omega (arith, le, (up_to_level low ms top j k c lt).1 up_to))
 ]
 
-pub learnt_asserts : (t : TrailView) (c : List ℤ) (back level : ℕ) → IsSound t → (a : IsLearnt t c back) → back ≤ level → level < t.level → IsUnitIn (take (count_to level t.marks) t.lits) c a.lit
+pub learnt_asserts : (t : TrailView) (c : List ℤ) (back level : ℕ) → IsSoundTrail t → (a : IsLearnt t c back) → back ≤ level → level < t.level → IsUnitIn (take (count_to level t.marks) t.lits) c a.lit
 learnt_asserts t c back level s a low high = record {
   has = a.has;
   open_now = and_from (not (has_lit (take n t.lits) a.lit)) (not (has_lit (take n t.lits) (neg_ℤ a.lit))) (off (has_lit (take n t.lits) a.lit) not_true) (off (has_lit (take n t.lits) (neg_ℤ a.lit)) not_false);

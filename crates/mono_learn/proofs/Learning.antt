@@ -11,7 +11,7 @@ use Rattle.mono_problem.specs.Instance.{Instance, numbered}
 use Rattle.mono_steps.specs.declared.step.Chain.{Chain}
 use Rattle.mono_steps.specs.Chains.{chain_end}
 use Rattle.mono_steps.specs.ChainSteps.{clauses_named, names_clauses, names_vars, covers, is_justified_chain}
-use Rattle.mono_trail.specs.TrailView.{StandsAt, TrailView, IsSound, count_to}
+use Rattle.mono_trail.specs.TrailView.{StandsAt, TrailView, IsSoundTrail, count_to}
 use Rattle.mono_trail.specs.Seen.{is_marked, IsUnseen}
 use Rattle.mono_learn.specs.declared.resolvent.Resolvent.{Resolvent}
 use Rattle.mono_learn.specs.Reasons.{IsFalseClause, IsConflict, HasReasons}
@@ -68,7 +68,7 @@ fresh_stands t start m f = record {
 }
 
 -- a true literal is not in a false clause
-not_in_false : (t : TrailView) (c : List ℤ) (k : ℕ) (l : ℤ) → IsSound t → k < length t.lits → AllFalse t.lits (length t.lits) c → IsTrue (has_lit c l) → l ≡ lit_at t.lits k → ⊥
+not_in_false : (t : TrailView) (c : List ℤ) (k : ℕ) (l : ℤ) → IsSoundTrail t → k < length t.lits → AllFalse t.lits (length t.lits) c → IsTrue (has_lit c l) → l ≡ lit_at t.lits k → ⊥
 not_in_false t c k l s lt f h e = let b = f.are l h in no_opposites t k b.place l s lt b.within (sym e) b.there
 
 are_false : (cs : List (List ℤ)) (t : List ℤ) (n : ℕ) (c : List ℤ) → (w : IsFalseClause cs t n) → numbered cs n ≡ Some c → AllFalse t (length t) c
@@ -82,7 +82,7 @@ named_by : (cs : List (List ℤ)) (n : ℕ) (c : List ℤ) → numbered cs n ≡
 named_by cs n c is = let i = is_number cs n c is in and_from (nat_le 1 n) (nat_le n (length cs)) (le-leb 1 n i.low) (le-leb n (length cs) i.high)
 
 -- the chain begins with the false clause
-pub begins : (cs : List (List ℤ)) (t : TrailView) (start n : ℕ) (old new : Resolvent) (c : List ℤ) (x : ℤ) (used : List ℕ) → IsSound t → start < length t.lits → x ≡ lit_at t.lits start → IsFalseClause cs t.lits n → numbered cs n ≡ Some c → IsFresh (length t.lits) old → Joins t.lits start old new (without c x) → used ≡ n ∷ [] → HasCome cs t.lits start (length t.lits) new used
+pub begins : (cs : List (List ℤ)) (t : TrailView) (start n : ℕ) (old new : Resolvent) (c : List ℤ) (x : ℤ) (used : List ℕ) → IsSoundTrail t → start < length t.lits → x ≡ lit_at t.lits start → IsFalseClause cs t.lits n → numbered cs n ≡ Some c → IsFresh (length t.lits) old → Joins t.lits start old new (without c x) → used ≡ n ∷ [] → HasCome cs t.lits start (length t.lits) new used
 begins cs t start n old new c x used s lt ex w is f j eu =
     let are = are_false cs t.lits n c w is in
     let stands : StandsFor t.lits start (length t.lits) new (without c x) = j.resolvent (length t.lits) [] (λ l h. are.are l (without_has c x l h).0) (fresh_stands t.lits start old f) in
@@ -109,14 +109,14 @@ pub false_of : (cs : List (List ℤ)) (t : TrailView) (n : ℕ) → IsConflict c
 false_of cs t n w = record { clause = w.clause; is = w.is; is_false = w.is_false }
 
 -- a literal of the present level is counted
-some_count : (cs : List (List ℤ)) (t : TrailView) (start n : ℕ) (m : Resolvent) (used : List ℕ) → IsSound t → 1 ≤ t.level → start ≡ count_to (t.level - 1) t.marks → (w : IsConflict cs t n) → (h : HasCome cs t.lits start (length t.lits) m used) → h.end ≡ w.clause → 1 ≤ m.count
+some_count : (cs : List (List ℤ)) (t : TrailView) (start n : ℕ) (m : Resolvent) (used : List ℕ) → IsSoundTrail t → 1 ≤ t.level → start ≡ count_to (t.level - 1) t.marks → (w : IsConflict cs t n) → (h : HasCome cs t.lits start (length t.lits) m used) → h.end ≡ w.clause → 1 ≤ m.count
 some_count cs t start n m used s one e w h is =
     let high : start ≤ w.present.place = present_high t start (neg_ℤ w.lit) one e w.present in
     let k = h.resolvent.marks.only w.lit (subst (λ (d : List ℤ). IsTrue (has_lit d w.lit)) (sym is) w.has) in
     let same : k.place ≡ w.present.place = one_place t.lits k.place w.present.place s.partial k.below w.present.within (ap var_of (k.there ∙ sym w.present.there)) in
     omega (arith, h.resolvent.counted, mark_less start k.place m.seen.items (omega (arith, same, high)) k.marked)
 
-pub begins_some : (cs : List (List ℤ)) (t : TrailView) (start n : ℕ) (old new : Resolvent) (c : List ℤ) (x : ℤ) (used : List ℕ) → IsSound t → 1 ≤ t.level → start ≡ count_to (t.level - 1) t.marks → start < length t.lits → x ≡ lit_at t.lits start → IsConflict cs t n → numbered cs n ≡ Some c → IsFresh (length t.lits) old → Joins t.lits start old new (without c x) → used ≡ n ∷ [] → 1 ≤ new.count
+pub begins_some : (cs : List (List ℤ)) (t : TrailView) (start n : ℕ) (old new : Resolvent) (c : List ℤ) (x : ℤ) (used : List ℕ) → IsSoundTrail t → 1 ≤ t.level → start ≡ count_to (t.level - 1) t.marks → start < length t.lits → x ≡ lit_at t.lits start → IsConflict cs t n → numbered cs n ≡ Some c → IsFresh (length t.lits) old → Joins t.lits start old new (without c x) → used ≡ n ∷ [] → 1 ≤ new.count
 unfolding begins
 begins_some cs t start n old new c x used s one e lt ex w is f j eu =
     some_count cs t start n new used s one e w (begins cs t start n old new c x used s lt ex (false_of cs t n w) is f j eu) (same_Some c w.clause (sym is ∙ w.is))
@@ -163,7 +163,7 @@ exact_justified p cs c vars a = and_from (names_vars p c.clause && names_clauses
     (and_from (names_vars p c.clause) (names_clauses cs c.used) vars a.named)
     (rw a.is_end (from_each (has_lit c.clause) a.end (λ l h. a.same l ∙ h)))
 
-pub learnt_vars : (p : Instance) (t : TrailView) (back : ℕ) (lits : List ℤ) → IsSound t → t.vars ≡ p.vars → IsLearnt t lits back → IsTrue (names_vars p lits)
+pub learnt_vars : (p : Instance) (t : TrailView) (back : ℕ) (lits : List ℤ) → IsSoundTrail t → t.vars ≡ p.vars → IsLearnt t lits back → IsTrue (names_vars p lits)
 learnt_vars p t back lits s ev a = false_vars p t lits s ev (learnt_false t lits back a)
 
 pub pushes_by : (p : Instance) (j j' : List Step) (c : List ℤ) (used used' : List ℕ) (n : ℕ) → IsExactEnd (clauses_after p j) (record { clause = c; used = used }) → used' ≡ used → j' ≡ j ++ step.Chain (record { clause = c; used = used' }) ∷ [] → n ≡ length (clauses_after p j')

@@ -7,7 +7,7 @@ use Rattle.mono_trail.specs.declared.reason.Mark.{Mark}
 use Rattle.mono_trail.specs.declared.reason.Reason.{Reason}
 use Rattle.mono_trail.specs.declared.reason.Reason.TheVariants.{Decided, Clause, Late}
 use Rattle.mono_trail.specs.Places.{reason_at, level_at}
-use Rattle.mono_trail.specs.TrailView.{count_to, TrailView, IsSound, Climbs, next_level, StandsAt}
+use Rattle.mono_trail.specs.TrailView.{count_to, TrailView, IsSoundTrail, Climbs, next_level, StandsAt}
 use Rattle.mono_trail.proofs.Levels.{next_at_least, climbs_to, at_most, up_to_level, kept_low}
 use Rattle.mono_base.specs.Literal.{has_lit}
 use Rattle.mono_base.proofs.Truth.{same_lit, lit_itself}
@@ -36,10 +36,10 @@ implied_after low (m ∷ ms) top (suc k) c one lt in_list d = by_level (nat_le m
     by_level true e ih = ih (let z : count_to (top - 1) (m ∷ ms) ≡ count_to (top - 1) ms + 1 = rw e refl in omega (arith, z, lt))
     by_level false e ih = implied_on m.level ms top k c.1 (omega (arith, leb-false m.level (top - 1) e)) (omega (arith, in_list)) d
 
-pub all_implied : (t : TrailView) (start : ℕ) → IsSound t → 1 ≤ t.level → start ≡ count_to (t.level - 1) t.marks → AllImplied t start
+pub all_implied : (t : TrailView) (start : ℕ) → IsSoundTrail t → 1 ≤ t.level → start ≡ count_to (t.level - 1) t.marks → AllImplied t start
 all_implied t start s one e = record { at = λ k lt in_list d. implied_after 0 t.marks t.level k s.climbs one (omega (arith, lt, e)) (omega (arith, in_list, s.as_many)) d }
 
-pub none_decided : (t : TrailView) (k : ℕ) → IsSound t → t.level ≡ 0 → k < length t.lits → reason_at t.marks k ≡ Decided → ⊥
+pub none_decided : (t : TrailView) (k : ℕ) → IsSoundTrail t → t.level ≡ 0 → k < length t.lits → reason_at t.marks k ≡ Decided → ⊥
 none_decided t k s z lt d = implied_on 0 t.marks t.level k s.climbs (omega (arith, z)) (omega (arith, lt, s.as_many)) d
 
 -- from the present level's decision on, each mark is of that level
@@ -50,13 +50,13 @@ level_high low ms top k c one le lt = elim (cases_lt (top - 1) (level_at ms k)) 
 ]
 
 -- the level of a false literal is that of its place
-pub level_is : (t : TrailView) (n : ℕ) (l : ℤ) → IsSound t → (f : FalseBy t.lits n l) → level_by t l ≡ level_at t.marks f.place
+pub level_is : (t : TrailView) (n : ℕ) (l : ℤ) → IsSoundTrail t → (f : FalseBy t.lits n l) → level_by t l ≡ level_at t.marks f.place
 level_is t n l s f = ap (λ (o : Option ℕ). unwrap_or (option_map (level_at t.marks) o) 0) (place_of_false t.lits n l s.partial f)
 
-pub level_before : (t : TrailView) (start n : ℕ) (l : ℤ) → IsSound t → 1 ≤ t.level → start ≡ count_to (t.level - 1) t.marks → (f : FalseBy t.lits n l) → f.place < start → level_by t l < t.level
+pub level_before : (t : TrailView) (start n : ℕ) (l : ℤ) → IsSoundTrail t → 1 ≤ t.level → start ≡ count_to (t.level - 1) t.marks → (f : FalseBy t.lits n l) → f.place < start → level_by t l < t.level
 level_before t start n l s one e f lt = omega (arith, level_is t n l s f, kept_low (t.level - 1) t.marks f.place (omega (arith, lt, e)), one)
 
-pub level_after : (t : TrailView) (start n : ℕ) (l : ℤ) → IsSound t → 1 ≤ t.level → start ≡ count_to (t.level - 1) t.marks → (f : FalseBy t.lits n l) → start ≤ f.place → level_by t l ≡ t.level
+pub level_after : (t : TrailView) (start n : ℕ) (l : ℤ) → IsSoundTrail t → 1 ≤ t.level → start ≡ count_to (t.level - 1) t.marks → (f : FalseBy t.lits n l) → start ≤ f.place → level_by t l ≡ t.level
 level_after t start n l s one e f le = level_is t n l s f ∙ level_high 0 t.marks t.level f.place s.climbs one (omega (arith, le, e)) (omega (arith, f.within, s.as_many))
 
 -- what stands at the present level stands from its decision on
@@ -68,7 +68,7 @@ present_high t start l one e w = by_place (nat_le start w.place) refl
     by_place false g = absurd (omega (arith, kept_low (t.level - 1) t.marks w.place (omega (arith, e, leb-false start w.place g)), w.at, one))
 
 -- a false literal's negation stands at the literal's level
-pub stands_at_level : (t : TrailView) (n : ℕ) (l : ℤ) → IsSound t → (f : FalseBy t.lits n l) → StandsAt t (neg_ℤ l) (level_by t l)
+pub stands_at_level : (t : TrailView) (n : ℕ) (l : ℤ) → IsSoundTrail t → (f : FalseBy t.lits n l) → StandsAt t (neg_ℤ l) (level_by t l)
 stands_at_level t n l s f = record { place = f.place; within = f.within; there = f.there; at = sym (level_is t n l s f) }
 
 -- ---- the greatest level

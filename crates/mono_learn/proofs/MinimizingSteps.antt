@@ -10,7 +10,7 @@ use Rattle.mono_graph.proofs.Membership.{same_truth}
 use Rattle.mono_problem.specs.Instance.{Instance, numbered}
 use Rattle.mono_steps.specs.ChainSteps.{names_vars}
 use Rattle.mono_steps.proofs.CarriedSteps.{before_or_last}
-use Rattle.mono_trail.specs.TrailView.{TrailView, IsSound, count_to, StandsAt}
+use Rattle.mono_trail.specs.TrailView.{TrailView, IsSoundTrail, count_to, StandsAt}
 use Rattle.mono_trail.specs.Seen.{is_marked, IsUnseen}
 use Rattle.mono_learn.specs.declared.resolvent.Resolvent.{Resolvent}
 use Rattle.mono_learn.specs.Reasons.{WasUnit}
@@ -62,7 +62,7 @@ covered_more t seen c k x l lt e n m h = subst (IsCovered t seen) (sym (without_
 pub covered_same : (t : List ℤ) (seen : List Bool) (c : List ℤ) (k : ℕ) (x l : ℤ) → k < length c → l ≡ get_or c k l → l ≡ x → IsCovered t seen (without (take k c) x) → IsCovered t seen (without (take (k + 1) c) x)
 covered_same t seen c k x l lt e s h = subst (IsCovered t seen) (sym (without_same c k x l lt e s)) h
 
-pub minimizes : (cs : List (List ℤ)) (t : TrailView) (start place q n : ℕ) (seen : List Bool) (kept : List ℕ) (used used' : List ℕ) (r : List ℤ) → IsSound t → HasMinimized cs t.lits start place seen kept used → q < start → is_marked seen q ≡ true → WasUnit cs t.lits q n → numbered cs n ≡ Some r → IsCovered t.lits seen (without r (lit_at t.lits q)) → used' ≡ used ++ n ∷ []
+pub minimizes : (cs : List (List ℤ)) (t : TrailView) (start place q n : ℕ) (seen : List Bool) (kept : List ℕ) (used used' : List ℕ) (r : List ℤ) → IsSoundTrail t → HasMinimized cs t.lits start place seen kept used → q < start → is_marked seen q ≡ true → WasUnit cs t.lits q n → numbered cs n ≡ Some r → IsCovered t.lits seen (without r (lit_at t.lits q)) → used' ≡ used ++ n ∷ []
     → HasMinimized cs t.lits start place (set seen q false) kept used'
 minimizes cs t start place q n seen kept used used' r s h low on w is covered eu =
     let x : ℤ = lit_at t.lits q in
@@ -125,7 +125,7 @@ pub record IsWhole (cs : List (List ℤ)) (t : TrailView) (start place : ℕ) (o
   pub high : start ≤ last.place
   pub low : AllFalse t.lits start others
 
-pub whole : (cs : List (List ℤ)) (t : TrailView) (start place : ℕ) (seen : List Bool) (kept used : List ℕ) (i : ℕ) (others : List ℤ) (x : ℤ) → IsSound t → HasMinimized cs t.lits start place seen kept used → AreKept t.lits start seen kept i others → length kept ≤ i → x ≡ neg_ℤ (lit_at t.lits place) → IsWhole cs t start place others x used
+pub whole : (cs : List (List ℤ)) (t : TrailView) (start place : ℕ) (seen : List Bool) (kept used : List ℕ) (i : ℕ) (others : List ℤ) (x : ℤ) → IsSoundTrail t → HasMinimized cs t.lits start place seen kept used → AreKept t.lits start seen kept i others → length kept ≤ i → x ≡ neg_ℤ (lit_at t.lits place) → IsWhole cs t start place others x used
 whole cs t start place seen kept used i others x s h a all_in ex = record {
   exact = record { end = h.end; is_end = h.is_end; named = h.named; same = λ l. same_truth (has_lit (others ++ x ∷ []) l) (has_lit h.end l) (to_end l) (from_end l) };
   last = record { place = place; below = h.within; within = h.within; there = sym (ap neg_ℤ ex ∙ neg-neg (lit_at t.lits place)) };
@@ -163,7 +163,7 @@ whole cs t start place seen kept used i others x s h a all_in ex = record {
     from_end l has = let m = h.marks.only l has in by_level l m (cases_lt m.place start)
 
 -- what the whole clause teaches
-pub teaches : (cs : List (List ℤ)) (t : TrailView) (start place back : ℕ) (others c : List ℤ) (x : ℤ) (used : List ℕ) → IsSound t → 1 ≤ t.level → start ≡ count_to (t.level - 1) t.marks → IsWhole cs t start place others x used → back ≡ highest_of t others → c ≡ others ++ x ∷ [] → IsLearnt t c back
+pub teaches : (cs : List (List ℤ)) (t : TrailView) (start place back : ℕ) (others c : List ℤ) (x : ℤ) (used : List ℕ) → IsSoundTrail t → 1 ≤ t.level → start ≡ count_to (t.level - 1) t.marks → IsWhole cs t start place others x used → back ≡ highest_of t others → c ≡ others ++ x ∷ [] → IsLearnt t c back
 teaches cs t start place back others c x used s one e w b ec = record {
   lower = elim (highest_reached t others) [ inl none ↦ omega (arith, none, b, one) | inr h ↦ (let f = w.low.are h.lit h.has in omega (arith, h.level, b, level_before t start start h.lit s one e f f.below)) ];
   lit = x;
@@ -196,7 +196,7 @@ learnt_false t c back a l h = by_lit (cases_Bool (int_eq l a.lit))
     by_lit (inr e) = let o = a.others l h (λ at. true_false (int_eq l a.lit) ((Decides-int_eq l a.lit).1 at) e) in stands o.0 o.2
 
 -- a clause whose literals are all false on a trail names variables of the problem
-pub false_vars : (p : Instance) (t : TrailView) (c : List ℤ) → IsSound t → t.vars ≡ p.vars → ((l : ℤ) → IsTrue (has_lit c l) → FalseBy t.lits (length t.lits) l) → IsTrue (names_vars p c)
+pub false_vars : (p : Instance) (t : TrailView) (c : List ℤ) → IsSoundTrail t → t.vars ≡ p.vars → ((l : ℤ) → IsTrue (has_lit c l) → FalseBy t.lits (length t.lits) l) → IsTrue (names_vars p c)
 false_vars p t c s ev are_false = from_each (λ l. nat_le 1 (var_of l) && nat_le (var_of l) p.vars) c (λ l h.
     let v = is_var_false t (length t.lits) l s (are_false l h) in
     and_from (nat_le 1 (var_of l)) (nat_le (var_of l) p.vars) (le-leb 1 (var_of l) v.0) (le-leb (var_of l) p.vars (omega (arith, v.1, ev))))
@@ -261,7 +261,7 @@ kept_for_uncovered cs t seen k n r e is u = record {
       subst (λ (c : List ℤ). IsUncovered t.lits seen (without c (lit_at t.lits k))) at u;
 }
 
-pub minimal_is : (cs : List (List ℤ)) (t : TrailView) (start last : ℕ) (seen : List Bool) (kept used : List ℕ) (c : List ℤ) → IsSound t → 1 ≤ t.level → start ≡ count_to (t.level - 1) t.marks → (h : HasMinimized cs t.lits start last seen kept used) → (e : IsExactEnd cs (record { clause = c; used = used }))
+pub minimal_is : (cs : List (List ℤ)) (t : TrailView) (start last : ℕ) (seen : List Bool) (kept used : List ℕ) (c : List ℤ) → IsSoundTrail t → 1 ≤ t.level → start ≡ count_to (t.level - 1) t.marks → (h : HasMinimized cs t.lits start last seen kept used) → (e : IsExactEnd cs (record { clause = c; used = used }))
     → ((j : ℕ) → j < length kept → IsKeptFor cs t seen (get_or kept j 0)) → IsMinimal cs t c
 minimal_is cs t start last seen kept used c s one es h e needed = record { at = λ k n r lt low has why is. at k n r lt low has why is }
   where
@@ -293,7 +293,7 @@ minimal_is cs t start last seen kept used c s one es h e needed = record { at = 
         true_false (is_marked seen u.open_by.by.place) (marked_at u.lit u.open_by.by.place u.open_by.by.within u.open_by.by.there (at_each (has_lit c) (without r (lit_at t.lits k)) all u.lit u.has)) u.open_by.off)
 
 -- what is finished
-pub finished : (cs : List (List ℤ)) (t : TrailView) (last back : ℕ) (seen : List Bool) (kept used : List ℕ) (others c : List ℤ) (x : ℤ) → IsSound t → 1 ≤ t.level → (h : HasMinimized cs t.lits (count_to (t.level - 1) t.marks) last seen kept used) → AreKept t.lits (count_to (t.level - 1) t.marks) seen kept (length kept) others
+pub finished : (cs : List (List ℤ)) (t : TrailView) (last back : ℕ) (seen : List Bool) (kept used : List ℕ) (others c : List ℤ) (x : ℤ) → IsSoundTrail t → 1 ≤ t.level → (h : HasMinimized cs t.lits (count_to (t.level - 1) t.marks) last seen kept used) → AreKept t.lits (count_to (t.level - 1) t.marks) seen kept (length kept) others
     → ((j : ℕ) → j < length kept → IsKeptFor cs t seen (get_or kept j 0)) → back ≡ highest_of t others → x ≡ neg_ℤ (lit_at t.lits last) → c ≡ others ++ x ∷ [] → IsDerived cs t c used back
 finished cs t last back seen kept used others c x s one h a needed eb ex ec =
     let start : ℕ = count_to (t.level - 1) t.marks in

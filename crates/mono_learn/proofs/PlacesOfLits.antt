@@ -13,7 +13,7 @@ use Rattle.mono_base.proofs.Partials.{joined, var-neg, not_own_negation}
 use Rattle.mono_problem.specs.Instance.{numbered}
 use Rattle.mono_trail.specs.declared.reason.Reason.{Reason}
 use Rattle.mono_trail.specs.Places.{place_in, reason_at}
-use Rattle.mono_trail.specs.TrailView.{TrailView, IsSound}
+use Rattle.mono_trail.specs.TrailView.{TrailView, IsSoundTrail}
 use Rattle.mono_learn.specs.Reasons.{WasUnit, IsFalseClause}
 use Rattle.mono_learn.specs.Resolvents.{FalseBy, AllFalse}
 use Rattle.mono_trail.proofs.Places.{has_var_at}
@@ -45,14 +45,14 @@ pub place_of_false : (t : List ℤ) (n : ℕ) (l : ℤ) → IsTrue (is_partial t
 place_of_false t n l p f = ap (place_in t) (sym (var-neg l) ∙ ap var_of (sym f.there)) ∙ place_in_at t f.place p f.within
 
 -- the reason of the literal that was read at a place
-pub reason_read : (t : TrailView) (k v : ℕ) (x : ℤ) (o : Option Reason) → IsSound t → k < length t.lits → x ≡ lit_at t.lits k → v ≡ var_of x → o ≡ option_map (reason_at t.marks) (place_in t.lits v) → o ≡ Some (reason_at t.marks k)
+pub reason_read : (t : TrailView) (k v : ℕ) (x : ℤ) (o : Option Reason) → IsSoundTrail t → k < length t.lits → x ≡ lit_at t.lits k → v ≡ var_of x → o ≡ option_map (reason_at t.marks) (place_in t.lits v) → o ≡ Some (reason_at t.marks k)
 reason_read t k v x o s lt ex ev e = e ∙ ap (λ (w : ℕ). option_map (reason_at t.marks) (place_in t.lits w)) (ev ∙ ap var_of ex) ∙ ap (option_map (reason_at t.marks)) (place_in_at t.lits k s.partial lt)
 
 -- a trail's literals have variables
-pub is_var_at : (t : TrailView) (k : ℕ) → IsSound t → k < length t.lits → (1 ≤ var_of (lit_at t.lits k)) × (var_of (lit_at t.lits k) ≤ t.vars)
+pub is_var_at : (t : TrailView) (k : ℕ) → IsSoundTrail t → k < length t.lits → (1 ≤ var_of (lit_at t.lits k)) × (var_of (lit_at t.lits k) ≤ t.vars)
 is_var_at t k s lt = let w = s.within k (pos 0) lt in (omega (arith, w.0), w.1)
 
-pub is_var_false : (t : TrailView) (n : ℕ) (l : ℤ) → IsSound t → FalseBy t.lits n l → (1 ≤ var_of l) × (var_of l ≤ t.vars)
+pub is_var_false : (t : TrailView) (n : ℕ) (l : ℤ) → IsSoundTrail t → FalseBy t.lits n l → (1 ≤ var_of l) × (var_of l ≤ t.vars)
 is_var_false t n l s f =
     let same : var_of (lit_at t.lits f.place) ≡ var_of l = ap var_of f.there ∙ var-neg l in
     let r = is_var_at t f.place s f.within in
@@ -62,7 +62,7 @@ pub is_literal : (l : ℤ) → 1 ≤ var_of l → IsTrue (is_lit l)
 is_literal l h = le-leb 1 (var_of l) h
 
 -- a literal and its negation do not both stand there
-pub no_opposites : (t : TrailView) (j k : ℕ) (l : ℤ) → IsSound t → j < length t.lits → k < length t.lits → lit_at t.lits j ≡ l → lit_at t.lits k ≡ neg_ℤ l → ⊥
+pub no_opposites : (t : TrailView) (j k : ℕ) (l : ℤ) → IsSoundTrail t → j < length t.lits → k < length t.lits → lit_at t.lits j ≡ l → lit_at t.lits k ≡ neg_ℤ l → ⊥
 no_opposites t j k l s lj lk ej ek =
     let same : j ≡ k = one_place t.lits j k s.partial lj lk (ap var_of ej ∙ sym (var-neg l) ∙ ap var_of (sym ek)) in
     let v = is_var_at t j s lj in

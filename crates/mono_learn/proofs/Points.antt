@@ -20,7 +20,7 @@ use Rattle.mono_steps.proofs.StepLists.{numbered_more}
 use Rattle.mono_trail.specs.declared.reason.Reason.TheVariants.{Clause}
 use Rattle.mono_trail.specs.Places.{level_at, reason_at}
 use Rattle.mono_trail.specs.Seen.{is_marked}
-use Rattle.mono_trail.specs.TrailView.{TrailView, IsSound, StandsAt, count_to}
+use Rattle.mono_trail.specs.TrailView.{TrailView, IsSoundTrail, StandsAt, count_to}
 use Rattle.mono_trail.proofs.Levels.{kept_low}
 use Rattle.mono_learn.specs.declared.resolvent.Resolvent.{Resolvent}
 use Rattle.mono_learn.specs.Asked.{AsksFor, AddsChains}
@@ -56,7 +56,7 @@ leads_none cs t n used w eu = record {
 }
 
 -- the clause that the marks stand for has two literals of the present level
-two_present : (cs : List (List ℤ)) (t : TrailView) (start p : ℕ) (m : Resolvent) (used : List ℕ) → IsSound t → 1 ≤ t.level → start ≡ count_to (t.level - 1) t.marks → (h : HasCome cs t.lits start (p + 1) m used) → is_marked m.seen.items p ≡ true → 2 ≤ m.count → HasTwoPresent t h.end
+two_present : (cs : List (List ℤ)) (t : TrailView) (start p : ℕ) (m : Resolvent) (used : List ℕ) → IsSoundTrail t → 1 ≤ t.level → start ≡ count_to (t.level - 1) t.marks → (h : HasCome cs t.lits start (p + 1) m used) → is_marked m.seen.items p ≡ true → 2 ≤ m.count → HasTwoPresent t h.end
 two_present cs t start p m used s one es h on two =
     let high : start ≤ p = omega (arith, start_below cs t.lits start (p + 1) m used h (omega (arith, two))) in
     let k = has_mark start (set m.seen.items p false) (omega (arith, h.resolvent.counted, two, mark_less start p m.seen.items high on)) in
@@ -86,7 +86,7 @@ two_present cs t start p m used s one es h on two =
     }
 
 -- the walk goes on with the reason of the literal at the last marked place
-leads_one : (cs : List (List ℤ)) (t : TrailView) (start p conflict : ℕ) (m : Resolvent) (used used' : List ℕ) → IsSound t → 1 ≤ t.level → start ≡ count_to (t.level - 1) t.marks → HasCome cs t.lits start (p + 1) m used → is_marked m.seen.items p ≡ true → 2 ≤ m.count → HasResolved cs t conflict used → GoesOnWith cs t p used used' → HasResolved cs t conflict used'
+leads_one : (cs : List (List ℤ)) (t : TrailView) (start p conflict : ℕ) (m : Resolvent) (used used' : List ℕ) → IsSoundTrail t → 1 ≤ t.level → start ≡ count_to (t.level - 1) t.marks → HasCome cs t.lits start (p + 1) m used → is_marked m.seen.items p ≡ true → 2 ≤ m.count → HasResolved cs t conflict used → GoesOnWith cs t p used used' → HasResolved cs t conflict used'
 leads_one cs t start p conflict m used used' s one es h on two w g = record {
   at = λ e k.
       let before = w.at h.end h.is_end in
@@ -154,7 +154,7 @@ leads_asked p t0 t j0 j conflict used a named w =
     })
 
 -- one step of the walk, with the lemmas that it asks for
-pub leads_more : (p : Instance) (t0 t : TrailView) (j0 j : List Step) (start place conflict : ℕ) (m : Resolvent) (used used' : List ℕ) → IsSound t → 1 ≤ t.level → start ≡ count_to (t.level - 1) t.marks → AsksFor p t0 j0 t j → HasCome (clauses_after p j0) t0.lits start (place + 1) m used → is_marked m.seen.items place ≡ true → 2 ≤ m.count
+pub leads_more : (p : Instance) (t0 t : TrailView) (j0 j : List Step) (start place conflict : ℕ) (m : Resolvent) (used used' : List ℕ) → IsSoundTrail t → 1 ≤ t.level → start ≡ count_to (t.level - 1) t.marks → AsksFor p t0 j0 t j → HasCome (clauses_after p j0) t0.lits start (place + 1) m used → is_marked m.seen.items place ≡ true → 2 ≤ m.count
     → HasResolved (clauses_after p j0) t0 conflict used → GoesOnWith (clauses_after p j) t place used used' → HasResolved (clauses_after p j) t conflict used'
 leads_more p t0 t j0 j start place conflict m used used' s one es a h on two w g =
     leads_one (clauses_after p j) t start place conflict m used used' s one es (come_asked p t0 t j0 j start (place + 1) m used a h) on two (leads_asked p t0 t j0 j conflict used a h.named w) g
@@ -162,7 +162,7 @@ leads_more p t0 t j0 j start place conflict m used used' s one es a h on two w g
 -- ---- the clause that is left
 
 -- the clause of the first unique implication point
-point : (cs : List (List ℤ)) (t : TrailView) (start last : ℕ) (m : Resolvent) (used : List ℕ) → IsSound t → 1 ≤ t.level → start ≡ count_to (t.level - 1) t.marks → (a : IsAtLast cs t.lits start last m used) → HasOnePresent t a.come.end
+point : (cs : List (List ℤ)) (t : TrailView) (start last : ℕ) (m : Resolvent) (used : List ℕ) → IsSoundTrail t → 1 ≤ t.level → start ≡ count_to (t.level - 1) t.marks → (a : IsAtLast cs t.lits start last m used) → HasOnePresent t a.come.end
 point cs t start last m used s one es a = record {
   lit = neg_ℤ (lit_at t.lits last);
   has = a.come.resolvent.marks.all (neg_ℤ (lit_at t.lits last)) (record { place = last; below = omega arith; there = sym (neg-neg (lit_at t.lits last)); marked = a.marked });
@@ -183,7 +183,7 @@ in_range (y ∷ ks) zero d lt = refl
 in_range (y ∷ ks) (suc j) d lt = in_range ks j d (omega arith)
 
 -- it without its redundant literals
-minimized : (cs : List (List ℤ)) (t : TrailView) (start last : ℕ) (m : Resolvent) (seen : List Bool) (kept used used' : List ℕ) (c : List ℤ) → IsSound t → 1 ≤ t.level → start ≡ count_to (t.level - 1) t.marks → (a : IsAtLast cs t.lits start last m used) → HasMinimized cs t.lits start last seen kept used' → IsExactEnd cs (record { clause = c; used = used' })
+minimized : (cs : List (List ℤ)) (t : TrailView) (start last : ℕ) (m : Resolvent) (seen : List Bool) (kept used used' : List ℕ) (c : List ℤ) → IsSoundTrail t → 1 ≤ t.level → start ≡ count_to (t.level - 1) t.marks → (a : IsAtLast cs t.lits start last m used) → HasMinimized cs t.lits start last seen kept used' → IsExactEnd cs (record { clause = c; used = used' })
     → AreDropped cs t m.seen.items seen kept 0 → IsMinimized cs t a.come.end c
 minimized cs t start last m seen kept used used' c s one es a h x d = record {
   part = from_each (has_lit a.come.end) c (λ l has. let w = to_new l has in a.come.resolvent.marks.all l (record { place = w.place; below = w.below; there = w.there; marked = d.fewer w.place w.marked }));
@@ -245,7 +245,7 @@ minimized cs t start last m seen kept used used' c s one es a h x d = record {
         lower j stood gone (inl low) = omega (arith, kept_low (t.level - 1) t.marks j (omega (arith, low, es)), one)
         lower j stood gone (inr high) = absurd (true_false (is_marked seen last) h.marked (subst (λ (q : ℕ). is_marked seen q ≡ false) (only.one j high stood) gone))
 
-pub taught : (cs : List (List ℤ)) (t : TrailView) (last conflict : ℕ) (m : Resolvent) (seen : List Bool) (kept used used' : List ℕ) (c : List ℤ) → IsSound t → 1 ≤ t.level → IsAtLast cs t.lits (count_to (t.level - 1) t.marks) last m used → HasMinimized cs t.lits (count_to (t.level - 1) t.marks) last seen kept used' → IsExactEnd cs (record { clause = c; used = used' })
+pub taught : (cs : List (List ℤ)) (t : TrailView) (last conflict : ℕ) (m : Resolvent) (seen : List Bool) (kept used used' : List ℕ) (c : List ℤ) → IsSoundTrail t → 1 ≤ t.level → IsAtLast cs t.lits (count_to (t.level - 1) t.marks) last m used → HasMinimized cs t.lits (count_to (t.level - 1) t.marks) last seen kept used' → IsExactEnd cs (record { clause = c; used = used' })
     → AreDropped cs t m.seen.items seen kept 0 → HasResolved cs t conflict used → IsTaught cs t conflict c
 taught cs t last conflict m seen kept used used' c s one a h x d w = record {
   whole = a.come.end;

@@ -10,7 +10,7 @@ use Rattle.mono_problem.specs.Instance.{numbered}
 use Rattle.mono_steps.specs.Chains.{chain_end}
 use Rattle.mono_steps.specs.ChainSteps.{clauses_named, names_clauses}
 use Rattle.mono_base.specs.Partial.{is_partial}
-use Rattle.mono_trail.specs.TrailView.{TrailView, IsSound}
+use Rattle.mono_trail.specs.TrailView.{TrailView, IsSoundTrail}
 use Rattle.mono_trail.specs.Seen.{is_marked}
 use Rattle.mono_learn.specs.declared.resolvent.Resolvent.{Resolvent}
 use Rattle.mono_learn.specs.Reasons.{WasUnit}
@@ -77,7 +77,7 @@ marks_less t start p seen kept count e d high on f = record {
 }
 
 -- why exactly one variable clashes: all of the clause is false, and all of the reason but the literal that it implied
-pub clashes_at : (t : TrailView) (p : ℕ) (e r : List ℤ) → IsSound t → p < length t.lits → ((l : ℤ) → IsTrue (has_lit e l) → FalseBy t.lits (length t.lits) l) → IsTrue (has_lit e (neg_ℤ (lit_at t.lits p))) → IsTrue (has_lit r (lit_at t.lits p))
+pub clashes_at : (t : TrailView) (p : ℕ) (e r : List ℤ) → IsSoundTrail t → p < length t.lits → ((l : ℤ) → IsTrue (has_lit e l) → FalseBy t.lits (length t.lits) l) → IsTrue (has_lit e (neg_ℤ (lit_at t.lits p))) → IsTrue (has_lit r (lit_at t.lits p))
     → ((l : ℤ) → IsTrue (has_lit r l) → (l ≡ lit_at t.lits p → ⊥) → FalseBy t.lits p l) → ClashesAt e r (lit_at t.lits p)
 clashes_at t p e r s lt is_false first second others = record {
   positive = (is_var_at t p s lt).0;
@@ -98,7 +98,7 @@ pub record GoesOn (cs : List (List ℤ)) (t : List ℤ) (used : List ℕ) (n p :
   pub named : IsTrue (names_clauses cs (used ++ n ∷ []))
   pub others : (l : ℤ) → IsTrue (has_lit (without r (lit_at t p)) l) → FalseBy t p l
 
-pub goes_on : (cs : List (List ℤ)) (t : TrailView) (top p n : ℕ) (seen : List Bool) (used : List ℕ) (e r : List ℤ) → IsSound t → chain_end (clauses_named cs used) ≡ Some e → IsTrue (names_clauses cs used) → IsMarked t.lits top seen e → is_marked seen p ≡ true → WasUnit cs t.lits p n → numbered cs n ≡ Some r → GoesOn cs t.lits used n p e r
+pub goes_on : (cs : List (List ℤ)) (t : TrailView) (top p n : ℕ) (seen : List Bool) (used : List ℕ) (e r : List ℤ) → IsSoundTrail t → chain_end (clauses_named cs used) ≡ Some e → IsTrue (names_clauses cs used) → IsMarked t.lits top seen e → is_marked seen p ≡ true → WasUnit cs t.lits p n → numbered cs n ≡ Some r → GoesOn cs t.lits used n p e r
 goes_on cs t top p n seen used e r s is_end named f on w is =
     let x : ℤ = lit_at t.lits p in
     let same : w.clause ≡ r = same_Some w.clause r (sym w.is ∙ is) in
@@ -113,7 +113,7 @@ goes_on cs t top p n seen used e r s is_end named f on w is =
     }
 
 -- the chain goes one clause further
-pub comes_further : (cs : List (List ℤ)) (t : TrailView) (start p n : ℕ) (old mid new : Resolvent) (used used' : List ℕ) (r : List ℤ) → IsSound t → HasCome cs t.lits start (p + 1) old used → start ≤ p → is_marked old.seen.items p ≡ true → WasUnit cs t.lits p n → numbered cs n ≡ Some r
+pub comes_further : (cs : List (List ℤ)) (t : TrailView) (start p n : ℕ) (old mid new : Resolvent) (used used' : List ℕ) (r : List ℤ) → IsSoundTrail t → HasCome cs t.lits start (p + 1) old used → start ≤ p → is_marked old.seen.items p ≡ true → WasUnit cs t.lits p n → numbered cs n ≡ Some r
     → mid.seen.items ≡ set old.seen.items p false → mid.kept.items ≡ old.kept.items → mid.count ≡ old.count - 1 → Joins t.lits start mid new (without r (lit_at t.lits p)) → used' ≡ used ++ n ∷ [] → HasCome cs t.lits start p new used'
 comes_further cs t start p n old mid new used used' r s h high on w is es ek ec j eu =
     let g = goes_on cs t (p + 1) p n old.seen.items used h.end r s h.is_end h.named h.resolvent.marks on w is in

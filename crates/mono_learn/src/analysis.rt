@@ -1,7 +1,7 @@
 //! The analysis of one conflict.
 
 ghost use Rattle.std.specs.Prelude.{◌≡◌, ◌-◌, ◌<◌, ◌≤◌, [], length, OnOk, IfOk};
-ghost use Rattle.mono_trail.specs.TrailView.{IsSound, count_to};
+ghost use Rattle.mono_trail.specs.TrailView.{IsSoundTrail, count_to};
 ghost use Rattle.mono_steps.specs.Steps.{clauses_after};
 ghost use Rattle.mono_learn.specs.FirstPoint.{HasResolved};
 ghost use Rattle.mono_learn.specs.Reasons.{IsFalseClause, IsConflict};
@@ -32,7 +32,7 @@ impl Analysis {
         trail: &mut Trail,
         start: usize,
     ) -> Result<Analysis, AllocError>
-        requires sound { IsSound trail.old }
+        requires sound { IsSoundTrail trail.old }
         ensures same { trail.new ≡ trail.old }
         ensures start { IfOk result (λ a. a.start ≡ start) }
         ensures fresh { IfOk result (λ a. IsFresh (length trail.old.lits) a.resolvent) }
@@ -54,7 +54,7 @@ impl Analysis {
         journal: &Journal,
         conflict: u64,
     ) -> Result<(), AllocError>
-        requires sound { IsSound trail.now }
+        requires sound { IsSoundTrail trail.now }
         requires start { self.old.start < length trail.now.lits }
         requires conflict { IsFalseClause (clauses_after problem.now journal.now) trail.now.lits conflict }
         requires fresh { IsFresh (length trail.now.lits) self.old.resolvent }

@@ -4,7 +4,7 @@ ghost use Rattle.std.specs.Prelude.{◌≡◌, ◌≢◌, ℕ, ◌<◌, ◌≤�
 ghost use Rattle.mono_steps.specs.Steps.{clauses_after};
 ghost use Rattle.mono_trail.specs.declared.reason.Reason.TheVariants.{Decided, Clause, Late};
 ghost use Rattle.mono_trail.specs.Places.{reason_at};
-ghost use Rattle.mono_trail.specs.TrailView.{IsSound};
+ghost use Rattle.mono_trail.specs.TrailView.{IsSoundTrail};
 ghost use Rattle.mono_learn.specs.Reasons.{WasUnit, HasReasons};
 ghost use Rattle.mono_learn.specs.Asked.{AsksFor};
 
@@ -24,14 +24,14 @@ fn late_reason<E: Explainer>(
     atom: u32,
     kept: u32,
 ) -> Result<u64, AllocError>
-    requires sound { IsSound trail.old }
+    requires sound { IsSoundTrail trail.old }
     requires problem { E.problem by.old ≡ problem.now }
     requires reasons { HasReasons problem.now (clauses_after problem.now journal.old) (E.shown by.old) trail.old }
     requires place { place < length trail.old.lits }
     requires late { reason_at trail.old.marks place ≡ Late atom kept }
     ensures by { by.new ≡ by.old }
     ensures asks { AsksFor problem.now trail.old journal.old trail.new journal.new }
-    ensures sound { IsSound trail.new }
+    ensures sound { IsSoundTrail trail.new }
     ensures reasons { HasReasons problem.now (clauses_after problem.now journal.new) (E.shown by.old) trail.new }
     ensures is { IfOk result (λ n. WasUnit (clauses_after problem.now journal.new) trail.new.lits place n) }
     ensures why { IfOk result (λ n. reason_at trail.new.marks place ≡ Clause n) }
@@ -52,14 +52,14 @@ pub fn reason_of<E: Explainer>(
     by: &mut E,
     place: usize,
 ) -> Result<u64, AllocError>
-    requires sound { IsSound trail.old }
+    requires sound { IsSoundTrail trail.old }
     requires problem { E.problem by.old ≡ problem.now }
     requires reasons { HasReasons problem.now (clauses_after problem.now journal.old) (E.shown by.old) trail.old }
     requires place { place < length trail.old.lits }
     requires implied { reason_at trail.old.marks place ≢ Decided }
     ensures by { by.new ≡ by.old }
     ensures asks { AsksFor problem.now trail.old journal.old trail.new journal.new }
-    ensures sound { IsSound trail.new }
+    ensures sound { IsSoundTrail trail.new }
     ensures reasons { HasReasons problem.now (clauses_after problem.now journal.new) (E.shown by.old) trail.new }
     ensures is { IfOk result (λ n. WasUnit (clauses_after problem.now journal.new) trail.new.lits place n) }
     ensures why { IfOk result (λ n. reason_at trail.new.marks place ≡ Clause n) }

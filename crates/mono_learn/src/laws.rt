@@ -7,7 +7,7 @@ ghost use Rattle.mono_steps.specs.declared.lemma.Lemma.{Lemma};
 ghost use Rattle.mono_trail.specs.declared.reason.Reason.{Reason};
 ghost use Rattle.mono_trail.specs.declared.reason.Reason.TheVariants.{Late};
 ghost use Rattle.mono_trail.specs.Places.{reason_at};
-ghost use Rattle.mono_trail.specs.TrailView.{TrailView, IsSound, count_to};
+ghost use Rattle.mono_trail.specs.TrailView.{TrailView, IsSoundTrail, count_to};
 ghost use Rattle.mono_trail.specs.Moves.{joined, lowered, settled_at};
 ghost use Rattle.mono_learn.specs.Explain.{IsExplanation};
 ghost use Rattle.mono_learn.specs.Reasons.{HasReasons, WasUnit, WasForced};
@@ -18,7 +18,7 @@ ghost use Rattle.mono_learn.specs.ReasonsStay.{MayJoin, StillShown, IsUnitIn};
 /// A literal that is decided, that a clause implies now, or that an atom forces, its lemma left for later, keeps the
 /// reasons.
 pub fn joining_keeps_reasons()
-    ensures { (p : Instance) (cs : List (List ℤ)) (shown : ℕ → List ℤ) (t : TrailView) (l : ℤ) (why : Reason) → IsSound t → HasReasons p cs shown t
+    ensures { (p : Instance) (cs : List (List ℤ)) (shown : ℕ → List ℤ) (t : TrailView) (l : ℤ) (why : Reason) → IsSoundTrail t → HasReasons p cs shown t
         → MayJoin p cs shown t.lits l why → HasReasons p cs shown (joined t l why) }
 {}
 
@@ -52,6 +52,6 @@ pub fn settling_keeps_reasons()
 /// By the literals up to each level from `back_to` on and below the present one, one literal of the learned clause is open
 /// and the others are false. So it is unit after going back, and new by what stood before the present level.
 pub fn learned_clauses_assert()
-    ensures { (t : TrailView) (c : List ℤ) (back level : ℕ) → IsSound t → (a : IsLearnt t c back) → back ≤ level → level < t.level
+    ensures { (t : TrailView) (c : List ℤ) (back level : ℕ) → IsSoundTrail t → (a : IsLearnt t c back) → back ≤ level → level < t.level
         → IsUnitIn (take (count_to level t.marks) t.lits) c a.lit }
 {}

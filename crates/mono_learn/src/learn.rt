@@ -1,7 +1,7 @@
 //! What conflicts teach.
 
 ghost use Rattle.std.specs.Prelude.{◌≡◌, ℕ, ◌+◌, ◌-◌, ◌<◌, ◌≤◌, ◌∷◌, [], List, ℤ, length, OnOk, OnErr, IfOk, IsTrue};
-ghost use Rattle.mono_trail.specs.TrailView.{IsSound, count_to};
+ghost use Rattle.mono_trail.specs.TrailView.{IsSoundTrail, count_to};
 ghost use Rattle.mono_steps.specs.Steps.{clauses_after, are_justified};
 ghost use Rattle.mono_steps.specs.Journals.{AddsLemmas};
 ghost use Rattle.mono_learn.specs.Reasons.{HasReasons, IsFalseClause, IsConflict};
@@ -53,7 +53,7 @@ impl Analysis {
         journal: &Journal,
         last: usize,
     ) -> Result<Derived, AllocError>
-        requires sound { IsSound trail.old }
+        requires sound { IsSoundTrail trail.old }
         requires level { 1 ≤ trail.old.level }
         requires reasons { AreReasons (clauses_after problem.now journal.now) trail.old }
         requires last { IsAtLast (clauses_after problem.now journal.now) trail.old.lits
@@ -92,14 +92,14 @@ fn derive<E: Explainer>(
     by: &mut E,
     conflict: u64,
 ) -> Result<Derived, AllocError>
-    requires sound { IsSound trail.old }
+    requires sound { IsSoundTrail trail.old }
     requires level { 1 ≤ trail.old.level }
     requires problem { E.problem by.old ≡ problem.now }
     requires reasons { HasReasons problem.now (clauses_after problem.now journal.old) (E.shown by.old) trail.old }
     requires conflict { IsConflict (clauses_after problem.now journal.old) trail.old conflict }
     ensures by { by.new ≡ by.old }
     ensures asks { AsksFor problem.now trail.old journal.old trail.new journal.new }
-    ensures sound { IsSound trail.new }
+    ensures sound { IsSoundTrail trail.new }
     ensures reasons { HasReasons problem.now (clauses_after problem.now journal.new) (E.shown by.old) trail.new }
     ensures derived { IfOk result (λ d. IsDerived (clauses_after problem.now journal.new) trail.new d.lits.items d.used.items d.back_to) }
     ensures taught { IfOk result (λ d. IsTaught (clauses_after problem.now journal.new) trail.new conflict d.lits.items) }
@@ -119,7 +119,7 @@ fn push(
     journal: &mut Journal,
     derived: Derived,
 ) -> Result<Learnt, AllocError>
-    requires sound { IsSound trail.now }
+    requires sound { IsSoundTrail trail.now }
     requires vars { trail.now.vars ≡ problem.now.vars }
     requires derived { IsDerived (clauses_after problem.now journal.old) trail.now derived.lits.items derived.used.items derived.back_to }
     ensures same { IfOk result (λ r. r.clause ≡ derived.lits.items) }

@@ -1,7 +1,7 @@
 //! The level to go back to.
 
 ghost use Rattle.std.specs.Prelude.{◌≡◌, length};
-ghost use Rattle.mono_trail.specs.TrailView.{IsSound};
+ghost use Rattle.mono_trail.specs.TrailView.{IsSoundTrail};
 ghost use Rattle.mono_learn.specs.Levels.{highest_of};
 ghost use Rattle.mono_learn.specs.Resolvents.{AllFalse};
 
@@ -10,7 +10,7 @@ use mono_trail::Trail;
 
 /// The greatest level of the literals, or 0.
 pub fn highest(trail: &Trail, lits: &[Lit]) -> u32
-    requires sound { IsSound trail.now }
+    requires sound { IsSoundTrail trail.now }
     requires are_false { AllFalse trail.now.lits (length trail.now.lits) lits.now }
     ensures { result ≡ highest_of trail.now lits.now }
 {

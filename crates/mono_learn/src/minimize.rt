@@ -7,7 +7,7 @@
 
 ghost use Rattle.std.specs.Prelude.{◌≡◌, ◌≢◌, ℕ, ◌+◌, ◌<◌, ◌≤◌, List, ℤ, length, true, false, slice_index_or, IsTrue, OnOk, IfOk, Contains};
 ghost use Rattle.mono_base.specs.Literal.{without};
-ghost use Rattle.mono_trail.specs.TrailView.{IsSound};
+ghost use Rattle.mono_trail.specs.TrailView.{IsSoundTrail};
 ghost use Rattle.mono_steps.specs.Steps.{clauses_after};
 ghost use Rattle.mono_learn.specs.Resolvents.{FalseBy, AllFalse, MarkedBy};
 ghost use Rattle.mono_learn.specs.Resolving.{IsAtLast, HasMinimized};
@@ -26,7 +26,7 @@ use std::alloc::{AllocError, Global};
 
 /// Whether the false literal is in the clause that the marks stand for.
 fn is_seen(trail: &Trail, seen: &[bool], lit: Lit) -> bool
-    requires sound { IsSound trail.now }
+    requires sound { IsSoundTrail trail.now }
     requires slots { length trail.now.lits ≤ length seen.now }
     requires is_false { FalseBy trail.now.lits (length trail.now.lits) lit }
     ensures on { IsTrue result → MarkedBy trail.now.lits seen.now (length trail.now.lits) lit }
@@ -37,7 +37,7 @@ fn is_seen(trail: &Trail, seen: &[bool], lit: Lit) -> bool
 
 /// Whether each other literal of the clause is.
 fn is_covered(trail: &Trail, seen: &[bool], clause: &[Lit], skip: Lit) -> bool
-    requires sound { IsSound trail.now }
+    requires sound { IsSoundTrail trail.now }
     requires slots { length trail.now.lits ≤ length seen.now }
     requires are_false { AllFalse trail.now.lits (length trail.now.lits) (without clause.now skip) }
     ensures covered { IsTrue result → IsCovered trail.now.lits seen.now (without clause.now skip) }
@@ -62,7 +62,7 @@ impl Analysis {
         journal: &Journal,
         place: usize,
     ) -> Result<(), AllocError>
-        requires sound { IsSound trail.now }
+        requires sound { IsSoundTrail trail.now }
         requires reasons { AreReasons (clauses_after problem.now journal.now) trail.now }
         requires place { place < length trail.now.lits }
         requires slots { length trail.now.lits ≤ length self.old.resolvent.seen.items }
@@ -106,7 +106,7 @@ impl Analysis {
         trail: &Trail,
         journal: &Journal,
     ) -> Result<(), AllocError>
-        requires sound { IsSound trail.now }
+        requires sound { IsSoundTrail trail.now }
         requires reasons { AreReasons (clauses_after problem.now journal.now) trail.now }
         requires slots { length trail.now.lits ≤ length self.old.resolvent.seen.items }
         requires low { (k : ℕ) → Contains self.old.resolvent.kept.items k → k < length trail.now.lits }

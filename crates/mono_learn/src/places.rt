@@ -3,7 +3,7 @@
 ghost use Rattle.std.specs.Prelude.{◌≡◌, ◌<◌, length};
 ghost use Rattle.mono_base.specs.Literal.{lit_at};
 ghost use Rattle.mono_trail.specs.Places.{reason_at};
-ghost use Rattle.mono_trail.specs.TrailView.{IsSound};
+ghost use Rattle.mono_trail.specs.TrailView.{IsSoundTrail};
 ghost use Rattle.mono_learn.specs.Resolvents.{FalseBy, IsFalseAt};
 
 use mono_base::Lit;
@@ -19,7 +19,7 @@ pub fn literal(trail: &Trail, place: usize) -> Lit
 
 /// How the literal at a place came onto the trail.
 pub fn reason(trail: &Trail, place: usize) -> Reason
-    requires sound { IsSound trail.now }
+    requires sound { IsSoundTrail trail.now }
     requires place { place < length trail.now.lits }
     ensures { result ≡ reason_at trail.now.marks place }
 {
@@ -32,7 +32,7 @@ pub fn reason(trail: &Trail, place: usize) -> Reason
 
 /// The place of a false literal's negation.
 pub fn place_of_false(trail: &Trail, lit: Lit) -> u32
-    requires sound { IsSound trail.now }
+    requires sound { IsSoundTrail trail.now }
     requires is_false { FalseBy trail.now.lits (length trail.now.lits) lit }
     ensures { IsFalseAt trail.now.lits result lit }
 {

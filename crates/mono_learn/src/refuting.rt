@@ -1,7 +1,7 @@
 //! Conflicts at level 0.
 
 ghost use Rattle.std.specs.Prelude.{◌≡◌, ℕ, ◌+◌, ◌<◌, ◌≤◌, ◌∷◌, [], List, ℤ, length, OnOk, OnErr, IfOk, IsTrue};
-ghost use Rattle.mono_trail.specs.TrailView.{IsSound};
+ghost use Rattle.mono_trail.specs.TrailView.{IsSoundTrail};
 ghost use Rattle.mono_steps.specs.Steps.{clauses_after, are_justified};
 ghost use Rattle.mono_steps.specs.Journals.{AddsLemmas};
 ghost use Rattle.mono_steps.specs.New.{IsExactEnd};
@@ -28,7 +28,7 @@ fn empty_chain<E: Explainer>(
     by: &mut E,
     conflict: u64,
 ) -> Result<Vec<u64>, AllocError>
-    requires sound { IsSound trail.old }
+    requires sound { IsSoundTrail trail.old }
     requires level { trail.old.level ≡ 0 }
     requires problem { E.problem by.old ≡ problem.now }
     requires reasons { HasReasons problem.now (clauses_after problem.now journal.old) (E.shown by.old) trail.old }

@@ -2,7 +2,7 @@
 
 ghost use Rattle.std.specs.Prelude.{◌≡◌, ◌≢◌, ℕ, ◌+◌, ◌-◌, ◌<◌, ◌≤◌, ◌∷◌, ◌++◌, [], List, ℤ, length, true, OnOk, IfOk};
 ghost use Rattle.mono_trail.specs.declared.reason.Reason.TheVariants.{Decided};
-ghost use Rattle.mono_trail.specs.TrailView.{IsSound, count_to};
+ghost use Rattle.mono_trail.specs.TrailView.{IsSoundTrail, count_to};
 ghost use Rattle.mono_trail.specs.Places.{reason_at};
 ghost use Rattle.mono_trail.specs.Seen.{is_marked};
 ghost use Rattle.mono_steps.specs.Steps.{clauses_after};
@@ -29,7 +29,7 @@ impl Analysis {
         place: usize,
         number: u64,
     ) -> Result<(), AllocError>
-        requires sound { IsSound trail.now }
+        requires sound { IsSoundTrail trail.now }
         requires reason { WasUnit (clauses_after problem.now journal.now) trail.now.lits place number }
         requires place { place < length trail.now.lits }
         requires high { self.old.start ≤ place }
@@ -59,7 +59,7 @@ impl Analysis {
         by: &mut E,
         place: usize,
     ) -> Result<(), AllocError>
-        requires sound { IsSound trail.old }
+        requires sound { IsSoundTrail trail.old }
         requires problem { E.problem by.old ≡ problem.now }
         requires reasons { HasReasons problem.now (clauses_after problem.now journal.old) (E.shown by.old) trail.old }
         requires place { place < length trail.old.lits }
@@ -70,7 +70,7 @@ impl Analysis {
         ensures start { self.new.start ≡ self.old.start }
         ensures by { by.new ≡ by.old }
         ensures asks { AsksFor problem.now trail.old journal.old trail.new journal.new }
-        ensures sound { IsSound trail.new }
+        ensures sound { IsSoundTrail trail.new }
         ensures reasons { HasReasons problem.now (clauses_after problem.now journal.new) (E.shown by.old) trail.new }
         ensures come { OnOk result (HasCome (clauses_after problem.now journal.new) trail.new.lits self.new.start place
             self.new.resolvent self.new.used.items) }
@@ -89,7 +89,7 @@ impl Analysis {
         journal: &mut Journal,
         by: &mut E,
     ) -> Result<usize, AllocError>
-        requires sound { IsSound trail.old }
+        requires sound { IsSoundTrail trail.old }
         requires problem { E.problem by.old ≡ problem.now }
         requires reasons { HasReasons problem.now (clauses_after problem.now journal.old) (E.shown by.old) trail.old }
         requires level { 1 ≤ trail.old.level }
@@ -101,7 +101,7 @@ impl Analysis {
         ensures start { self.new.start ≡ self.old.start }
         ensures by { by.new ≡ by.old }
         ensures asks { AsksFor problem.now trail.old journal.old trail.new journal.new }
-        ensures sound { IsSound trail.new }
+        ensures sound { IsSoundTrail trail.new }
         ensures reasons { HasReasons problem.now (clauses_after problem.now journal.new) (E.shown by.old) trail.new }
         ensures last { IfOk result (λ place. IsAtLast
             (clauses_after problem.now journal.new) trail.new.lits self.new.start place self.new.resolvent self.new.used.items) }
@@ -128,7 +128,7 @@ impl Analysis {
         journal: &mut Journal,
         by: &mut E,
     ) -> Result<(), AllocError>
-        requires sound { IsSound trail.old }
+        requires sound { IsSoundTrail trail.old }
         requires level { trail.old.level ≡ 0 }
         requires start { self.old.start ≡ 0 }
         requires problem { E.problem by.old ≡ problem.now }
@@ -138,7 +138,7 @@ impl Analysis {
         ensures start { self.new.start ≡ self.old.start }
         ensures by { by.new ≡ by.old }
         ensures asks { AsksFor problem.now trail.old journal.old trail.new journal.new }
-        ensures sound { IsSound trail.new }
+        ensures sound { IsSoundTrail trail.new }
         ensures reasons { HasReasons problem.now (clauses_after problem.now journal.new) (E.shown by.old) trail.new }
         ensures come { OnOk result (HasCome (clauses_after problem.now journal.new) trail.new.lits self.new.start 0 self.new.resolvent self.new.used.items) }
     {

@@ -4,7 +4,7 @@
 //! the trail's table; those below the present level are listed too, and those of the present level counted.
 
 ghost use Rattle.std.specs.Prelude.{◌≡◌, ◌≢◌, ℕ, ◌+◌, ◌<◌, ◌≤◌, ◌∷◌, [], List, ℤ, length, OnOk, IfOk, IsTrue, ◌↔◌};
-ghost use Rattle.mono_trail.specs.TrailView.{IsSound};
+ghost use Rattle.mono_trail.specs.TrailView.{IsSoundTrail};
 ghost use Rattle.mono_trail.specs.Seen.{IsUnseen};
 ghost use Rattle.mono_learn.specs.Resolvents.{FalseBy, AllFalse, marked_from};
 
@@ -30,7 +30,7 @@ impl Resolvent {
     /// No literals, in the trail's table. A new table is made only where an earlier conflict ran out of memory and never
     /// gave the table back.
     pub fn new(alloc: Global, trail: &mut Trail) -> Result<Resolvent, AllocError>
-        requires sound { IsSound trail.old }
+        requires sound { IsSoundTrail trail.old }
         ensures same { trail.new ≡ trail.old }
         ensures fresh { IfOk result (λ r. IsFresh (length trail.old.lits) r) }
     {
@@ -69,7 +69,7 @@ impl Resolvent {
 
     /// A false literal joins the clause.
     fn join(&mut self, trail: &Trail, start: usize, lit: Lit) -> Result<(), AllocError>
-        requires sound { IsSound trail.now }
+        requires sound { IsSoundTrail trail.now }
         requires slots { length trail.now.lits ≤ length self.old.seen.items }
         requires counted { self.old.count ≡ marked_from start self.old.seen.items }
         requires is_false { FalseBy trail.now.lits (length trail.now.lits) lit }
@@ -97,7 +97,7 @@ impl Resolvent {
         clause: &[Lit],
         skip: Lit,
     ) -> Result<(), AllocError>
-        requires sound { IsSound trail.now }
+        requires sound { IsSoundTrail trail.now }
         requires slots { length trail.now.lits ≤ length self.old.seen.items }
         requires counted { self.old.count ≡ marked_from start self.old.seen.items }
         requires are_false { AllFalse trail.now.lits (length trail.now.lits) (without clause.now skip) }

@@ -20,7 +20,7 @@ use Rattle.mono_paths.specs.NodeLabels.{NodeLabels, AreReached}
 use Rattle.mono_paths.specs.Spread.{label_of, IsTight, AreTight}
 use Rattle.mono_paths.specs.Reaches.{IsCheap}
 use Rattle.mono_paths.specs.declared.search.LabelSearch.{LabelSearch}
-use Rattle.mono_paths.specs.Searches.{IsSearch, source_of}
+use Rattle.mono_paths.specs.Searches.{IsLabelSearch, source_of}
 
 -- labels up to the cap, 0 at the one node and the cap at the other, that no present edge lowers
 pub record AreFinal (g : Digraph) (P : List Bool) (limit : Limit) (u v cap : ℕ) (labels : List ℕ) : Type 0 where
@@ -194,7 +194,7 @@ empty_labelling g P u v l bounded low = at l (bound_none l bounded low)
 -- ---- of the labels of a search
 
 -- a search that is over has final labels
-pub final : (g : Digraph) (P : List Bool) (limit : Limit) (u v cap : ℕ) (s : LabelSearch) → IsSearch g P limit s → source_of s ≡ u → s.labels.cap ≡ cap → cap ≤ label_of s.labels.each v
+pub final : (g : Digraph) (P : List Bool) (limit : Limit) (u v cap : ℕ) (s : LabelSearch) → IsLabelSearch g P limit s → source_of s ≡ u → s.labels.cap ≡ cap → cap ≤ label_of s.labels.each v
     → AreTight g P limit s.labels.each → HasFinal g P limit u v cap s.labels
 final g P limit u v cap s search source at_cap above tight = record {
   at_cap = at_cap;

@@ -17,7 +17,7 @@ use Rattle.mono_paths.specs.declared.visit.Visit.{Visit}
 use Rattle.mono_paths.specs.Found.{IsBound, with_bound}
 use Rattle.mono_paths.specs.Trails.{visit_at, IsTrail}
 use Rattle.mono_paths.specs.Spread.{label_of, IsTight, AreTight}
-use Rattle.mono_paths.specs.Searches.{IsSearch, source_of}
+use Rattle.mono_paths.specs.Searches.{IsLabelSearch, source_of}
 use Rattle.mono_paths.specs.declared.target.Target.{Target}
 use Rattle.mono_paths.specs.Asked.{limit_by, target_at, HasPath}
 use Rattle.mono_paths.specs.NodeLabels.{AreReached}
@@ -111,7 +111,7 @@ out_of_bound g P m u v most bound = (
   λ there. absurd (none_light m g most there.0 bound (and_parts (is_walk g P u v there.0) (is_light (limit_by m most) g there.0) there.1).1),
 )
 
-pub reached_within : (g : Digraph) (P : List Bool) (m : Measure) (u v : ℕ) (most : ℤ) (n : ℕ) (s : LabelSearch) → IsSearch g P (limit_by m (pos 0)) s → source_of s ≡ u → v < g.nodes
+pub reached_within : (g : Digraph) (P : List Bool) (m : Measure) (u v : ℕ) (most : ℤ) (n : ℕ) (s : LabelSearch) → IsLabelSearch g P (limit_by m (pos 0)) s → source_of s ≡ u → v < g.nodes
     → IsBound (limit_by m most) (Some n) → n < s.labels.cap → label_of s.labels.each v ≤ n → HasPath g P u v (limit_by m most)
 reached_within g P m u v most n s search source v-in bound low le =
     let w = search.labelled.made v v-in (omega arith) in
@@ -125,7 +125,7 @@ reached_within g P m u v most n s search source v-in bound low le =
           (is_light_by m g most n r.0 bound (omega (arith, cost, le))),
     )
 
-pub not_within : (g : Digraph) (P : List Bool) (m : Measure) (u v : ℕ) (most : ℤ) (n : ℕ) (s : LabelSearch) → IsSearch g P (limit_by m (pos 0)) s → source_of s ≡ u
+pub not_within : (g : Digraph) (P : List Bool) (m : Measure) (u v : ℕ) (most : ℤ) (n : ℕ) (s : LabelSearch) → IsLabelSearch g P (limit_by m (pos 0)) s → source_of s ≡ u
     → IsBound (limit_by m most) (Some n) → n < label_of s.labels.each v → AreTight g P (limit_by m (pos 0)) s.labels.each → HasPath g P u v (limit_by m most) → ⊥
 not_within g P m u v most n s search source bound above tight there =
     let p = and_parts (is_walk g P u v there.0) (is_light (limit_by m most) g there.0) there.1 in
@@ -136,7 +136,7 @@ not_within g P m u v most n s search source bound above tight there =
     let cheap = light_costs m g most n there.0 bound p.1 in
     omega (arith, along, start, cheap, above)
 
-pub answer_decides : (g : Digraph) (P : List Bool) (m : Measure) (u v : ℕ) (most : ℤ) (n cap : ℕ) (s : LabelSearch) (b : Bool) → IsSearch g P (limit_by m (pos 0)) s → source_of s ≡ u → v < g.nodes
+pub answer_decides : (g : Digraph) (P : List Bool) (m : Measure) (u v : ℕ) (most : ℤ) (n cap : ℕ) (s : LabelSearch) (b : Bool) → IsLabelSearch g P (limit_by m (pos 0)) s → source_of s ≡ u → v < g.nodes
     → IsBound (limit_by m most) (Some n) → most <ℤ pos cap → 0 < cap → s.labels.cap ≡ cap
     → (IsTrue b → label_of s.labels.each v ≤ n) → (b ≡ false → n < label_of s.labels.each v) → (b ≡ false → AreTight g P (limit_by m (pos 0)) s.labels.each)
     → IsTrue b ↔ HasPath g P u v (limit_by m most)
@@ -179,7 +179,7 @@ light_at limit.Free g n ks low = refl
 light_at (limit.Steps most) g n ks low = light (limit.Steps (pos n)) g n ks refl (let le : cost_along (limit.Steps (pos n)) g ks ≤ n = low in omega arith)
 light_at (limit.Weight most) g n ks low = light (limit.Weight (pos n)) g n ks refl (let le : cost_along (limit.Weight (pos n)) g ks ≤ n = low in omega arith)
 
-walk_by : (g : Digraph) (P : List Bool) (l : Limit) (u v : ℕ) (s : LabelSearch) → IsSearch g P l s → source_of s ≡ u → v < g.nodes → label_of s.labels.each v < s.labels.cap
+walk_by : (g : Digraph) (P : List Bool) (l : Limit) (u v : ℕ) (s : LabelSearch) → IsLabelSearch g P l s → source_of s ≡ u → v < g.nodes → label_of s.labels.each v < s.labels.cap
     → HasPath g P u v (with_bound l (pos (label_of s.labels.each v)))
 walk_by g P l u v s search source v-in low =
     let w = search.labelled.made v v-in low in
@@ -193,7 +193,7 @@ walk_by g P l u v s search source v-in low =
           (light_at l g (label_of s.labels.each v) r.0 (omega (arith, cost))),
     )
 
-pub all_reached : (g : Digraph) (P : List Bool) (l : Limit) (u : ℕ) (s : LabelSearch) (us : List ℕ) → IsSearch g P l s → source_of s ≡ u → AreReached (length s.labels.each) s.labels.cap s.labels.each us
+pub all_reached : (g : Digraph) (P : List Bool) (l : Limit) (u : ℕ) (s : LabelSearch) (us : List ℕ) → IsLabelSearch g P l s → source_of s ≡ u → AreReached (length s.labels.each) s.labels.cap s.labels.each us
     → All (λ v. HasPath g P u v (with_bound l (pos (label_of s.labels.each v)))) us
 all_reached g P l u s us search source reached =
     let r : AreReached g.nodes s.labels.cap s.labels.each us = subst (λ (n : ℕ). AreReached n s.labels.cap s.labels.each us) search.labelled.len reached in
@@ -205,7 +205,7 @@ all_reached g P l u s us search source reached =
 in_bound : (x : ℤ) (a n : ℕ) → x ≡ pos n → a < n + 1 → pos a ≤ℤ x
 in_bound x a n e lt = omega (arith, ints, e, lt)
 
-pub all_within : (g : Digraph) (P : List Bool) (l : Limit) (u n : ℕ) (s : LabelSearch) (us : List ℕ) → IsSearch g P l s → source_of s ≡ u → IsBound l (Some n) → s.labels.cap ≡ n + 1
+pub all_within : (g : Digraph) (P : List Bool) (l : Limit) (u n : ℕ) (s : LabelSearch) (us : List ℕ) → IsLabelSearch g P l s → source_of s ≡ u → IsBound l (Some n) → s.labels.cap ≡ n + 1
     → AreReached (length s.labels.each) s.labels.cap s.labels.each us → All (λ v. (pos (label_of s.labels.each v) ≤ℤ bound_of l) × HasPath g P u v (with_bound l (pos (label_of s.labels.each v)))) us
 all_within g P l u n s us search source bound at_cap reached =
     let r : AreReached g.nodes s.labels.cap s.labels.each us = subst (λ (n : ℕ). AreReached n s.labels.cap s.labels.each us) search.labelled.len reached in

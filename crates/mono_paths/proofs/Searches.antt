@@ -12,7 +12,7 @@ use Rattle.mono_paths.specs.Trails.{visit_at, first_visit, IsTrail}
 use Rattle.mono_paths.specs.NodeLabels.{NodeLabels}
 use Rattle.mono_paths.specs.Spread.{label_of, IsTight, AreTight, IsSpread, AreLabels, waits_after}
 use Rattle.mono_paths.specs.Queues.{is_waiting, IsWithin, IsTaken, Takes, Adds}
-use Rattle.mono_paths.specs.Searches.{IsSearch}
+use Rattle.mono_paths.specs.Searches.{IsLabelSearch}
 use Rattle.mono_paths.proofs.Queued.{waits_once_added}
 
 -- visits that waited wait on where the new test passes whatever the old one does
@@ -26,7 +26,7 @@ waits_on g P limit labels vs p q h s = record {
 }
 
 -- where no visit waits every edge is tight
-pub none_waits : (g : Digraph) (P : List Bool) (limit : Limit) (s : LabelSearch) → ((i : ℕ) → i < length s.visits.items → is_waiting s.waiting i ≡ false) → IsSearch g P limit s → AreTight g P limit s.labels.each
+pub none_waits : (g : Digraph) (P : List Bool) (limit : Limit) (s : LabelSearch) → ((i : ℕ) → i < length s.visits.items → is_waiting s.waiting i ≡ false) → IsLabelSearch g P limit s → AreTight g P limit s.labels.each
 none_waits g P limit s none search = record {
   each = λ k lt here. elim (search.spread.each k lt here) [
     | inl t ↦ t
@@ -35,7 +35,7 @@ none_waits g P limit s none search = record {
 }
 
 pub search_over : (g : Digraph) (P : List Bool) (limit : Limit) (old new : LabelSearch) → new.labels ≡ old.labels → new.visits.items ≡ old.visits.items
-    → IsTaken old.waiting new.waiting (length old.visits.items) None → IsSearch g P limit old → IsSearch g P limit new
+    → IsTaken old.waiting new.waiting (length old.visits.items) None → IsLabelSearch g P limit old → IsLabelSearch g P limit new
 search_over g P limit old new labels visits none search =
     let tight = none_waits g P limit old none.1 search in
     record {
@@ -99,7 +99,7 @@ first_spread g P limit u cap p ends u-in waits = record {
 }
 
 pub search_begun : (g : Digraph) (P : List Bool) (limit : Limit) (u cap : ℕ) (s : LabelSearch) (w : Waiting) → HasEnds g → u < g.nodes
-    → s.labels.cap ≡ cap → s.labels.each ≡ set (replicate g.nodes cap) u 0 → s.visits.items ≡ first_visit u ∷ [] → Adds w s.waiting 0 (length s.visits.items) → IsSearch g P limit s
+    → s.labels.cap ≡ cap → s.labels.each ≡ set (replicate g.nodes cap) u 0 → s.visits.items ≡ first_visit u ∷ [] → Adds w s.waiting 0 (length s.visits.items) → IsLabelSearch g P limit s
 search_begun g P limit u cap s w ends u-in at_cap labels visits added = record {
   trail = subst (λ (vs : List Visit). IsTrail g P limit vs) (sym visits) (first_trail g P limit u u-in);
   labelled =
@@ -118,7 +118,7 @@ search_begun g P limit u cap s w ends u-in at_cap labels visits added = record {
 pub search_more : (g : Digraph) (P : List Bool) (limit : Limit) (old new : LabelSearch) (mid : Waiting) (at : ℕ) → Takes old.waiting mid (length old.visits.items) at
     → new.labels.cap ≡ old.labels.cap → IsTrail g P limit new.visits.items → AreLabels g old.labels.cap new.labels.each new.visits.items
     → ((waits : ℕ → Bool) → IsSpread g P limit old.labels.each old.visits.items waits → IsSpread g P limit new.labels.each new.visits.items (waits_after waits at (length old.visits.items)))
-    → Adds mid new.waiting (length old.visits.items) (length new.visits.items) → IsSearch g P limit old → IsSearch g P limit new
+    → Adds mid new.waiting (length old.visits.items) (length new.visits.items) → IsLabelSearch g P limit old → IsLabelSearch g P limit new
 search_more g P limit old new mid at taken cap trail labelled spread added search = record {
   trail = trail;
   labelled = subst (λ (c : ℕ). AreLabels g c new.labels.each new.visits.items) (sym cap) labelled;

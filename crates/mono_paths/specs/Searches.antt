@@ -12,7 +12,7 @@ abbrev pub source_of : LabelSearch → ℕ
 source_of s = (visit_at s.visits.items 0).node
 
 -- it is one of walks in the part, at any of its moments
-pub record IsSearch (g : Digraph) (P : List Bool) (limit : Limit) (s : LabelSearch) : Type 0 where
+pub record IsLabelSearch (g : Digraph) (P : List Bool) (limit : Limit) (s : LabelSearch) : Type 0 where
   pub trail : IsTrail g P limit s.visits.items
   pub labelled : AreLabels g s.labels.cap s.labels.each s.visits.items
   pub spread : IsSpread g P limit s.labels.each s.visits.items (is_waiting s.waiting)

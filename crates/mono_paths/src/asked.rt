@@ -6,7 +6,7 @@
 ghost use Rattle.std.specs.Prelude.{◌≡◌, ◌<◌, ◌≤ℤ◌, ◌<ℤ◌, ◌↔◌, pos, All, IfOk, IsTrue, length};
 ghost use Rattle.mono_graph.specs.Digraph.{IsPartOf};
 ghost use Rattle.mono_paths.specs.Asked.{limit_by, IsTarget, HasPath, AreAnswers};
-ghost use Rattle.mono_paths.specs.Searches.{IsSearch, source_of};
+ghost use Rattle.mono_paths.specs.Searches.{IsLabelSearch, source_of};
 
 use crate::find::bound_of;
 use crate::search::LabelSearch;
@@ -56,11 +56,11 @@ fn is_reached(
     requires target { IsTarget graph.now target }
     requires some { 0 < search.old.labels.cap }
     requires cap { target.most <ℤ pos search.old.labels.cap }
-    requires search { IsSearch graph.now part.now (limit_by measure (pos 0)) search.old }
+    requires search { IsLabelSearch graph.now part.now (limit_by measure (pos 0)) search.old }
     ensures len { length search.new.labels.each ≡ length search.old.labels.each }
     ensures cap { search.new.labels.cap ≡ search.old.labels.cap }
     ensures source { IfOk result (λ _. source_of search.new ≡ source_of search.old) }
-    ensures search { IfOk result (λ _. IsSearch graph.now part.now (limit_by measure (pos 0)) search.new) }
+    ensures search { IfOk result (λ _. IsLabelSearch graph.now part.now (limit_by measure (pos 0)) search.new) }
     ensures reached { IfOk result (λ reached. IsTrue reached ↔ HasPath graph.now part.now (source_of search.old) target.node (limit_by measure target.most)) }
 {
     let Some(most) = bound_of(measure.limit(target.most)) else {

@@ -10,7 +10,7 @@ ghost use Rattle.mono_graph.specs.Digraph.{IsPartOf};
 ghost use Rattle.mono_paths.specs.Trails.{first_visit, visit_at, IsVisited};
 ghost use Rattle.mono_paths.specs.Spread.{label_of, AreTight};
 ghost use Rattle.mono_paths.specs.Reaches.{IsCheap};
-ghost use Rattle.mono_paths.specs.Searches.{IsSearch, source_of};
+ghost use Rattle.mono_paths.specs.Searches.{IsLabelSearch, source_of};
 
 use crate::labels::Labels;
 use crate::spread::expand;
@@ -100,7 +100,7 @@ impl LabelSearch {
         ensures len { length self.new.labels.each ≡ length self.old.labels.each }
         ensures cap { self.new.labels.cap ≡ cap }
         ensures source { IfOk result (λ _. source_of self.new ≡ from) }
-        ensures begun { IfOk result (λ _. (P : List Bool) → IsSearch graph.now P limit self.new) }
+        ensures begun { IfOk result (λ _. (P : List Bool) → IsLabelSearch graph.now P limit self.new) }
     {
         // The edges of a graph lead between its nodes.
         graph.known();
@@ -121,11 +121,11 @@ impl LabelSearch {
     ) -> Result<bool, AllocError>
         requires part { IsPartOf part.now graph.now }
         requires to { to < graph.now.nodes }
-        requires search { IsSearch graph.now part.now limit self.old }
+        requires search { IsLabelSearch graph.now part.now limit self.old }
         ensures len { length self.new.labels.each ≡ length self.old.labels.each }
         ensures cap { self.new.labels.cap ≡ self.old.labels.cap }
         ensures source { IfOk result (λ _. source_of self.new ≡ source_of self.old) }
-        ensures search { IfOk result (λ _. IsSearch graph.now part.now limit self.new) }
+        ensures search { IfOk result (λ _. IsLabelSearch graph.now part.now limit self.new) }
         ensures found { IfOk result (λ found. IsTrue found → label_of self.new.labels.each to ≤ most) }
         ensures above { IfOk result (λ found. found ≡ false → most < label_of self.new.labels.each to) }
         ensures tight { IfOk result (λ found. found ≡ false → AreTight graph.now part.now limit self.new.labels.each) }
@@ -151,7 +151,7 @@ impl LabelSearch {
         to: u32,
     ) -> Result<Vec<u32>, AllocError>
         requires to { to < graph.now.nodes }
-        requires search { IsSearch graph.now part.now limit self.now }
+        requires search { IsLabelSearch graph.now part.now limit self.now }
         requires below { label_of self.now.labels.each to < self.now.labels.cap }
         ensures { IfOk result (λ walk. IsCheap graph.now part.now limit (source_of self.now) to self.now.labels.cap walk.items) }
     {

@@ -7,7 +7,7 @@ use Rattle.mono_problem.specs.Instance.{Instance}
 use Rattle.mono_steps.specs.declared.step.Step.{Step}
 use Rattle.mono_portfolio.specs.declared.building.Built.{Built}
 use Rattle.mono_portfolio.specs.Extended.{extended}
-use Rattle.mono_portfolio.specs.Workers.{WorkerState, IsKept, taken_at, IsBuilt, unless_of}
+use Rattle.mono_portfolio.specs.Workers.{WorkerState, IsKeptWorker, taken_at, IsBuilt, unless_of}
 use Rattle.mono_portfolio.proofs.Changes.{extended_kept}
 
 -- ---- what workers took
@@ -49,7 +49,7 @@ built_takes p board xs w y (Some b) h = by_place (b.worker == w) refl
     by_place true e = subst (λ (r : Option Built). IfSome r (IsBuilt p board (set xs w y))) (sym (cond-true (b.worker == w) None (Some b) e)) tt
     by_place false e = subst (λ (r : Option Built). IfSome r (IsBuilt p board (set xs w y))) (sym (cond-false (b.worker == w) None (Some b) e)) (built_beside p board xs w y b (eqb-false b.worker w e) h)
 
-pub built_grows : (p : Instance) (board more : List Step) (xs : List WorkerState) (b : Built) → All (IsKept p board) xs → IsBuilt p board xs b → IsBuilt p (board ++ more) xs b
+pub built_grows : (p : Instance) (board more : List Step) (xs : List WorkerState) (b : Built) → All (IsKeptWorker p board) xs → IsBuilt p board xs b → IsBuilt p (board ++ more) xs b
 built_grows p board more xs b kept h = record {
   there = h.there;
   is = h.is ∙ sym (extended_kept p board more (taken_at xs b.worker) (kept b.worker nobody h.there).worker.held);

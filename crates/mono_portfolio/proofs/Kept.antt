@@ -24,7 +24,7 @@ use Rattle.mono_portfolio.specs.Refusals.{first_reply, lacks_worker, has_taken, 
 use Rattle.mono_portfolio.specs.Plays.{Served, Answers}
 use Rattle.mono_portfolio.specs.Searched.{Tells, HasModelsOf}
 use Rattle.mono_portfolio.specs.declared.building.Built.{Built}
-use Rattle.mono_portfolio.specs.Workers.{WorkerState, shown, idle_over, IsKept, SearchesOver, taken_at, unless_of, shown_team, IsKeptTeam}
+use Rattle.mono_portfolio.specs.Workers.{WorkerState, shown, idle_over, IsKeptWorker, SearchesOver, taken_at, unless_of, shown_team, IsKeptTeam}
 use Rattle.mono_portfolio.proofs.BuiltProblems.{taken_is_at, built_stays, built_takes, built_grows}
 use Rattle.mono_portfolio.proofs.Changes.{extended_kept, worker_kept, idle_ok}
 use Rattle.mono_portfolio.proofs.ExtendedLaws.{literals_of, lits_more, size_of}
@@ -37,7 +37,7 @@ pub team_of : (p : Instance) (board : List Step) (xs : List WorkerState) (o : Op
 team_of p board xs o h = record {
   problem = h.problem;
   justified = h.justified;
-  workers = All-map (IsWorker p board) shown xs (All-weaker (IsKept p board) (λ x. IsWorker p board (shown x)) (λ x k. k.worker) xs h.workers);
+  workers = All-map (IsWorker p board) shown xs (All-weaker (IsKeptWorker p board) (λ x. IsWorker p board (shown x)) (λ x k. k.worker) xs h.workers);
 }
 
 pub shown_at : (p : Instance) (board : List Step) (xs : List WorkerState) (w : ℕ) (d : WorkerState) → w < length xs → worker_at (shown_team p board xs) w ≡ shown (get_or xs w d)
@@ -49,13 +49,13 @@ shown_replicate (suc n) x = ap (λ (ys : List WorkerView). shown x ∷ ys) (show
 
 -- ---- one worker
 
-pub kept_new : (p : Instance) (board : List Step) → IsInstance p → IsKept p board (idle_over p)
+pub kept_new : (p : Instance) (board : List Step) → IsInstance p → IsKeptWorker p board (idle_over p)
 kept_new p board ok = record {
   worker = idle_ok p board ok;
   literals = ap (λ (cs : List (List ℤ)). literals_total (record p { clauses = cs })) (sym (append-nil p.clauses));
 }
 
-pub kept_grows : (p : Instance) (board more : List Step) (x : WorkerState) → IsKept p board x → IsKept p (board ++ more) x
+pub kept_grows : (p : Instance) (board more : List Step) (x : WorkerState) → IsKeptWorker p board x → IsKeptWorker p (board ++ more) x
 kept_grows p board more x k =
     let same : extended p (board ++ more) x.taken ≡ extended p board x.taken = extended_kept p board more x.taken k.worker.held in
     record {
@@ -63,7 +63,7 @@ kept_grows p board more x k =
       literals = k.literals ∙ ap literals_total (sym same);
     }
 
-pub kept_makes : (p : Instance) (board : List Step) (x : WorkerState) (steps : List Step) → IsKept p board x → IsTrue (are_justified (extended p board x.taken) steps) → IsKept p board (record x { made = steps })
+pub kept_makes : (p : Instance) (board : List Step) (x : WorkerState) (steps : List Step) → IsKeptWorker p board x → IsTrue (are_justified (extended p board x.taken) steps) → IsKeptWorker p board (record x { made = steps })
 kept_makes p board x steps k j = record { worker = record { held = k.worker.held; fits = k.worker.fits; justified = j }; literals = k.literals }
 
 -- one more number is taken
@@ -73,7 +73,7 @@ with_taken p board x n = record { taken = x.taken ++ n ∷ []; made = []; litera
 pub more_literals : (p : Instance) (board : List Step) (taken : List ℕ) (n : ℕ) → literals_total (extended p board (taken ++ n ∷ [])) ≡ literals_total (extended p board taken) + length (board_clause p board n)
 more_literals p board taken n = omega (arith, literals_of p board (taken ++ n ∷ []), lits_more p board taken n, literals_of p board taken)
 
-pub kept_takes : (p : Instance) (board : List Step) (x : WorkerState) (n : ℕ) → IsKept p board x → IsTrue (has_chain p board n) → passes_limits (extended p board (x.taken ++ n ∷ [])) ≡ false → IsKept p board (with_taken p board x n)
+pub kept_takes : (p : Instance) (board : List Step) (x : WorkerState) (n : ℕ) → IsKeptWorker p board x → IsTrue (has_chain p board n) → passes_limits (extended p board (x.taken ++ n ∷ [])) ≡ false → IsKeptWorker p board (with_taken p board x n)
 kept_takes p board x n k h fits = record {
   worker = record { held = All-push (λ m. IsTrue (has_chain p board m)) x.taken n k.worker.held h; fits = fits; justified = refl };
   literals = ap (λ (m : ℕ). m + length (board_clause p board n)) k.literals ∙ sym (more_literals p board x.taken n);
@@ -88,7 +88,7 @@ taken_is p board x n literals taken made t m l =
     ∙ ap (λ (k : ℕ). record { taken = x.taken ++ n ∷ []; made = []; literals = k }) l
 
 -- whether there is room, by the counts
-pub full_by_counts : (p : Instance) (board : List Step) (x : WorkerState) (n clauses literals : ℕ) → IsKept p board x → clauses ≡ length p.clauses + length x.taken + 1 → literals ≡ x.literals + length (board_clause p board n)
+pub full_by_counts : (p : Instance) (board : List Step) (x : WorkerState) (n clauses literals : ℕ) → IsKeptWorker p board x → clauses ≡ length p.clauses + length x.taken + 1 → literals ≡ x.literals + length (board_clause p board n)
     → (nat_lt MAX_CLAUSES clauses || nat_lt MAX_LITERALS literals) ≡ passes_limits (extended p board (x.taken ++ n ∷ []))
 full_by_counts p board x n clauses literals k c l =
     let size : length (extended p board (x.taken ++ n ∷ [])).clauses ≡ clauses = size_of p board (x.taken ++ n ∷ []) ∙ omega (arith, c, length-append x.taken (n ∷ [])) in
@@ -103,32 +103,32 @@ on_error (Err e) h = h
 -- ---- a team
 
 pub team_new : (p : Instance) (n : ℕ) → IsInstance p → IsKeptTeam p [] (replicate n (idle_over p)) None
-team_new p n ok = record { problem = ok; justified = refl; workers = All-replicate (IsKept p []) n (idle_over p) (kept_new p [] ok); built = tt }
+team_new p n ok = record { problem = ok; justified = refl; workers = All-replicate (IsKeptWorker p []) n (idle_over p) (kept_new p [] ok); built = tt }
 
 -- one worker becomes y, which took the same
-pub team_sets : (p : Instance) (board : List Step) (xs : List WorkerState) (o : Option Built) (w : ℕ) (x y : WorkerState) → IsKeptTeam p board xs o → x ≡ get_or xs w x → IsKept p board y → y.taken ≡ x.taken → IsKeptTeam p board (set xs w y) o
+pub team_sets : (p : Instance) (board : List Step) (xs : List WorkerState) (o : Option Built) (w : ℕ) (x y : WorkerState) → IsKeptTeam p board xs o → x ≡ get_or xs w x → IsKeptWorker p board y → y.taken ≡ x.taken → IsKeptTeam p board (set xs w y) o
 team_sets p board xs o w x y h is k same = record {
   problem = h.problem;
   justified = h.justified;
-  workers = All-set (IsKept p board) xs w y k h.workers;
+  workers = All-set (IsKeptWorker p board) xs w y k h.workers;
   built = IfSome_then o h.built (λ b. built_stays p board xs w x y b is same);
 }
 
 -- one worker becomes y, and its built problem is dropped
-pub team_takes : (p : Instance) (board : List Step) (xs : List WorkerState) (o : Option Built) (w : ℕ) (y : WorkerState) → IsKeptTeam p board xs o → IsKept p board y → IsKeptTeam p board (set xs w y) (unless_of w o)
+pub team_takes : (p : Instance) (board : List Step) (xs : List WorkerState) (o : Option Built) (w : ℕ) (y : WorkerState) → IsKeptTeam p board xs o → IsKeptWorker p board y → IsKeptTeam p board (set xs w y) (unless_of w o)
 team_takes p board xs o w y h k = record {
   problem = h.problem;
   justified = h.justified;
-  workers = All-set (IsKept p board) xs w y k h.workers;
+  workers = All-set (IsKeptWorker p board) xs w y k h.workers;
   built = built_takes p board xs w y o h.built;
 }
 
-pub team_gives : (p : Instance) (board more : List Step) (xs : List WorkerState) (o : Option Built) (w : ℕ) (x y : WorkerState) → IsKeptTeam p board xs o → x ≡ get_or xs w x → IsKept p board y → y.taken ≡ x.taken → IsTrue (are_justified p (board ++ more)) → IsKeptTeam p (board ++ more) (set xs w y) o
+pub team_gives : (p : Instance) (board more : List Step) (xs : List WorkerState) (o : Option Built) (w : ℕ) (x y : WorkerState) → IsKeptTeam p board xs o → x ≡ get_or xs w x → IsKeptWorker p board y → y.taken ≡ x.taken → IsTrue (are_justified p (board ++ more)) → IsKeptTeam p (board ++ more) (set xs w y) o
 team_gives p board more xs o w x y h is k same j = record {
   problem = h.problem;
   justified = j;
-  workers = All-set (IsKept p (board ++ more)) xs w y (kept_grows p board more y k) (All-weaker (IsKept p board) (IsKept p (board ++ more)) (kept_grows p board more) xs h.workers);
-  built = IfSome_then o (IfSome_then o h.built (λ b. built_stays p board xs w x y b is same)) (λ b. built_grows p board more (set xs w y) b (All-set (IsKept p board) xs w y k h.workers));
+  workers = All-set (IsKeptWorker p (board ++ more)) xs w y (kept_grows p board more y k) (All-weaker (IsKeptWorker p board) (IsKeptWorker p (board ++ more)) (kept_grows p board more) xs h.workers);
+  built = IfSome_then o (IfSome_then o h.built (λ b. built_stays p board xs w x y b is same)) (λ b. built_grows p board more (set xs w y) b (All-set (IsKeptWorker p board) xs w y k h.workers));
 }
 
 -- the search of a worker of a team
@@ -136,7 +136,7 @@ pub searches : (p : Instance) (board : List Step) (xs : List WorkerState) (o : O
 searches p board xs o w x q h lt is over = record {
   problem = h.problem;
   justified = h.justified;
-  kept = subst (λ (y : WorkerState). IsKept p board y) (sym is) (h.workers w x lt);
+  kept = subst (λ (y : WorkerState). IsKeptWorker p board y) (sym is) (h.workers w x lt);
   over = over ∙ ap (extended p board) (sym (taken_is_at xs w x lt is));
 }
 
@@ -231,7 +231,7 @@ give_answers p board more xs w n x y lt is some more_is after count =
     answers_served s (event.Give w) (reply.Given n) (shown_team p (board ++ more) (set xs w y)) none (count ∙ ap (λ (z : WorkerView). length z.made) (sym at), state)
 
 -- the steps that a worker made name clauses of its problem and steps before them
-pub kept_names : (p : Instance) (board : List Step) (x : WorkerState) (count : ℕ) (taken : List ℕ) (made : List Step) → IsKept p board x → count ≡ length p.clauses → taken ≡ x.taken → made ≡ x.made → NamesHeld (count + length taken) made
+pub kept_names : (p : Instance) (board : List Step) (x : WorkerState) (count : ℕ) (taken : List ℕ) (made : List Step) → IsKeptWorker p board x → count ≡ length p.clauses → taken ≡ x.taken → made ≡ x.made → NamesHeld (count + length taken) made
 kept_names p board x count taken made k count_is taken_is made_is =
     let all : NamesHeld (length (extended p board x.taken).clauses) x.made = names_held (extended p board x.taken) x.made k.worker.justified in
     let size : length (extended p board x.taken).clauses ≡ count + length taken = size_of p board x.taken ∙ ap (λ (n : ℕ). n + length x.taken) (sym count_is) ∙ ap (λ (ns : List ℕ). count + length ns) (sym taken_is) in
@@ -259,5 +259,5 @@ tells_justified p q slice reply.Full made h = absurd h
 pub told_by : (p : Instance) (board : List Step) (x : WorkerState) (q : Instance) → SearchesOver p board x q → HasModelsOf p q
 told_by p board x q h = subst (λ (r : Instance). HasModelsOf p r) (sym h.over) (models_of p board x.taken h.problem h.justified h.kept.worker.held)
 
-pub kept_runs : (p : Instance) (board : List Step) (x : WorkerState) (q : Instance) (slice : ℕ) (r : Reply) (made : List Step) → SearchesOver p board x q → Tells p q slice r made → IsKept p board (record x { made = made })
+pub kept_runs : (p : Instance) (board : List Step) (x : WorkerState) (q : Instance) (slice : ℕ) (r : Reply) (made : List Step) → SearchesOver p board x q → Tells p q slice r made → IsKeptWorker p board (record x { made = made })
 kept_runs p board x q slice r made h tells = kept_makes p board x made h.kept (subst (λ (i : Instance). IsTrue (are_justified i made)) h.over (tells_justified p q slice r made tells))

@@ -24,7 +24,7 @@ use Rattle.mono_portfolio.specs.TeamView.{WorkerView, TeamView, idle, start, wor
 use Rattle.mono_search.specs.Outcomes.{HasModel}
 use Rattle.mono_portfolio.specs.Refusals.{refusal, first_reply, lacks_worker}
 use Rattle.mono_portfolio.specs.Plays.{Served, Answers, Plays}
-use Rattle.mono_portfolio.specs.Soundness.{worker_of, is_model, is_unsat, IsTrueModel, given_by, given, refuted_last, IsSound}
+use Rattle.mono_portfolio.specs.Soundness.{worker_of, is_model, is_unsat, IsTrueModel, given_by, given, refuted_last, IsSoundPlay}
 use Rattle.mono_portfolio.proofs.Carried.{moved_refutes}
 use Rattle.mono_portfolio.proofs.Changes.{is_refused, Changes, change_keeps, Happens, refuses, changes, what_happens, extended_kept, worker_ok, start_ok, has_worker}
 
@@ -226,7 +226,7 @@ refutes_at s (f ∷ es) [] t w b h j a k e l = absurd a
 
 -- ---- the theorem
 
-pub play_sound : (p : Instance) (workers : ℕ) (es : List Event) (rs : List Reply) (t : TeamView) → IsInstance p → Plays (start p workers) es rs t → IsSound p es rs t.board
+pub play_sound : (p : Instance) (workers : ℕ) (es : List Event) (rs : List Reply) (t : TeamView) → IsInstance p → Plays (start p workers) es rs t → IsSoundPlay p es rs t.board
 play_sound p workers es rs t ok a =
     let s : TeamView = start p workers in
     let h = start_ok p workers ok in
@@ -252,5 +252,5 @@ plays_more s [] (q ∷ rs) m e r t h a = absurd h
 plays_more s (f ∷ es) [] m e r t h a = absurd h
 
 -- a play that an event follows is sound
-pub sound_after : (s : TeamView) (e : Event) (r : Reply) (t : TeamView) → IsInstance s.problem → Answers s e r t → (es : List Event) (rs : List Reply) → Plays (start s.problem (length s.workers)) es rs s → IsSound s.problem (es ++ e ∷ []) (rs ++ r ∷ []) t.board
+pub sound_after : (s : TeamView) (e : Event) (r : Reply) (t : TeamView) → IsInstance s.problem → Answers s e r t → (es : List Event) (rs : List Reply) → Plays (start s.problem (length s.workers)) es rs s → IsSoundPlay s.problem (es ++ e ∷ []) (rs ++ r ∷ []) t.board
 sound_after s e r t ok a es rs h = play_sound s.problem (length s.workers) (es ++ e ∷ []) (rs ++ r ∷ []) t ok (plays_more (start s.problem (length s.workers)) es rs s e r t h a)

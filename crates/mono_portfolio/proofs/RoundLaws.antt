@@ -22,7 +22,7 @@ use Rattle.mono_portfolio.specs.Plays.{Makes, Served, Answers}
 use Rattle.mono_portfolio.specs.Rounds.{IsPiece, IsRound}
 use Rattle.mono_portfolio.specs.declared.rounds.Turn.{Turn}
 use Rattle.mono_portfolio.specs.declared.rounds.Turn.TheVariants as turn
-use Rattle.mono_portfolio.specs.Ends.{IsRefuted}
+use Rattle.mono_portfolio.specs.Ends.{IsRefutedTurn}
 use Rattle.mono_portfolio.specs.Turns.{even, IsGiven, IsRounded, EndsTurn, TurnsTo, Stops, RoundsTo}
 use Rattle.mono_portfolio.proofs.Replies.{may_run, may_give}
 use Rattle.mono_portfolio.proofs.Playing.{refuted_gives, not_nothing}
@@ -70,7 +70,7 @@ some_chains n [] e lt = absurd (omega arith)
 some_chains n (s ∷ ss) e lt = ne_eqb (length (s ∷ ss)) 0 (λ z. omega arith)
 
 -- what the worker made refutes, and it gives
-pub refuted_then_gives : (s m t : TeamView) (w : ℕ) (r : Reply) → w < length s.workers → Makes s w (λ p steps. IsTrimRefutation p steps) m → IsTeam m → Answers m (event.Give w) r t → IsRefuted s.problem (worker_at s w).taken s.board t.board
+pub refuted_then_gives : (s m t : TeamView) (w : ℕ) (r : Reply) → w < length s.workers → Makes s w (λ p steps. IsTrimRefutation p steps) m → IsTeam m → Answers m (event.Give w) r t → IsRefutedTurn s.problem (worker_at s w).taken s.board t.board
 refuted_then_gives s m t w r lt made h a =
     let x : worker_at m w ≡ record (worker_at s w) { made = made.made } = ap (λ (y : TeamView). worker_at y w) made.after ∙ made_at s w made.made lt in
     let len : length m.workers ≡ length s.workers = ap (λ (y : TeamView). length y.workers) made.after ∙ length-set s.workers w (record (worker_at s w) { made = made.made }) in
@@ -95,8 +95,8 @@ sliced_then_gives s m t w r lt made a =
     let after : t ≡ after_give m w = gives_to m w r t (omega arith) some a in
     let direct : after_give m w ≡ after_give (with_made s w made.made) w = ap (λ (y : TeamView). after_give y w) made.after in
     record {
-      made = made.made;
-      slice = made.are;
+      piece = moved s.problem made.made (worker_at s w).taken s.board;
+      is_piece = record { steps = made.made; learned = made.are; is = refl };
       after = after ∙ direct ∙ given_is s w made.made lt;
     }
   where
@@ -118,19 +118,16 @@ pub record EvenTurn (p : Instance) (k : ℕ) (taken : List ℕ) (board : List St
   pub piece : List Step
   pub is_piece : IsPiece 1000 p board taken piece
   pub after : t ≡ even p k taken (board ++ piece)
-  pub few : 1000 < 3 ^ p.vars
 
 pub even_turn : (p : Instance) (k : ℕ) (taken : List ℕ) (board : List Step) (w : ℕ) (t : TeamView) → w < k → IsGiven (even p k taken board) w t → EvenTurn p k taken board t
 even_turn p k taken board w t lt g =
     let x : WorkerView = record { taken = taken; made = [] } in
     let is : worker_at (even p k taken board) w ≡ x = get_or-replicate k w x idle lt in
-    let slice : IsProgress (extended p board taken) 1000 g.made = subst (λ (y : WorkerView). IsProgress (extended p board y.taken) 1000 g.made) is g.slice in
     record {
-      piece = moved p g.made taken board;
-      is_piece = record { steps = g.made; learned = slice; is = refl };
-      after = g.after ∙ ap (λ (y : WorkerView). record { problem = p; board = board ++ moved p g.made y.taken board; workers = set (replicate k x) w (record y { made = [] }) }) is
-          ∙ ap (λ (ws : List WorkerView). record { problem = p; board = board ++ moved p g.made taken board; workers = ws }) (set_replicate k w x);
-      few = slice.few;
+      piece = g.piece;
+      is_piece = subst (λ (y : WorkerView). IsPiece 1000 p board y.taken g.piece) is g.is_piece;
+      after = g.after ∙ ap (λ (y : WorkerView). record { problem = p; board = board ++ g.piece; workers = set (replicate k x) w (record y { made = [] }) }) is
+          ∙ ap (λ (ws : List WorkerView). record { problem = p; board = board ++ g.piece; workers = ws }) (set_replicate k w x);
     }
 
 -- ---- some turns
@@ -162,10 +159,10 @@ model_turn s t w r values lt a e = by_case (runs_to s w 1000 r t lt (omega arith
     by_case (refuted f made) = absurd cc
     by_case (sliced f made) = absurd cc
 
-pub unsat_turn : (s m t : TeamView) (w : ℕ) (r q : Reply) → w < length s.workers → Answers s (event.Run w 1000) r m → r ≡ reply.Unsat → IsTeam m → Answers m (event.Give w) q t → IsRefuted s.problem (worker_at s w).taken s.board t.board
+pub unsat_turn : (s m t : TeamView) (w : ℕ) (r q : Reply) → w < length s.workers → Answers s (event.Run w 1000) r m → r ≡ reply.Unsat → IsTeam m → Answers m (event.Give w) q t → IsRefutedTurn s.problem (worker_at s w).taken s.board t.board
 unsat_turn s m t w r q lt a e h b = by_case (runs_to s w 1000 r m lt (omega arith) a)
   where
-    by_case : RunsTo s w 1000 r m → IsRefuted s.problem (worker_at s w).taken s.board t.board
+    by_case : RunsTo s w 1000 r m → IsRefutedTurn s.problem (worker_at s w).taken s.board t.board
     by_case (found x f g after) = absurd cc
     by_case (refuted f made) = refuted_then_gives s m t w q lt made h b
     by_case (sliced f made) = absurd cc
@@ -182,7 +179,7 @@ pub turn_more : (s m t : TeamView) (w : ℕ) → SoFar s w m → IsGiven m w t �
 turn_more s m t w h g = record {
   problem = ap (λ (x : TeamView). x.problem) g.after ∙ h.problem;
   workers = ap (λ (x : TeamView). length x.workers) g.after ∙ length-set m.workers w (record (worker_at m w) { made = [] }) ∙ h.workers;
-  few = λ lt. subst (λ (p : Instance). 1000 < 3 ^ p.vars) h.problem g.slice.few;
+  few = λ lt. subst (λ (p : Instance). 1000 < 3 ^ p.vars) h.problem g.is_piece.learned.few;
   leads = λ k taken le is.
       let l = h.leads k taken (omega arith) is in
       let e : EvenTurn s.problem k taken m.board t = even_turn s.problem k taken m.board w t (omega arith) (subst (λ (x : TeamView). IsGiven x w t) l.0 g) in

@@ -45,7 +45,7 @@ two_clauses_ok = record {
 
 -- one clause was learned over it
 pub one_learned : IsProgress two_clauses 1 first_learned
-one_learned = record { justified = refl; new = one_is_new two_clauses refl refl refl; chains = refl; few = lit< tt }
+one_learned = record { justified = refl; new = one_is_new two_clauses refl refl refl; chains = refl; few = lit< tt; short = lit< tt }
 
 -- ---- {1, 2} is learned over the four clauses
 
@@ -61,4 +61,4 @@ first_open : IsNewClause four_clauses.clauses (pos 1 ∷ pos 2 ∷ [])
 first_open = record { under = minus 2 ∷ []; partial = refl; quiet = refl; lit = pos 1; is_literal = refl; has = refl; is_open = refl; others = refl }
 
 pub first_given : IsProgress four_clauses 1 (given_first ∷ [])
-first_given = record { justified = refl; new = record { chains = ((λ full. record { exact = first_end; new = first_open }), tt); none_empty = refl }; chains = refl; few = lit< tt }
+first_given = record { justified = refl; new = record { chains = ((λ full. record { exact = first_end; new = first_open }), tt); none_empty = refl }; chains = refl; few = lit< tt; short = lit< tt }

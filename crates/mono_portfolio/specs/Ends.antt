@@ -22,7 +22,7 @@ pub record IsAtTurn (slice : ℕ) (p : Instance) (workers rounds : ℕ) (taken :
   pub turns_before : IsRound slice p worker taken before board
 
 -- a worker that took these numbers refuted its problem, by no idle step, and gave that: with it the board refutes the problem itself
-pub record IsRefuted (p : Instance) (taken : List ℕ) (before board : List Step) : Type 0 where
+pub record IsRefutedTurn (p : Instance) (taken : List ℕ) (before board : List Step) : Type 0 where
   pub steps : List Step
   pub trim : IsTrimRefutation (extended p before taken) steps
   pub is : board ≡ before ++ moved p steps taken before
@@ -39,4 +39,4 @@ pub record IsRefutationOfTurn (p : Instance) (workers rounds : ℕ) (board : Lis
   pub taken : List ℕ
   pub before : List Step
   pub reached : IsAtTurn 1000 p workers rounds taken before
-  pub refuted : IsRefuted p taken before board
+  pub refuted : IsRefutedTurn p taken before board

@@ -1,5 +1,5 @@
 -- How a team's rounds end.
-use Rattle.std.specs.Prelude.{ℕ, ◌^◌, ◌<◌, List, IsTrue}
+use Rattle.std.specs.Prelude.{ℕ, ◌^◌, ◌<◌, List, length, IsTrue}
 use Rattle.mono_problem.specs.Instance.{Instance}
 use Rattle.mono_steps.specs.declared.step.Step.{Step}
 use Rattle.mono_steps.specs.Steps.{are_justified}
@@ -13,6 +13,7 @@ pub record IsBoardOfRounds (p : Instance) (workers rounds : ℕ) (board : List S
   pub justified : IsTrue (are_justified p board)
   pub rounds_are : Rounds p board workers rounds
   pub few : 1000 < 3 ^ p.vars
+  pub short : length board < 2 ^ 63
 
 -- with the model or the refutation of the first turn that gave no slice, or with the board of all rounds
 abbrev pub IsTeamOutcome : Instance → ℕ → ℕ → TeamOutcome → Type 0

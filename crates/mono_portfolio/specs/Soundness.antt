@@ -46,7 +46,7 @@ refuted_last w before (e ∷ es) [] = before
 refuted_last w before (e ∷ es) (r ∷ rs) = refuted_last w (if worker_of e == w then is_unsat r else before) es rs
 
 -- the board, with what was replied to which events
-pub record IsSound (p : Instance) (events : List Event) (replies : List Reply) (board : List Step) : Type 0 where
+pub record IsSoundPlay (p : Instance) (events : List Event) (replies : List Reply) (board : List Step) : Type 0 where
   pub justified : IsTrue (are_justified p board)
   pub models : All (IsTrueModel p) replies
   -- where a worker's Give comes next after its Unsat, the board is a refutation then: the first steps of the last one

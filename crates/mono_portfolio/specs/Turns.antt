@@ -5,12 +5,10 @@ use Rattle.mono_steps.specs.declared.step.Step.{Step}
 use Rattle.mono_steps.specs.Steps.{are_justified}
 use Rattle.mono_portfolio.specs.declared.rounds.Turn.{Turn}
 use Rattle.mono_portfolio.specs.declared.rounds.Turn.TheVariants as turn
-use Rattle.mono_portfolio.specs.Moved.{moved}
-use Rattle.mono_portfolio.specs.TeamView.{TeamView, worker_at, over, with_worker}
+use Rattle.mono_portfolio.specs.TeamView.{TeamView, worker_at, with_worker}
 use Rattle.mono_search.specs.Outcomes.{HasModel}
-use Rattle.mono_steps.specs.New.{IsProgress}
-use Rattle.mono_portfolio.specs.Rounds.{IsRound, Rounds, taking, short_chains}
-use Rattle.mono_portfolio.specs.Ends.{IsRefuted, IsModelOfTurn, IsRefutationOfTurn}
+use Rattle.mono_portfolio.specs.Rounds.{IsPiece, IsRound, Rounds, taking, short_chains}
+use Rattle.mono_portfolio.specs.Ends.{IsRefutedTurn, IsModelOfTurn, IsRefutationOfTurn}
 
 -- a team whose workers all took these steps, and made nothing
 abbrev pub even : Instance → ℕ → List ℕ → List Step → TeamView
@@ -20,20 +18,20 @@ even p workers taken board = record { problem = p; board = board; workers = repl
 abbrev pub having : TeamView → ℕ → List ℕ → TeamView
 having s w taken = with_worker s w (record { taken = taken; made = [] })
 
--- the worker made a slice and gave it
+-- the worker gave a piece
 pub record IsGiven (s : TeamView) (w : ℕ) (t : TeamView) : Type 0 where
-  pub made : List Step
-  pub slice : IsProgress (over s w) 1000 made
+  pub piece : List Step
+  pub is_piece : IsPiece 1000 s.problem s.board (worker_at s w).taken piece
   pub after : t ≡ record {
     problem = s.problem;
-    board = s.board ++ moved s.problem made (worker_at s w).taken s.board;
+    board = s.board ++ piece;
     workers = slice_set s.workers w (record (worker_at s w) { made = [] });
   }
 
 -- how a turn ends that gives no slice, of a worker that took these numbers: from the board before it to the one behind it
 abbrev pub EndsTurn : Instance → List ℕ → List Step → List Step → Turn → Type 0
 EndsTurn p taken before board (turn.Model values) = HasModel p values × (board ≡ before)
-EndsTurn p taken before board turn.Refuted = IsRefuted p taken before board
+EndsTurn p taken before board turn.Refuted = IsRefutedTurn p taken before board
 EndsTurn p taken before board turn.Gave = ⊥
 
 abbrev pub TurnsTo : TeamView → ℕ → TeamView → Turn → Type 0

@@ -22,7 +22,7 @@ abbrev pub idle_over : Instance → WorkerState
 idle_over p = record { taken = []; made = []; literals = literals_total p }
 
 -- the literals are counted
-pub record IsKept (p : Instance) (board : List Step) (x : WorkerState) : Type 0 where
+pub record IsKeptWorker (p : Instance) (board : List Step) (x : WorkerState) : Type 0 where
   pub worker : IsWorker p board (shown x)
   pub literals : x.literals ≡ literals_total (extended p board x.taken)
 
@@ -30,7 +30,7 @@ pub record IsKept (p : Instance) (board : List Step) (x : WorkerState) : Type 0 
 pub record SearchesOver (p : Instance) (board : List Step) (x : WorkerState) (q : Instance) : Type 0 where
   pub problem : IsInstance p
   pub justified : IsTrue (are_justified p board)
-  pub kept : IsKept p board x
+  pub kept : IsKeptWorker p board x
   pub over : q ≡ extended p board x.taken
 
 -- ---- the problem that was built last
@@ -43,11 +43,6 @@ taken_at xs w = (slice_index_or xs w (record { taken = []; made = []; literals =
 pub record IsBuilt (p : Instance) (board : List Step) (xs : List WorkerState) (b : Built) : Type 0 where
   pub there : b.worker < length xs
   pub is : b.problem ≡ extended p board (taken_at xs b.worker)
-
--- it is the problem of the worker at this place
-pub record IsBuiltFor (p : Instance) (board : List Step) (xs : List WorkerState) (w : ℕ) (b : Built) : Type 0 where
-  pub of_it : b.worker ≡ w
-  pub built : IsBuilt p board xs b
 
 -- what was built, unless it is of the worker at this place
 abbrev pub unless_of : ℕ → Option Built → Option Built
@@ -67,5 +62,5 @@ shown_team p board xs = record { problem = p; board = board; workers = map shown
 pub record IsKeptTeam (p : Instance) (board : List Step) (xs : List WorkerState) (last : Option Built) : Type 0 where
   pub problem : IsInstance p
   pub justified : IsTrue (are_justified p board)
-  pub workers : All (IsKept p board) xs
+  pub workers : All (IsKeptWorker p board) xs
   pub built : IfSome last (IsBuilt p board xs)

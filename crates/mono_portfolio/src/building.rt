@@ -7,7 +7,7 @@ ghost use Rattle.std.specs.Prelude.{◌≡◌, ◌<◌, ℕ, List, length, IfSom
 ghost use Rattle.mono_problem.specs.Instance.{Instance};
 ghost use Rattle.mono_steps.specs.declared.step.Step.{Step};
 ghost use Rattle.mono_portfolio.specs.Extended.{extended as extended_by};
-ghost use Rattle.mono_portfolio.specs.Workers.{IsKeptTeam, IsBuilt, IsBuiltFor, taken_at, built_or, unless_of};
+ghost use Rattle.mono_portfolio.specs.Workers.{IsKeptTeam, IsBuilt, taken_at, built_or, unless_of};
 
 use crate::extending::extended;
 use crate::worker::Worker;
@@ -39,7 +39,7 @@ fn hand_on(workers: &[Worker], place: usize, built: &mut Option<Built>)
     requires place { place < length workers.now }
     requires there { IfSome built.old (λ b. b.worker < length workers.now) }
     ensures { (p : Instance) (board : List Step) → IfSome built.old (IsBuilt p board workers.now)
-        → IfSome built.new (IsBuiltFor p board workers.now place) }
+        → IfSome built.new (λ b. (b.worker ≡ place) × IsBuilt p board workers.now b) }
 {
     let Some(last) = built else {
         return;

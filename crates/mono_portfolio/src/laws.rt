@@ -12,7 +12,7 @@ ghost use Rattle.mono_portfolio.specs.Extended.{extended, has_chain};
 ghost use Rattle.mono_portfolio.specs.Moved.{moved};
 ghost use Rattle.mono_portfolio.specs.TeamView.{TeamView, start};
 ghost use Rattle.mono_portfolio.specs.Plays.{Plays};
-ghost use Rattle.mono_portfolio.specs.Soundness.{IsSound};
+ghost use Rattle.mono_portfolio.specs.Soundness.{IsSoundPlay};
 
 /// The clauses of justified steps follow from the problem: an assignment satisfies it exactly where it satisfies the
 /// problem with some of them behind its own.
@@ -40,5 +40,5 @@ pub fn moved_refutations_refute()
 /// leaves a refutation, and no play has both a model and Unsat.
 pub fn every_play_is_sound()
     ensures { (p : Instance) (workers : ℕ) (events : List Event) (replies : List Reply) (t : TeamView) → IsInstance p
-        → Plays (start p workers) events replies t → IsSound p events replies t.board }
+        → Plays (start p workers) events replies t → IsSoundPlay p events replies t.board }
 {}

@@ -49,7 +49,7 @@ fn take_turn<'p, T: Theory, F: Fn(&Problem) -> Result<Vec<T>, AllocError>>(
     match team.step::<T, F>(make, run)? {
         Reply::Model(model) => Ok(Turn::Model(model)),
         Reply::Unsat => {
-            let _ = team.board();
+            team.known();
             team.step::<T, F>(make, Event::Give { worker })?;
             Ok(Turn::Refuted)
         }
@@ -143,7 +143,7 @@ fn play_rounds<'p, T: Theory, F: Fn(&Problem) -> Result<Vec<T>, AllocError>>(
         }
         take_short_by_all(team, workers, from)?;
     }
-    let _ = team.board();
+    team.known();
     Ok(Turn::Gave)
 }
 

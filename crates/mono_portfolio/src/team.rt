@@ -11,7 +11,7 @@ ghost use Rattle.mono_theory.specs.Owners.{facts_of};
 ghost use Rattle.mono_portfolio.specs.declared.event.Event.{Event};
 ghost use Rattle.mono_portfolio.specs.declared.event.Reply.{Reply};
 ghost use Rattle.mono_portfolio.specs.Plays.{Answers, Plays};
-ghost use Rattle.mono_portfolio.specs.Soundness.{IsSound};
+ghost use Rattle.mono_portfolio.specs.Soundness.{IsSoundPlay};
 ghost use Rattle.mono_search.specs.Solving.{MakesTheories};
 
 use crate::building::{Built, build_for, drop_built_of, problem_of};
@@ -65,7 +65,7 @@ impl<'p> Team<'p> {
         requires high { workers ≤ 8 }
         ensures { IfOk result (λ team. team ≡ start problem.now workers) }
     {
-        let _ = problem.vars();
+        problem.known();
         let idle = idle_workers(alloc, problem, workers)?;
         let board = Vec::new(alloc);
         Ok(Team {
@@ -75,6 +75,13 @@ impl<'p> Team<'p> {
             workers: idle,
             built: None,
         })
+    }
+
+    /// What holds of every team. Nothing is computed: it is there for the clause.
+    pub(crate) fn known(&self)
+        ensures team { IsTeam self.now }
+    {
+        let _ = &self.board;
     }
 
     /// The steps of the board, in order.
@@ -118,9 +125,9 @@ impl<'p> Team<'p> {
         ensures err { OnErr result (self.new ≡ self.old) }
         ensures sound { IfOk result (λ r. (events : List Event) (replies : List Reply)
             → Plays (start self.old.problem (length self.old.workers)) events replies self.old
-            → IsSound self.old.problem (events ++ event ∷ []) (replies ++ r ∷ []) self.new.board) }
+            → IsSoundPlay self.old.problem (events ++ event ∷ []) (replies ++ r ∷ []) self.new.board) }
     {
-        let _ = self.problem.vars();
+        self.problem.known();
         match event {
             Event::Run { worker, slice } => self.run::<T, F>(make, worker, slice),
             Event::Give { worker } => self.give(worker),

@@ -4,7 +4,7 @@ ghost use Rattle.std.specs.Prelude.{◌≤◌, IfOk};
 ghost use Rattle.mono_problem.specs.Instance.{Instance};
 ghost use Rattle.mono_theory.specs.Owners.{facts_of};
 ghost use Rattle.mono_search.specs.Solving.{MakesTheories};
-ghost use Rattle.mono_portfolio.specs.Soundness.{IsPlay, IsSound};
+ghost use Rattle.mono_portfolio.specs.Soundness.{IsPlay, IsSoundPlay};
 
 use crate::event::{Event, Reply};
 use crate::team::Team;
@@ -34,9 +34,9 @@ pub fn play<T: Theory, F: Fn(&Problem) -> Result<Vec<T>, AllocError>>(
     requires low { 1 ≤ workers }
     requires high { workers ≤ 8 }
     ensures plays { IfOk result (λ played. IsPlay problem.now workers events.now played.replies played.board) }
-    ensures sound { IfOk result (λ played. IsSound problem.now events.now played.replies played.board) }
+    ensures sound { IfOk result (λ played. IsSoundPlay problem.now events.now played.replies played.board) }
 {
-    let _ = problem.vars();
+    problem.known();
     let mut team = Team::new(alloc, problem, workers)?;
     let mut replies = Vec::with_capacity(alloc, events.len())?;
     for event in events {

@@ -7,7 +7,7 @@ ghost use Rattle.mono_steps.specs.Trimmed.{IsTrimRefutation};
 ghost use Rattle.mono_steps.specs.WorkedLemmas.{chain};
 ghost use Rattle.mono_portfolio.specs.Extended.{extended};
 ghost use Rattle.mono_portfolio.specs.Moved.{moved};
-ghost use Rattle.mono_portfolio.specs.Ends.{IsAtTurn, IsRefuted};
+ghost use Rattle.mono_portfolio.specs.Ends.{IsAtTurn, IsRefutedTurn};
 ghost use Rattle.mono_portfolio.specs.declared.rounds.TeamOutcome.TheVariants as outcome;
 ghost use Rattle.mono_portfolio.specs.Outcomes.{IsTeamOutcome};
 ghost use Rattle.mono_search.specs.Worked.{two_clauses, both_signs, learned_clause, first_learned};
@@ -28,13 +28,13 @@ pub fn turns_reached()
 
 /// A refutation joins the board behind what was there, with its numbers there. It isn't nothing, and none of its steps is idle.
 pub fn refuted_turns()
-    ensures alone { IsRefuted both_signs [] [] (chain [] (1 ∷ 2 ∷ []) ∷ []) }
-    ensures renumbered { IsRefuted three_clauses (5 ∷ []) (learned_clause ∷ learned_clause ∷ [])
+    ensures alone { IsRefutedTurn both_signs [] [] (chain [] (1 ∷ 2 ∷ []) ∷ []) }
+    ensures renumbered { IsRefutedTurn three_clauses (5 ∷ []) (learned_clause ∷ learned_clause ∷ [])
         (learned_clause ∷ learned_clause ∷ chain [] (3 ∷ 5 ∷ []) ∷ []) }
-    ensures no_refutation { IsRefuted two_clauses [] [] first_learned → ⊥ }
-    ensures nothing_given { (p : Instance) (taken : List ℕ) (board : List Step) → IsRefuted p taken board board → ⊥ }
-    ensures another_beginning { IsRefuted both_signs [] first_learned (chain [] (1 ∷ 2 ∷ []) ∷ []) → ⊥ }
-    ensures none_idle { (p : Instance) (taken : List ℕ) (before board : List Step) → IsRefuted p taken before board
+    ensures no_refutation { IsRefutedTurn two_clauses [] [] first_learned → ⊥ }
+    ensures nothing_given { (p : Instance) (taken : List ℕ) (board : List Step) → IsRefutedTurn p taken board board → ⊥ }
+    ensures another_beginning { IsRefutedTurn both_signs [] first_learned (chain [] (1 ∷ 2 ∷ []) ∷ []) → ⊥ }
+    ensures none_idle { (p : Instance) (taken : List ℕ) (before board : List Step) → IsRefutedTurn p taken before board
         → (steps : List Step) × IsTrimRefutation (extended p before taken) steps × (board ≡ before ++ moved p steps taken before) }
 {}
 

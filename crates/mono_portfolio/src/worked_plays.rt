@@ -10,7 +10,7 @@ ghost use Rattle.mono_portfolio.specs.declared.event.Reply.TheVariants as reply;
 ghost use Rattle.mono_portfolio.specs.Extended.{extended, passes_limits};
 ghost use Rattle.mono_portfolio.specs.TeamView.{WorkerView, TeamView, start, IsWorker, IsTeam};
 ghost use Rattle.mono_portfolio.specs.Plays.{Answers, Plays};
-ghost use Rattle.mono_portfolio.specs.Soundness.{given, refuted_last, IsSound, IsPlay};
+ghost use Rattle.mono_portfolio.specs.Soundness.{given, refuted_last, IsSoundPlay, IsPlay};
 ghost use Rattle.mono_search.specs.Worked.{two_clauses, both_signs, learned_clause, first_learned, learned_behind_a_lemma};
 ghost use Rattle.mono_portfolio.specs.Worked.{some_lemma, made};
 ghost use Rattle.mono_portfolio.specs.Worked.{on_the_board, worker, team, two_workers, events, refuted_by, replies, at_end};
@@ -74,7 +74,7 @@ pub fn last_replies()
 
 /// The small play is sound, as each one is.
 pub fn small_play_is_sound()
-    ensures { IsSound two_clauses events replies first_learned }
+    ensures { IsSoundPlay two_clauses events replies first_learned }
 {
     every_play_is_sound();
     small_play();
@@ -104,14 +104,14 @@ pub fn whole_plays()
 
 /// A worker gives what it made with its reply Unsat: the board is a refutation then.
 pub fn refuted_play_is_sound()
-    ensures { IsSound both_signs (event.Run 0 1 ∷ event.Give 0 ∷ []) (reply.Unsat ∷ reply.Given 1 ∷ []) (chain [] (1 ∷ 2 ∷ []) ∷ []) }
+    ensures { IsSoundPlay both_signs (event.Run 0 1 ∷ event.Give 0 ∷ []) (reply.Unsat ∷ reply.Given 1 ∷ []) (chain [] (1 ∷ 2 ∷ []) ∷ []) }
 {}
 
 /// No board with an unjustified step, no model that leaves a clause false, no two answers, and no gift of a refutation
 /// that isn't one.
 pub fn unsound_plays()
-    ensures board { IsSound two_clauses [] [] (chain [] (1 ∷ 2 ∷ []) ∷ []) → ⊥ }
-    ensures model { IsSound two_clauses (event.Run 0 1 ∷ []) (reply.Model (false ∷ true ∷ []) ∷ []) [] → ⊥ }
-    ensures both { IsSound two_clauses (event.Run 0 1 ∷ event.Run 1 1 ∷ []) (reply.Model (true ∷ true ∷ []) ∷ reply.Unsat ∷ []) [] → ⊥ }
-    ensures refutation { IsSound two_clauses (event.Run 0 1 ∷ event.Give 0 ∷ []) (reply.Unsat ∷ reply.Given 1 ∷ []) first_learned → ⊥ }
+    ensures board { IsSoundPlay two_clauses [] [] (chain [] (1 ∷ 2 ∷ []) ∷ []) → ⊥ }
+    ensures model { IsSoundPlay two_clauses (event.Run 0 1 ∷ []) (reply.Model (false ∷ true ∷ []) ∷ []) [] → ⊥ }
+    ensures both { IsSoundPlay two_clauses (event.Run 0 1 ∷ event.Run 1 1 ∷ []) (reply.Model (true ∷ true ∷ []) ∷ reply.Unsat ∷ []) [] → ⊥ }
+    ensures refutation { IsSoundPlay two_clauses (event.Run 0 1 ∷ event.Give 0 ∷ []) (reply.Unsat ∷ reply.Given 1 ∷ []) first_learned → ⊥ }
 {}

@@ -11,7 +11,7 @@ ghost use Rattle.mono_theory.specs.Owners.{facts_of};
 ghost use Rattle.mono_portfolio.specs.Extended.{extended as extended_by, has_chain, passes_limits};
 ghost use Rattle.mono_search.specs.Solving.{MakesTheories};
 ghost use Rattle.mono_portfolio.specs.Searched.{Tells};
-ghost use Rattle.mono_portfolio.specs.Workers.{IsKept, SearchesOver, shown};
+ghost use Rattle.mono_portfolio.specs.Workers.{IsKeptWorker, SearchesOver, shown};
 
 use crate::event::Reply;
 use crate::extending::clause_of;
@@ -83,7 +83,7 @@ impl Worker {
 
     /// Whether its problem would pass the limits of an input with the clause of one more chain.
     pub(crate) fn is_full(&self, problem: &Problem, board: &[Step], step: u64) -> bool
-        requires kept { IsKept problem.now board.now self.now }
+        requires kept { IsKeptWorker problem.now board.now self.now }
         requires held { IsTrue (has_chain problem.now board.now step) }
         ensures { result ≡ passes_limits (extended_by problem.now board.now (self.now.taken ++ step ∷ [])) }
     {
@@ -99,11 +99,11 @@ impl Worker {
         board: &[Step],
         step: u64,
     ) -> Result<(), AllocError>
-        requires kept { IsKept problem.now board.now self.old }
+        requires kept { IsKeptWorker problem.now board.now self.old }
         requires held { IsTrue (has_chain problem.now board.now step) }
         requires new { list_any (λ n. step == n) self.old.taken ≡ false }
         requires fits { passes_limits (extended_by problem.now board.now (self.old.taken ++ step ∷ [])) ≡ false }
-        ensures kept { IsKept problem.now board.now self.new }
+        ensures kept { IsKeptWorker problem.now board.now self.new }
         ensures ok { OnOk result (shown self.new ≡ record { taken = self.old.taken ++ step ∷ []; made = [] }) }
         ensures err { OnErr result (self.new ≡ self.old) }
     {
@@ -126,7 +126,7 @@ impl Worker {
         requires callable { F.IsAlwaysCallable make.now }
         requires makes { MakesTheories (F.post make.now) (λ ts. facts_of T.graph T.atoms T.seen ts.items) }
         requires slice { 1 ≤ slice }
-        ensures kept { (p : Instance) (board : List Step) → SearchesOver p board self.old over.now → IsKept p board self.new }
+        ensures kept { (p : Instance) (board : List Step) → SearchesOver p board self.old over.now → IsKeptWorker p board self.new }
         ensures taken { self.new.taken ≡ self.old.taken }
         ensures ok { (p : Instance) (board : List Step) → SearchesOver p board self.old over.now
             → IfOk result (λ r. Tells p over.now slice r self.new.made) }

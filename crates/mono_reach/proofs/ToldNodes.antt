@@ -123,10 +123,10 @@ shown_decides g P q w v r h last =
     subst (Decides g P q) (sym (ap (in_cut w) last ∙ cut_lacks_last g P q w r h))
     (λ holds. (let walk = holds_reach g P q r holds in both_ways (is_walk g P (first_node q) (last_node q) walk.0) (cut_fails g P q w (last_node q) r h (cut_lacks_last g P q w r h) walk.0) walk.1))
 
-stands_by : (s : Stage) → s ≢ stage.Waits → shows s ≡ false → s ≡ stage.Supported
+stands_by : (s : Stage) → s ≢ stage.Waits → shows s ≡ false → s ≡ stage.Stands
 stands_by stage.Waits waits shown = absurd (waits refl)
-stands_by stage.Supported waits shown = refl
-stands_by (stage.Forcing m) waits shown = absurd cc
+stands_by stage.Stands waits shown = refl
+stands_by (stage.Shows m) waits shown = absurd cc
 
 -- where nothing is shown of it and it doesn't wait, its support decides the predicate
 pub unshown_decides : {f : Facts} {s : SideView} (possible : Bool) (a : ℕ) → a < length f.atoms → IsGraph f.graph → IsTrue (is_reach (atom_at f.atoms a).predicate) → IsOver f.graph (atom_at f.atoms a).predicate → IsSide f possible s → NoneWaits s.stages → shows (stage_at s.stages a) ≡ false

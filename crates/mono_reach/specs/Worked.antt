@@ -4,6 +4,7 @@ use Rattle.std.specs.Prelude.{ℕ, Bool, true, false, pos, List, [], ◌∷◌, 
 use Rattle.mono_graph.specs.declared.limit.Limit.TheVariants as limit
 use Rattle.mono_graph.specs.Worked.{edge, single}
 use Rattle.mono_dynamic.specs.declared.arrival.Arrival.{Arrival}
+use Rattle.mono_dynamic.specs.declared.walk_target.WalkTarget.{WalkTarget}
 use Rattle.mono_dynamic.specs.Reached.{Reached}
 use Rattle.mono_dynamic.specs.Rows.{alone}
 use Rattle.mono_dynamic.specs.Ways.{ways_of}
@@ -41,6 +42,10 @@ searched at = side.Searches (showing false at None)
 abbrev pub cut_off : Stage → Option Witness → EitherSide PossibleView
 cut_off at w = side.Searches (showing true at w)
 
+-- any walk to the node
+abbrev pub walk_to : ℕ → WalkTarget
+walk_to v = record { node = v; limit = limit.Free }
+
 -- in a graph with two nodes, node 0 was reached, and then these
 abbrev pub from_node_0 : List Arrival → Reached
 from_node_0 arrivals = record (alone 2 0) { arrivals = (alone 2 0).arrivals ++ arrivals }
@@ -50,13 +55,13 @@ abbrev pub rows_with : ℕ → List Arrival → EitherSide SureMarks
 rows_with looked arrivals = side.Rows (record {
   part = [];
   looked = looked;
-  rows = record { rows = alone 2 1 ∷ from_node_0 arrivals ∷ []; row_of = 1 ∷ []; lasts = 1 ∷ [] };
+  rows = record { rows = alone 2 1 ∷ from_node_0 arrivals ∷ []; row_of = 1 ∷ []; targets = walk_to 1 ∷ [] };
   due = false ∷ [];
 })
 
 -- the same two rows, of two atoms that ask for node 1 and for node 0 itself
 abbrev pub marks_with : List Arrival → SureMarks
-marks_with arrivals = record { rows = alone 2 1 ∷ from_node_0 arrivals ∷ []; row_of = 1 ∷ 1 ∷ []; lasts = 1 ∷ 0 ∷ [] }
+marks_with arrivals = record { rows = alone 2 1 ∷ from_node_0 arrivals ∷ []; row_of = 1 ∷ 1 ∷ []; targets = walk_to 1 ∷ walk_to 0 ∷ [] }
 
 -- The atom's row of the possibly present edges is the second of two: these arrivals are in its tree. What the tree lacks is out
 -- of reach since so many literals, if that is known, and an edge of the tree went with one, if it did.
@@ -68,10 +73,10 @@ trees_with looked since lost arrivals = side.Rows (record {
     rows = record {
       nodes = 2;
       rows = record { ways = ways_of (alone 2 1) None; targets = []; since = Some 0; lost = None }
-          ∷ record { ways = ways_of (from_node_0 arrivals) None; targets = record { node = 1; limit = limit.Free } ∷ []; since = since; lost = lost } ∷ [];
+          ∷ record { ways = ways_of (from_node_0 arrivals) None; targets = walk_to 1 ∷ []; since = since; lost = lost } ∷ [];
     };
     row_of = 1 ∷ [];
-    targets = record { node = 1; limit = limit.Free } ∷ [];
+    targets = walk_to 1 ∷ [];
   };
   due = false ∷ [];
 })

@@ -8,7 +8,7 @@ ghost use Rattle.mono_theory.specs.RowSides.{AlwaysStand, AreRowsFor, AreUpToDat
 ghost use Rattle.mono_theory.specs.Evidences.{Decides};
 ghost use Rattle.mono_theory.specs.Stages.{NoneWaits};
 ghost use Rattle.mono_theory.specs.Supports.{AreCovered, IsSide, atom_at};
-ghost use Rattle.mono_reach.specs.Marks.{AreMarksOf, first_node, last_node, shows_last, under_mark};
+ghost use Rattle.mono_reach.specs.Marks.{AreMarks, AreMarksOf, first_node, last_node, shows_last, under_mark};
 ghost use Rattle.mono_theory.specs.PossibleRows.{AreTargetsOf, RowsStand, is_cut_off};
 ghost use Rattle.mono_reach.specs.Readings.{cut_mark, found_mark, in_cut, over_mark, possible_mark, sure_mark};
 ghost use Rattle.mono_reach.specs.Reaches.{is_reach};
@@ -69,6 +69,20 @@ pub trait HasMarks {
             → Decides (facts self.now).graph (over (facts self.now).graph (facts self.now).seen) x.predicate result.over) };
 }
 
+/// Whether a node is reached from the first node of the atom at a place, along the surely present edges of the first `looked`
+/// literals.
+fn is_marked(rows: &ReachedRows, frame: &Frame, looked: usize, place: usize, node: u32) -> bool
+    requires right { AreMarks frame.now looked rows.now }
+    requires place { place < length frame.now.atoms }
+    requires node { node < frame.now.graph.nodes }
+    ensures { result ≡ under_mark rows.now place node }
+{
+    frame.known();
+    let _ = looked;
+    let row = rows.row(place);
+    row.has(node)
+}
+
 /// Whether the row of the atom at a place has the node.
 fn is_in_row(side: &RowsSide<ReachedRows>, frame: &Frame, place: u32, node: u32) -> bool
     requires right { AreRowsFor is_reach false AreMarksOf shows_last frame.now side.now }
@@ -80,10 +94,10 @@ fn is_in_row(side: &RowsSide<ReachedRows>, frame: &Frame, place: u32, node: u32)
     ensures decides { AreUpToDate AlwaysStand frame.now side.now → node ≡ last_node (atom_at frame.now.atoms place).predicate
         → Decides frame.now.graph (under frame.now.graph frame.now.seen) (atom_at frame.now.atoms place).predicate result }
 {
-    let _ = frame.seen();
+    frame.known();
     let looked = side.looked();
     let rows = side.rows();
-    rows.is_marked(frame, looked, place as usize, node)
+    is_marked(rows, frame, looked, place as usize, node)
 }
 
 /// Whether the node is the last one of the atom at a place, and a search found a walk to it.
@@ -98,7 +112,7 @@ fn is_found(kept: &KeptSide, frame: &Frame, place: u32, node: u32) -> bool
     ensures decides { NoneWaits kept.now.stages → node ≡ last_node (atom_at frame.now.atoms place).predicate
         → Decides frame.now.graph (under frame.now.graph frame.now.seen) (atom_at frame.now.atoms place).predicate result }
 {
-    let _ = frame.graph();
+    frame.known();
     let atom = frame.atom_at(place as usize);
     let (_, to) = ends_of(atom.predicate);
     match kept.shown_witness(place) {
@@ -145,7 +159,7 @@ fn is_in_reach(side: &RowsSide<PossibleRows>, frame: &Frame, place: u32, node: u
     ensures decides { AreUpToDate RowsStand frame.now side.now → node ≡ last_node (atom_at frame.now.atoms place).predicate
         → Decides frame.now.graph (over frame.now.graph frame.now.seen) (atom_at frame.now.atoms place).predicate result }
 {
-    let _ = frame.seen();
+    frame.known();
     let atom = frame.atom_at(place as usize);
     let (_, to) = ends_of(atom.predicate);
     if node != to {
@@ -169,7 +183,7 @@ fn is_uncut(kept: &KeptSide, frame: &Frame, place: u32, node: u32) -> bool
     ensures decides { NoneWaits kept.now.stages → node ≡ last_node (atom_at frame.now.atoms place).predicate
         → Decides frame.now.graph (over frame.now.graph frame.now.seen) (atom_at frame.now.atoms place).predicate result }
 {
-    let _ = frame.graph();
+    frame.known();
     match kept.shown_witness(place) {
         None => true,
         Some(witness) => is_inside(witness, node),

@@ -123,7 +123,7 @@ fn walk_near(
     ensures mender { mender.new ≡ mender.old }
     ensures evidence { IfOk result (λ found. IfSome found (IsEvidence graph.now part.now (Predicate.Reach from to))) }
 {
-    let _ = graph.nodes();
+    graph.known();
     let limit = Limit::Free;
     match mender.mend(alloc, graph, part, from, to, limit, edges)? {
         Some(places) => Ok(Some(walk_evidence(alloc, graph, places)?)),
@@ -165,7 +165,7 @@ impl Kind for Reach {
         part: &Part,
         predicate: Predicate,
     ) -> Result<Evidence, AllocError> {
-        let _ = graph.nodes();
+        graph.known();
         let Predicate::Reach { from, to } = predicate else {
             unreachable!()
         };
@@ -192,7 +192,7 @@ impl Kind for Reach {
         predicate: Predicate,
         kept: Option<&Evidence>,
     ) -> Result<Option<Evidence>, AllocError> {
-        let _ = graph.nodes();
+        graph.known();
         let Predicate::Reach { from, to } = predicate else {
             unreachable!()
         };

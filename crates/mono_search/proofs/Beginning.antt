@@ -3,7 +3,7 @@ use Rattle.std.proofs.Common.{zero, suc, ◌≡◌, ℕ, ◌≤◌, Bool, true, 
 use Rattle.std.specs.Prelude.{IsTrue, ℤ}
 use Rattle.mono_base.specs.Literal.{value_in}
 use Rattle.mono_problem.specs.Instance.{Instance}
-use Rattle.mono_trail.specs.TrailView.{TrailView, IsSound, no_literals}
+use Rattle.mono_trail.specs.TrailView.{TrailView, IsSoundTrail, no_literals}
 use Rattle.mono_clauses.specs.Store.{Held, StoreView, lists_of}
 use Rattle.mono_steps.specs.Steps.{clauses_after}
 use Rattle.mono_search.specs.State.{HoldsKnown, IsNamed}
@@ -55,7 +55,7 @@ held_first p given s none vars is =
           quiet_not_false t (get_or s.clauses k h).lits d (subst (λ (c : List ℤ). IsTrue (is_quiet t c)) same here);
     }
 
-pub begins : (p : Instance) (b : TheoriesView) (t : TrailView) (s : StoreView) (o : OrderView) → b.problem ≡ p → b.handed ≡ 0 → b.given ≡ 0 → All (λ f. f.seen ≡ []) b.facts → t ≡ no_literals p.vars → IsSound t → HoldsInputs p t s → o ≡ record { waits = replicate p.vars true; phases = replicate p.vars false }
+pub begins : (p : Instance) (b : TheoriesView) (t : TrailView) (s : StoreView) (o : OrderView) → b.problem ≡ p → b.handed ≡ 0 → b.given ≡ 0 → All (λ f. f.seen ≡ []) b.facts → t ≡ no_literals p.vars → IsSoundTrail t → HoldsInputs p t s → o ≡ record { waits = replicate p.vars true; phases = replicate p.vars false }
     → BeginsWith p (state b t s [] o)
 begins p b t s o problem handed none_given unseen empty sound inputs order =
     let none : t.lits ≡ [] = ap (λ (u : TrailView). u.lits) empty in

@@ -20,7 +20,7 @@ use Rattle.mono_problem.proofs.QuietAtoms.{quiet_atom_agrees}
 use Rattle.mono_steps.specs.declared.step.Step.{Step}
 use Rattle.mono_steps.proofs.Sets.{has-append}
 use Rattle.mono_trail.specs.declared.reason.Reason.TheVariants.{Decided}
-use Rattle.mono_trail.specs.TrailView.{TrailView, IsSound}
+use Rattle.mono_trail.specs.TrailView.{TrailView, IsSoundTrail}
 use Rattle.mono_trail.specs.Moves.{IsVar, joined}
 use Rattle.mono_clauses.specs.Store.{StoreView}
 use Rattle.mono_steps.specs.Journals.{known_clauses, chain_clauses}
@@ -76,9 +76,9 @@ next_leaves o r t v leaves = record { as_many = leaves.as_many; phases = leaves.
 pub next_stays : (o : OrderView) (t : List ℤ) (v : ℕ) → IsTrue (is_open_in t (pos v)) → IsNext o o t v
 next_stays o t v open_now = record { as_many = refl; phases = refl; is_open = open_now; stay = λ w other is waits. waits }
 
-pub decided_moved : (b : TheoriesView) (t u : TrailView) (s : StoreView) (steps : List Step) (o r : OrderView) (l : ℤ) (v : ℕ) → IsQuietState (state b t s steps o) → IsNext o r t.lits v → var_of l ≡ v → u ≡ joined t l Decided → IsSound u
+pub decided_moved : (b : TheoriesView) (t u : TrailView) (s : StoreView) (steps : List Step) (o r : OrderView) (l : ℤ) (v : ℕ) → IsQuietState (state b t s steps o) → IsNext o r t.lits v → var_of l ≡ v → u ≡ joined t l Decided → IsSoundTrail u
     → HasAdvanced (state b t s steps o) (state b u s steps r)
-decided_moved b t u s steps o r l v q next var e sound = subst (λ (w : TrailView). HasAdvanced (state b t s steps o) (state b w s steps r)) (sym e) (moved (subst IsSound e sound))
+decided_moved b t u s steps o r l v q next var e sound = subst (λ (w : TrailView). HasAdvanced (state b t s steps o) (state b w s steps r)) (sym e) (moved (subst IsSoundTrail e sound))
   where
     wait : (w : ℕ) → IsVar (length r.waits) w → IsTrue (is_open_in (t.lits ++ l ∷ []) (pos w)) → IsTrue (value_in r.waits w)
     wait w is open_now =
@@ -91,7 +91,7 @@ decided_moved b t u s steps o r l v q next var e sound = subst (λ (w : TrailVie
         get_or_seam [] l = refl
         get_or_seam (x ∷ t) l = get_or_seam t l
 
-    moved : IsSound (joined t l Decided) → HasAdvanced (state b t s steps o) (state b (joined t l Decided) s steps r)
+    moved : IsSoundTrail (joined t l Decided) → HasAdvanced (state b t s steps o) (state b (joined t l Decided) s steps r)
     moved sound = record {
       ready = record {
         whole = record {
@@ -194,7 +194,7 @@ wait-lowered o r t n w h = record {
 
 -- ---- a model
 
-module _ (p : Instance) (t : TrailView) (cs : List (List ℤ)) (model : List Bool) (ok : IsInstance p) (vars : t.vars ≡ p.vars) (sound : IsSound t) (none : NoneOpen t.vars t.lits)
+module _ (p : Instance) (t : TrailView) (cs : List (List ℤ)) (model : List Bool) (ok : IsInstance p) (vars : t.vars ≡ p.vars) (sound : IsSoundTrail t) (none : NoneOpen t.vars t.lits)
     (values : (v : ℕ) → IsVar t.vars v → value_in model v ≡ is_true_in t.lits (pos v)) where
   each_true : (l : ℤ) → IsTrue (has_lit t.lits l) → IsTrue (lit_true (value_in model) l)
   each_true l h = by l h (in_range t.vars t.lits l sound.within h) (upper l h)

@@ -22,7 +22,7 @@ use Rattle.mono_trail.specs.declared.reason.Reason.{Reason}
 use Rattle.mono_trail.specs.declared.reason.Reason.TheVariants.{Clause, Decided, Late}
 use Rattle.mono_trail.specs.Moves.{joined}
 use Rattle.mono_trail.specs.Order.{OrderView}
-use Rattle.mono_trail.specs.TrailView.{TrailView, IsSound}
+use Rattle.mono_trail.specs.TrailView.{TrailView, IsSoundTrail}
 use Rattle.mono_search.specs.Runs.{HasAdvanced, IsUnitNow}
 use Rattle.mono_search.specs.State.{HoldsKnown, StateView, IsReady, IsSupported, KeepsReason, QuietAt}
 use Rattle.mono_search.specs.Theories.{TheoriesView}
@@ -95,7 +95,7 @@ supported-given b t steps g f = record {
 
 -- the state once the lemma joined the journal and the clauses, and its literal the trail
 module _ (b : TheoriesView) (t : TrailView) (s z : StoreView) (steps : List Step) (o : OrderView) (u : UnitLemma) (n : ℕ) (ok : IsInstance b.problem) (ready : IsReady (state b t s steps o)) (unit : IsUnitNow (state b t s steps o) u)
-    (just : IsTrue (are_justified b.problem (steps ++ step.Lemma u.lemma ∷ []))) (number : n ≡ length (clauses_after b.problem (steps ++ step.Lemma u.lemma ∷ []))) (adds : AddsClause s z n u.lemma.clause) (follows : Follows z t) (sound : IsSound (joined t u.lit (Clause n))) where
+    (just : IsTrue (are_justified b.problem (steps ++ step.Lemma u.lemma ∷ []))) (number : n ≡ length (clauses_after b.problem (steps ++ step.Lemma u.lemma ∷ []))) (adds : AddsClause s z n u.lemma.clause) (follows : Follows z t) (sound : IsSoundTrail (joined t u.lit (Clause n))) where
   there : numbered (clauses_after b.problem (steps ++ step.Lemma u.lemma ∷ [])) n ≡ Some u.lemma.clause
   there = lemma_there b.problem steps u.lemma n number
 
@@ -141,7 +141,7 @@ unit_within b t s steps o u n c ready unit number is =
 -- whatever names the parts have by then
 pub joined_lemma : (b d : TheoriesView) (t v : TrailView) (s z : StoreView) (steps new : List Step) (o : OrderView) (u : UnitLemma) (n : ℕ) (c : List ℤ) → IsInstance b.problem → IsReady (state b t s steps o) → IsUnitNow (state b t s steps o) u
     → (IsTrue (are_justified b.problem steps) → IsTrue (are_justified b.problem new)) → n ≡ length (clauses_after b.problem new) → numbered (clauses_after b.problem new) n ≡ Some c → new ≡ steps ++ step.Lemma u.lemma ∷ []
-    → AddsClause s z n c → Follows z t → d ≡ record b { given = b.given + 1 } → v ≡ joined t u.lit (Clause n) → IsSound v → HasAdvanced (state b t s steps o) (state d v z new o)
+    → AddsClause s z n c → Follows z t → d ≡ record b { given = b.given + 1 } → v ≡ joined t u.lit (Clause n) → IsSoundTrail v → HasAdvanced (state b t s steps o) (state d v z new o)
 joined_lemma b d t v s z steps new o u n c ok ready unit keeps number is pushed adds follows more there sound =
     let whole : List Step = steps ++ step.Lemma u.lemma ∷ [] in
     let just : IsTrue (are_justified b.problem whole) = subst (λ (ss : List Step). IsTrue (are_justified b.problem ss)) pushed (keeps ready.whole.journal.journal.justified) in
@@ -149,7 +149,7 @@ joined_lemma b d t v s z steps new o u n c ok ready unit keeps number is pushed 
     let named : numbered (clauses_after b.problem whole) n ≡ Some c = ap (λ (ss : List Step). numbered (clauses_after b.problem ss) n) (sym pushed) ∙ is in
     let clause : c ≡ u.lemma.clause = lemma_clause b.problem steps u.lemma n at c named in
     let one : HasAdvanced (state b t s steps o) (state (record b { given = b.given + 1 }) (joined t u.lit (Clause n)) z whole o) =
-    foreseen b t s z steps o u n ok ready unit just at (subst (λ (k : List ℤ). AddsClause s z n k) clause adds) follows (subst IsSound there sound) in
+    foreseen b t s z steps o u n ok ready unit just at (subst (λ (k : List ℤ). AddsClause s z n k) clause adds) follows (subst IsSoundTrail there sound) in
     subst (λ (ss : List Step). HasAdvanced (state b t s steps o) (state d v z ss o)) (sym pushed)
     (subst (λ (w : TrailView). HasAdvanced (state b t s steps o) (state d w z whole o)) (sym there)
     (subst (λ (e : TheoriesView). HasAdvanced (state b t s steps o) (state e (joined t u.lit (Clause n)) z whole o)) (sym more) one))

@@ -14,7 +14,7 @@ use Rattle.mono_steps.specs.declared.step.Step.{Step}
 use Rattle.mono_trail.specs.declared.reason.Mark.{Mark}
 use Rattle.mono_trail.specs.declared.reason.Reason.{Reason}
 use Rattle.mono_trail.specs.declared.reason.Reason.TheVariants.{Decided, Clause}
-use Rattle.mono_trail.specs.TrailView.{TrailView, IsSound, count_to, next_level, StandsAt}
+use Rattle.mono_trail.specs.TrailView.{TrailView, IsSoundTrail, count_to, next_level, StandsAt}
 use Rattle.mono_trail.proofs.Levels.{at_most, up_to_level}
 use Rattle.mono_trail.specs.Places.{level_at}
 use Rattle.mono_trail.specs.Moves.{joined, gave}
@@ -49,7 +49,7 @@ pub record IsJoining (b : TheoriesView) (t : TrailView) (steps : List Step) : Ty
 pub kept_from : (b : TheoriesView) (t : TrailView) (steps : List Step) → IsSupported b t steps → IsJoining b t steps
 kept_from b t steps f = record { vars = f.vars; as_many = f.sound.as_many; shown = f.shown; reasons = f.reasons; below = f.below }
 
-pub supported_from : (b : TheoriesView) (t : TrailView) (steps : List Step) → IsJoining b t steps → IsSound t → IsSupported b t steps
+pub supported_from : (b : TheoriesView) (t : TrailView) (steps : List Step) → IsJoining b t steps → IsSoundTrail t → IsSupported b t steps
 supported_from b t steps k s = record { vars = k.vars; sound = s; shown = k.shown; reasons = k.reasons; below = k.below }
 
 shown-joined : (b : TheoriesView) (lits : List ℤ) (l : ℤ) → HaveSeen b lits → HaveSeen b (lits ++ l ∷ [])
@@ -122,7 +122,7 @@ pub record Present (t : TrailView) (c : List ℤ) : Type 0 where
   pub has : IsTrue (has_lit c lit)
   pub stands : StandsAt t (neg_ℤ lit) t.level
 
-pub present_lit : (t : TrailView) (c : List ℤ) → IsSound t → 1 ≤ t.level → IsTrue (is_false_clause t.lits c) → (IsTrue (is_false_clause (take (count_to (t.level - 1) t.marks) t.lits) c) → ⊥) → Present t c
+pub present_lit : (t : TrailView) (c : List ℤ) → IsSoundTrail t → 1 ≤ t.level → IsTrue (is_false_clause t.lits c) → (IsTrue (is_false_clause (take (count_to (t.level - 1) t.marks) t.lits) c) → ⊥) → Present t c
 present_lit t c s one false_now not_before = elim (all_or_one (is_false_in (take (count_to (t.level - 1) t.marks) t.lits)) c) [
   | inl all ↦ absurd (not_before all)
   | inr f ↦
@@ -214,7 +214,7 @@ pub grown : (b : TheoriesView) (t u : TrailView) (s r : StoreView) (steps : List
 grown b t u s r steps o l = record { vars = l.vars; problem = refl; steps = refl; more = l.more }
 
 module _ (b : TheoriesView) (t u : TrailView) (s r : StoreView) (steps : List Step) (o : OrderView) (ready : IsReady (record { theories = b; trail = t; store = s; steps = steps; order = o }))
-    (vars : r.vars ≡ s.vars) (same_clauses : r.clauses ≡ s.clauses) (grows : Grows s.clauses t u) (sound : IsSound u) where
+    (vars : r.vars ≡ s.vars) (same_clauses : r.clauses ≡ s.clauses) (grows : Grows s.clauses t u) (sound : IsSoundTrail u) where
   now_held : HoldsKnown b.problem steps b.given r
   now_held = held_same b.problem steps b.given s r vars same_clauses ready.whole.held
 

@@ -15,7 +15,7 @@ use Rattle.mono_steps.specs.declared.step.Step.TheVariants as step
 use Rattle.mono_trail.specs.declared.reason.Mark.{Mark}
 use Rattle.mono_trail.specs.declared.reason.Reason.TheVariants.{Decided}
 use Rattle.mono_learn.specs.declared.learn.Learnt.{Learnt}
-use Rattle.mono_trail.specs.TrailView.{TrailView, IsSound, count_to, StandsAt}
+use Rattle.mono_trail.specs.TrailView.{TrailView, IsSoundTrail, count_to, StandsAt}
 use Rattle.mono_trail.specs.Places.{level_at, reason_at, no_mark}
 use Rattle.mono_trail.specs.Moves.{lowered}
 use Rattle.mono_trail.proofs.Levels.{count_within, kept_low, up_to_level}
@@ -49,7 +49,7 @@ use Rattle.mono_search.proofs.Decisions.{wait-lowered}
 use Rattle.mono_search.proofs.Propagating.{state, holds-lemmas, journal-lemmas}
 
 -- what the theories have seen once all have gone back
-pub lowered_shown : (b : TheoriesView) (t : TrailView) (level : ℕ) → IsSound t → HaveSeen (having_seen b t.lits (min b.handed (count_to level t.marks))) (lowered level t).lits
+pub lowered_shown : (b : TheoriesView) (t : TrailView) (level : ℕ) → IsSoundTrail t → HaveSeen (having_seen b t.lits (min b.handed (count_to level t.marks))) (lowered level t).lits
 lowered_shown b t level sound =
     let n = count_to level t.marks in
     let h = min b.handed n in
@@ -66,7 +66,7 @@ lowered_reasons b t cs level r =
     reasons-having_seen b cs (take n t.lits) (take n t.marks) t.lits (min b.handed n) (λ k lt le. omega (arith, lt, le, length-take n t.lits)) (reasons-lowered b cs t.lits t.marks n r)
 
 -- a restart
-pub restarted : (b : TheoriesView) (t u : TrailView) (s : StoreView) (steps : List Step) (o r : OrderView) (level : ℕ) → IsConsistent (state b t s steps o) → FollowsBelow s t → level < t.level → IsSound u → u ≡ lowered level t → Releases o r (drop (count_to level t.marks) t.lits)
+pub restarted : (b : TheoriesView) (t u : TrailView) (s : StoreView) (steps : List Step) (o r : OrderView) (level : ℕ) → IsConsistent (state b t s steps o) → FollowsBelow s t → level < t.level → IsSoundTrail u → u ≡ lowered level t → Releases o r (drop (count_to level t.marks) t.lits)
     → IsReady (state (having_seen b t.lits (min b.handed (count_to level t.marks))) u s steps r)
 restarted b t u s steps o r level w f lt sound e released = subst (λ (v : TrailView). IsReady (state (having_seen b t.lits (min b.handed (count_to level t.marks))) v s steps r)) (sym e) (record {
   whole = record {
@@ -74,7 +74,7 @@ restarted b t u s steps o r level w f lt sound e released = subst (λ (v : Trail
     held = w.held;
     trail = record {
       vars = w.trail.vars;
-      sound = subst IsSound e sound;
+      sound = subst IsSoundTrail e sound;
       shown = lowered_shown b t level w.trail.sound;
       reasons = lowered_reasons b t (clauses_after b.problem steps) level w.trail.reasons;
       below = below-lowered b.problem (known_clauses b.problem steps) t.lits t.marks (count_to level t.marks) w.trail.below;
@@ -103,11 +103,11 @@ pub record IsAnalysed (b : TheoriesView) (t u : TrailView) (s : StoreView) (step
   pub learns : Learns b.problem t steps new r
   pub settles : Settles (clauses_after b.problem new) t u
   pub justified : IsTrue (are_justified b.problem new)
-  pub sound : IsSound u
+  pub sound : IsSoundTrail u
 
 -- so it is where the analysis was made of the problem that the theories have
 pub analysed : {b : TheoriesView} {t u : TrailView} {s : StoreView} {steps new : List Step} {o : OrderView} {n : ℕ} {r : Learnt} {v : StateView} {p : Instance} → state b t s steps o ≡ v → IsInConflict v n → 1 ≤ v.trail.level → p ≡ b.problem
-    → Learns p t steps new r → Settles (clauses_after p new) t u → (IsTrue (are_justified p steps) → IsTrue (are_justified p new)) → IsSound u → IsAnalysed b t u s steps new o n r
+    → Learns p t steps new r → Settles (clauses_after p new) t u → (IsTrue (are_justified p steps) → IsTrue (are_justified p new)) → IsSoundTrail u → IsAnalysed b t u s steps new o n r
 analysed {b} {t} {u} {s} {steps} {new} {o} {n} {r} {v} {p} view conflict one same learns settles keeps sound =
     let before : IsInConflict (state b t s steps o) n = subst (λ (w : StateView). IsInConflict w n) (sym view) conflict in
     let held : IsTrue (are_justified p steps) = subst (λ (q : Instance). IsTrue (are_justified q steps)) (sym same) before.whole.journal.journal.justified in
@@ -245,7 +245,7 @@ module _ {b : TheoriesView} {t u : TrailView} {s : StoreView} {steps new : List 
         };
   }
 
-  pub learned_ready : (level : ℕ) (q : OrderView) (v : TrailView) (z : StoreView) → level ≤ r.back_to → IsSound v → v ≡ lowered level u → Releases o q (drop (count_to level u.marks) u.lits) → AddsClause s z r.number r.clause → Follows z v
+  pub learned_ready : (level : ℕ) (q : OrderView) (v : TrailView) (z : StoreView) → level ≤ r.back_to → IsSoundTrail v → v ≡ lowered level u → Releases o q (drop (count_to level u.marks) u.lits) → AddsClause s z r.number r.clause → Follows z v
       → IsReady (state (having_seen b u.lits (min b.handed (count_to level u.marks))) v z new q)
   learned_ready level q v z le ok e released held follows =
       subst (λ (w : TrailView). IsReady (state (having_seen b u.lits (min b.handed (count_to level u.marks))) w z new q)) (sym e) (record {
@@ -254,7 +254,7 @@ module _ {b : TheoriesView} {t u : TrailView} {s : StoreView} {steps new : List 
           held = learned_held z held;
           trail = record {
             vars = analysis.settles.vars ∙ analysis.conflict.whole.trail.vars;
-            sound = subst IsSound e ok;
+            sound = subst IsSoundTrail e ok;
             shown = lowered_shown b u level analysis.sound;
             reasons = lowered_reasons b u (clauses_after b.problem new) level reasons_now;
             below = learned_below level le;
@@ -267,7 +267,7 @@ module _ {b : TheoriesView} {t u : TrailView} {s : StoreView} {steps new : List 
         follows = subst (λ (w : TrailView). Follows z w) e follows;
       })
 
-  pub added : {U E : Type 0} (x : Result U E) (level : ℕ) (q : OrderView) (v : TrailView) (z : StoreView) → level ≤ r.back_to → IsSound v → v ≡ lowered level u → Releases o q (drop (count_to level u.marks) u.lits) → OnOk x (AddsClause s z r.number r.clause) → Follows z v
+  pub added : {U E : Type 0} (x : Result U E) (level : ℕ) (q : OrderView) (v : TrailView) (z : StoreView) → level ≤ r.back_to → IsSoundTrail v → v ≡ lowered level u → Releases o q (drop (count_to level u.marks) u.lits) → OnOk x (AddsClause s z r.number r.clause) → Follows z v
       → OnOk x (IsReady (state (having_seen b u.lits (min b.handed (count_to level u.marks))) v z new q))
   added (Ok y) level q v z le ok e released held follows = learned_ready level q v z le ok e released held follows
   added (Err y) level q v z le ok e released held follows = held

@@ -13,7 +13,7 @@ use Rattle.mono_steps.specs.Steps.{are_justified, clause_of, clauses_after}
 use Rattle.mono_steps.specs.declared.step.Step.TheVariants as step
 use Rattle.mono_search.specs.declared.theories.Forced.{Forced}
 use Rattle.mono_trail.specs.declared.reason.Reason.TheVariants.{Late}
-use Rattle.mono_trail.specs.TrailView.{TrailView, IsSound, count_to}
+use Rattle.mono_trail.specs.TrailView.{TrailView, IsSoundTrail, count_to}
 use Rattle.mono_trail.specs.Moves.{joined}
 use Rattle.mono_clauses.specs.Store.{StoreView}
 use Rattle.mono_steps.specs.Journals.{chain_count, known_clauses, lemma_steps}
@@ -93,7 +93,7 @@ short_seen v r ok = all_short v.theories v.trail.lits r.whole.trail.shown (omega
 
 -- ---- a forced literal joins the trail
 
-pub implied : (b : TheoriesView) (t : TrailView) (s : StoreView) (steps : List Step) (o : OrderView) (n k : ℕ) (l : ℤ) → IsReady (state b t s steps o) → CanImply (state b t s steps o) (record { atom = n; lit = l; kept = k }) → IsSound (joined t l (Late n k))
+pub implied : (b : TheoriesView) (t : TrailView) (s : StoreView) (steps : List Step) (o : OrderView) (n k : ℕ) (l : ℤ) → IsReady (state b t s steps o) → CanImply (state b t s steps o) (record { atom = n; lit = l; kept = k }) → IsSoundTrail (joined t l (Late n k))
     → HasAdvanced (state b t s steps o) (state b (joined t l (Late n k)) s steps o)
 implied b t s steps o n k l r f sound =
     let front : take (length t.lits) (t.lits ++ l ∷ []) ≡ t.lits = take-append_seam t.lits (l ∷ []) in
@@ -199,6 +199,6 @@ explainable b t s steps o f r can =
     let all : take f.kept (seen_of b.facts f.atom) ≡ seen_of b.facts f.atom = take_all f.kept (seen_of b.facts f.atom) (omega (arith, can.kept, ap length e)) in
     (omega (arith, can.kept, ap length e), subst (λ (u : List ℤ). AtomForces b.problem u f.atom f.lit) (sym (all ∙ e)) can.forces)
 
-pub implied_as : (b : TheoriesView) (t u : TrailView) (s : StoreView) (steps : List Step) (o : OrderView) (f : Forced) → IsReady (state b t s steps o) → CanImply (state b t s steps o) f → u ≡ joined t f.lit (Late f.atom f.kept) → IsSound u
+pub implied_as : (b : TheoriesView) (t u : TrailView) (s : StoreView) (steps : List Step) (o : OrderView) (f : Forced) → IsReady (state b t s steps o) → CanImply (state b t s steps o) f → u ≡ joined t f.lit (Late f.atom f.kept) → IsSoundTrail u
     → HasAdvanced (state b t s steps o) (state b u s steps o)
-implied_as b t u s steps o f r can e sound = subst (λ (w : TrailView). HasAdvanced (state b t s steps o) (state b w s steps o)) (sym e) (implied b t s steps o f.atom f.kept f.lit r can (subst IsSound e sound))
+implied_as b t u s steps o f r can e sound = subst (λ (w : TrailView). HasAdvanced (state b t s steps o) (state b w s steps o)) (sym e) (implied b t s steps o f.atom f.kept f.lit r can (subst IsSoundTrail e sound))

@@ -9,7 +9,7 @@ use Rattle.mono_steps.specs.Switching.{literal_of}
 use Rattle.mono_steps.specs.Witnesses.{justifies}
 use Rattle.mono_theory.specs.declared.theory.UnitLemma.{UnitLemma}
 use Rattle.mono_trail.specs.declared.reason.Reason.TheVariants.{Decided}
-use Rattle.mono_trail.specs.TrailView.{TrailView, IsSound, count_to}
+use Rattle.mono_trail.specs.TrailView.{TrailView, IsSoundTrail, count_to}
 use Rattle.mono_trail.specs.Moves.{joined, lowered}
 use Rattle.mono_trail.specs.Order.{OrderView, NoneOpen}
 use Rattle.mono_clauses.specs.Store.{StoreView, Follows}
@@ -124,7 +124,7 @@ pub record DecidesBySign (v w : StateView) : Type 0 where
 pub record IsComplete (v : StateView) : Type 0 where
   pub journal : IsJournal v.theories.problem v.steps
   pub vars : v.trail.vars ≡ v.theories.problem.vars
-  pub sound : IsSound v.trail
+  pub sound : IsSoundTrail v.trail
   pub quiet : QuietAt v.theories.problem (known_clauses v.theories.problem v.steps) v.trail.lits
   pub none : NoneOpen v.trail.vars v.trail.lits
 

@@ -10,7 +10,7 @@ use Rattle.mono_steps.specs.New.{HasNewChains}
 use Rattle.mono_trail.specs.declared.reason.Mark.{Mark}
 use Rattle.mono_trail.specs.declared.reason.Reason.{Reason}
 use Rattle.mono_trail.specs.declared.reason.Reason.TheVariants.{Decided, Clause, Late}
-use Rattle.mono_trail.specs.TrailView.{TrailView, IsSound}
+use Rattle.mono_trail.specs.TrailView.{TrailView, IsSoundTrail}
 use Rattle.mono_trail.specs.Places.{reason_at}
 use Rattle.mono_trail.specs.Order.{OrderView, AllOpenWait}
 use Rattle.mono_clauses.specs.Store.{Held, StoreView, Follows, FollowsBelow, lists_of}
@@ -84,7 +84,7 @@ pub record HoldsKnown (p : Instance) (steps : List Step) (given : ℕ) (s : Stor
 -- what stands on the trail stands there for a reason, and decisions were made where all was quiet
 pub record IsSupported (b : TheoriesView) (t : TrailView) (steps : List Step) : Type 0 where
   pub vars : t.vars ≡ b.problem.vars
-  pub sound : IsSound t
+  pub sound : IsSoundTrail t
   pub shown : HaveSeen b t.lits
   pub reasons : KeepsReasons b (clauses_after b.problem steps) t.lits t.marks
   pub below : QuietBelow b.problem (known_clauses b.problem steps) t.lits t.marks

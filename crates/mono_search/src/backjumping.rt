@@ -3,7 +3,7 @@
 ghost use Rattle.std.specs.Prelude.{◌≡◌, ◌≤◌, length, min, drop, All};
 ghost use Rattle.mono_base.specs.Literal.{IsLitWithin};
 ghost use Rattle.mono_trail.specs.Moves.{lowered};
-ghost use Rattle.mono_trail.specs.TrailView.{IsSound, count_to};
+ghost use Rattle.mono_trail.specs.TrailView.{IsSoundTrail, count_to};
 ghost use Rattle.mono_clauses.specs.Store.{FollowsBelow};
 ghost use Rattle.mono_search.specs.Theories.{HaveSeen, having_seen};
 ghost use Rattle.mono_search.specs.State.{IsConsistent, IsReady};
@@ -46,7 +46,7 @@ pub(crate) fn backjump<T: Theory>(
     ensures trail { trail.new ≡ lowered level trail.old }
     ensures theories { theories.new ≡ having_seen theories.old trail.old.lits (min theories.old.handed (count_to level trail.old.marks)) }
     ensures order { Releases order.old order.new (drop (count_to level trail.old.marks) trail.old.lits) }
-    ensures sound { IsSound trail.new }
+    ensures sound { IsSoundTrail trail.new }
 {
     trail.known();
     let kept = trail.count_to(level);

@@ -1,6 +1,6 @@
 //! A problem solved by one search, over theories that a maker makes.
 
-ghost use Rattle.std.specs.Prelude.{◌≡◌, ◌≤◌, ℕ, [], IfOk, IsTrue, All};
+ghost use Rattle.std.specs.Prelude.{◌≡◌, ◌<◌, ◌≤◌, ◌^◌, ℕ, [], IfOk, IsTrue, All, length};
 ghost use Rattle.mono_base.specs.Literal.{IsLitWithin};
 ghost use Rattle.mono_steps.specs.Steps.{is_refutation};
 ghost use Rattle.mono_theory.specs.Owners.{facts_of};
@@ -77,8 +77,16 @@ fn solved_by<T: Theory>(
     match outcome {
         Outcome::Sat(values) => Ok(Solved::Model(values)),
         Outcome::Unsat => refutation(problem, &journal),
-        Outcome::Unknown => Ok(Solved::Progress(Row::from_vec(journal.into_steps()))),
+        Outcome::Unknown => Ok(Solved::Progress(few_steps(journal))),
     }
+}
+
+/// The steps of a journal, without a copy of them. They are no more than a list in memory has.
+fn few_steps(journal: Journal) -> Row<Step>
+    ensures same { result ≡ journal }
+    ensures short { length result < 2 ^ 63 }
+{
+    Row::from_vec(journal.into_steps())
 }
 
 /// The steps of a refutation, without those that its last one doesn't rest on.

@@ -15,6 +15,7 @@ use Rattle.mono_theory.specs.declared.evidence.Evidence.{Evidence}
 use Rattle.mono_theory.specs.declared.stage.Stage.{Stage}
 use Rattle.mono_theory.specs.declared.watch.Watch.{Watch}
 use Rattle.mono_theory.specs.Supports.{SideView}
+use Rattle.mono_graph.specs.declared.limit.Limit.TheVariants as limit
 use Rattle.mono_theory.specs.SureRows.{SureRowsView}
 use Rattle.mono_theory.specs.Theories.{Facts}
 use Rattle.mono_theory.specs.Watching.{watch_by}
@@ -101,4 +102,4 @@ rows_told looked rows = side.Rows (record { part = []; looked = looked; rows = r
 
 -- one row, which the only atom has. Its walk is to lead to node 6
 abbrev pub one_row : ℕ → SureRowsView ℕ
-one_row row = record { rows = row ∷ []; row_of = 0 ∷ []; lasts = 6 ∷ [] }
+one_row row = record { rows = row ∷ []; row_of = 0 ∷ []; targets = record { node = 6; limit = limit.Free } ∷ [] }

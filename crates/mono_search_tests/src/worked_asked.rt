@@ -6,9 +6,9 @@ ghost use Rattle.mono_dynamic.specs.Worked.{walks_from};
 ghost use Rattle.mono_problem.specs.declared.atom.Predicate.TheVariants as kind;
 ghost use Rattle.mono_steps.specs.WorkedLemmas.{minus};
 ghost use Rattle.mono_theory.specs.declared.stage.Stage.TheVariants as stage;
-ghost use Rattle.mono_theory.specs.Asked.{asks_walk, AreOfAtoms, HasLast, HasTarget, HaveRows};
-ghost use Rattle.mono_theory.specs.Bound.{edge_vars};
-ghost use Rattle.mono_theory.specs.DueNodes.{PutsNodes};
+ghost use Rattle.mono_theory.specs.Asked.{asks_walk, AreOfAtoms, HasTarget, HaveRows};
+ghost use Rattle.mono_bounds.specs.Bound.{edge_vars};
+ghost use Rattle.mono_bounds.specs.DueNodes.{PutsNodes};
 ghost use Rattle.mono_theory.specs.Frames.{atom_vars};
 ghost use Rattle.mono_theory.specs.Owners.{facts_of};
 ghost use Rattle.mono_theory.specs.Sound.{evidence_at};
@@ -37,8 +37,6 @@ pub fn targets_of_atoms()
     ensures another_limit { AreOfAtoms HasTarget (its 1 ∷ []) 1 (record { node = 2; limit = Limit.Steps (pos 5) } ∷ []) → ⊥ }
     ensures asking_for_none { AreOfAtoms HasTarget (its 2 ∷ []) 1 (record { node = 0; limit = Limit.Free } ∷ []) → ⊥ }
     ensures one_too_many { AreOfAtoms HasTarget (its 1 ∷ []) 1 (record { node = 2; limit = Limit.Free } ∷ record { node = 2; limit = Limit.Free } ∷ []) → ⊥ }
-    ensures last_nodes { AreOfAtoms HasLast (its 1 ∷ its 3 ∷ []) 2 (2 ∷ 1 ∷ []) }
-    ensures first_nodes { AreOfAtoms HasLast (its 1 ∷ its 3 ∷ []) 2 (0 ∷ 0 ∷ []) → ⊥ }
 {}
 
 /// The row of each atom begins at its first node and measures its walks to beyond their bound.
@@ -82,10 +80,10 @@ pub fn lists_by_place()
     ensures numbers_of_edges { numbers_of (triangle 1 1 1) (2 ∷ 0 ∷ []) ≡ 9 ∷ 3 ∷ [] }
     ensures evidence { evidence_at (None ∷ Some along_the_second ∷ []) 1 ≡ Some along_the_second }
     ensures no_evidence { evidence_at (Some along_the_second ∷ []) 1 ≡ None }
-    ensures at_a_stage { stage_at (stage.Waits ∷ stage.Forcing 2 ∷ []) 1 ≡ stage.Forcing 2 }
-    ensures at_no_stage { stage_at (stage.Supported ∷ []) 1 ≡ stage.Waits }
-    ensures shown { shows (stage.Forcing 0) ≡ true }
-    ensures standing { shows stage.Supported ≡ false }
+    ensures at_a_stage { stage_at (stage.Waits ∷ stage.Shows 2 ∷ []) 1 ≡ stage.Shows 2 }
+    ensures at_no_stage { stage_at (stage.Stands ∷ []) 1 ≡ stage.Waits }
+    ensures shown { shows (stage.Shows 0) ≡ true }
+    ensures standing { shows stage.Stands ≡ false }
     ensures waiting { shows stage.Waits ≡ false }
     ensures theories { facts_of {T = ℕ} (λ n. pipe n 1) (λ n. its n ∷ []) (λ n. pos n ∷ []) (2 ∷ 1 ∷ [])
         ≡ record (over (pipe 2 1) (its 2 ∷ [])) { seen = pos 2 ∷ [] } ∷ record (over (pipe 1 1) (its 1 ∷ [])) { seen = pos 1 ∷ [] } ∷ [] }

@@ -6,9 +6,9 @@ ghost use Rattle.mono_graph.specs.Worked.{both, first_alone, neither, pipe};
 ghost use Rattle.mono_problem.specs.declared.atom.Predicate.TheVariants as kind;
 ghost use Rattle.mono_problem.specs.Holds.{falls};
 ghost use Rattle.mono_steps.specs.WorkedLemmas.{minus};
-ghost use Rattle.mono_theory.specs.Bound.{IsBoundOf};
+ghost use Rattle.mono_bounds.specs.Bound.{IsBoundUnder};
 ghost use Rattle.mono_theory.specs.Frames.{AreAtomsOf, AreNumbersOf, IsVar};
-ghost use Rattle.mono_theory.specs.Index.{ArePlacesOf};
+ghost use Rattle.mono_bounds.specs.Index.{ArePlacesOf};
 ghost use Rattle.mono_theory.specs.Variables.{AreVarsOf};
 ghost use Rattle.mono_theory.specs.Worked.{reaches};
 ghost use Rattle.mono_search_tests.specs.Worked.{atom, of_four_atoms};
@@ -61,9 +61,10 @@ pub fn variables_that_concern()
 
 /// Bounds by place of a variable: whether it is true, and whether it isn't false.
 pub fn bounds_of_variables()
-    ensures theirs { IsBoundOf (record { vars = 1 ∷ 2 ∷ []; places = 0 ∷ 1 ∷ []; under = first_alone; over = both }) (1 ∷ 2 ∷ []) (pos 1 ∷ []) }
-    ensures absent { IsBoundOf (record { vars = 1 ∷ 2 ∷ []; places = 0 ∷ 1 ∷ []; under = neither; over = first_alone }) (1 ∷ 2 ∷ []) (minus 2 ∷ []) }
-    ensures of_others { IsBoundOf (record { vars = 1 ∷ 4 ∷ []; places = 0 ∷ 1 ∷ []; under = first_alone; over = both }) (1 ∷ 2 ∷ []) (pos 1 ∷ []) → ⊥ }
-    ensures not_surely { IsBoundOf (record { vars = 1 ∷ 2 ∷ []; places = 0 ∷ 1 ∷ []; under = both; over = both }) (1 ∷ 2 ∷ []) (pos 1 ∷ []) → ⊥ }
-    ensures not_possibly { IsBoundOf (record { vars = 1 ∷ 2 ∷ []; places = 0 ∷ 1 ∷ []; under = first_alone; over = first_alone }) (1 ∷ 2 ∷ []) (pos 1 ∷ []) → ⊥ }
+    ensures theirs { IsBoundUnder (record { vars = 1 ∷ 2 ∷ []; places = 0 ∷ 1 ∷ []; under = first_alone; over = both }) (1 ∷ 2 ∷ []) (pos 1 ∷ []) }
+    ensures absent { IsBoundUnder (record { vars = 1 ∷ 2 ∷ []; places = 0 ∷ 1 ∷ []; under = neither; over = first_alone }) (1 ∷ 2 ∷ []) (minus 2 ∷ []) }
+    ensures of_others { IsBoundUnder (record { vars = 1 ∷ 4 ∷ []; places = 0 ∷ 1 ∷ []; under = first_alone; over = both }) (1 ∷ 2 ∷ []) (pos 1 ∷ []) → ⊥ }
+    ensures not_surely { IsBoundUnder (record { vars = 1 ∷ 2 ∷ []; places = 0 ∷ 1 ∷ []; under = both; over = both }) (1 ∷ 2 ∷ []) (pos 1 ∷ []) → ⊥ }
+    ensures not_possibly { IsBoundUnder (record { vars = 1 ∷ 2 ∷ []; places = 0 ∷ 1 ∷ []; under = first_alone; over = first_alone })
+        (1 ∷ 2 ∷ []) (pos 1 ∷ []) → ⊥ }
 {}

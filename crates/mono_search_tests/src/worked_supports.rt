@@ -28,14 +28,14 @@ pub fn witnesses_in_a_part()
 
 /// An atom stands while its support is right, and is shown while what shows it is right and its variable has the value.
 pub fn what_stages_say()
-    ensures stands { IsSide (seen_so_far (minus 1 ∷ [])) true (keeping (Some along_the_second) None second_is_watched stage.Supported) }
-    ensures on_an_absent_edge { IsSide (seen_so_far (minus 2 ∷ [])) true (keeping (Some along_the_second) None second_is_watched stage.Supported) → ⊥ }
-    ensures shown { IsSide (seen_so_far (minus 1 ∷ minus 2 ∷ minus 3 ∷ [])) true (keeping None (Some cut_at_0) ([] ∷ [] ∷ []) (stage.Forcing 3)) }
+    ensures stands { IsSide (seen_so_far (minus 1 ∷ [])) true (keeping (Some along_the_second) None second_is_watched stage.Stands) }
+    ensures on_an_absent_edge { IsSide (seen_so_far (minus 2 ∷ [])) true (keeping (Some along_the_second) None second_is_watched stage.Stands) → ⊥ }
+    ensures shown { IsSide (seen_so_far (minus 1 ∷ minus 2 ∷ minus 3 ∷ [])) true (keeping None (Some cut_at_0) ([] ∷ [] ∷ []) (stage.Shows 3)) }
     ensures not_settled_yet { IsSide (seen_so_far (minus 1 ∷ minus 2 ∷ minus 3 ∷ [])) true
-        (keeping None (Some cut_at_0) ([] ∷ [] ∷ []) (stage.Forcing 2)) → ⊥ }
-    ensures by_a_possible_edge { IsSide (seen_so_far (minus 1 ∷ minus 3 ∷ [])) true (keeping None (Some cut_at_0) ([] ∷ [] ∷ []) (stage.Forcing 2)) → ⊥ }
+        (keeping None (Some cut_at_0) ([] ∷ [] ∷ []) (stage.Shows 2)) → ⊥ }
+    ensures by_a_possible_edge { IsSide (seen_so_far (minus 1 ∷ minus 3 ∷ [])) true (keeping None (Some cut_at_0) ([] ∷ [] ∷ []) (stage.Shows 2)) → ⊥ }
     ensures by_literals_to_come { IsSide (seen_so_far (minus 1 ∷ minus 2 ∷ minus 3 ∷ [])) true
-        (keeping None (Some cut_at_0) ([] ∷ [] ∷ []) (stage.Forcing 4)) → ⊥ }
+        (keeping None (Some cut_at_0) ([] ∷ [] ∷ []) (stage.Shows 4)) → ⊥ }
 {}
 
 /// What is kept on a side is of that side and of its atoms and edges. Supports and what is shown are sound whatever the stage.
@@ -53,22 +53,22 @@ pub fn what_a_side_keeps()
         { stages = stage.Waits ∷ stage.Waits ∷ [] }) → ⊥ }
     ensures as_thorough { IsSideFor (seen_so_far []) true true (keeping None None ([] ∷ [] ∷ []) stage.Waits) }
     ensures less_thorough { IsSideFor (seen_so_far []) true false (keeping None None ([] ∷ [] ∷ []) stage.Waits) → ⊥ }
-    ensures none_waits { NoneWaits (stage.Supported ∷ stage.Forcing 2 ∷ []) }
-    ensures one_waits { NoneWaits (stage.Supported ∷ stage.Waits ∷ []) → ⊥ }
+    ensures none_waits { NoneWaits (stage.Stands ∷ stage.Shows 2 ∷ []) }
+    ensures one_waits { NoneWaits (stage.Stands ∷ stage.Waits ∷ []) → ⊥ }
 {}
 
 /// One more literal makes an atom wait where it changes an edge of its support on this side. All else is kept.
 pub fn what_a_literal_changes()
-    ensures edge_goes { IsKeptBy (parallel 1 1) true (minus 2) (keeping (Some along_the_second) None second_is_watched stage.Supported)
+    ensures edge_goes { IsKeptBy (parallel 1 1) true (minus 2) (keeping (Some along_the_second) None second_is_watched stage.Stands)
         (keeping (Some along_the_second) None second_is_watched stage.Waits) }
-    ensures kept { IsKeptBy (parallel 1 1) true (minus 1) (keeping (Some along_the_second) None second_is_watched stage.Supported)
-        (keeping (Some along_the_second) None second_is_watched stage.Supported) }
-    ensures another_goes { IsKeptBy (parallel 1 1) true (minus 1) (keeping (Some along_the_second) None second_is_watched stage.Supported)
+    ensures kept { IsKeptBy (parallel 1 1) true (minus 1) (keeping (Some along_the_second) None second_is_watched stage.Stands)
+        (keeping (Some along_the_second) None second_is_watched stage.Stands) }
+    ensures another_goes { IsKeptBy (parallel 1 1) true (minus 1) (keeping (Some along_the_second) None second_is_watched stage.Stands)
         (keeping (Some along_the_second) None second_is_watched stage.Waits) → ⊥ }
-    ensures edge_comes { IsKeptBy (parallel 1 1) true (pos 2) (keeping (Some along_the_second) None second_is_watched stage.Supported)
+    ensures edge_comes { IsKeptBy (parallel 1 1) true (pos 2) (keeping (Some along_the_second) None second_is_watched stage.Stands)
         (keeping (Some along_the_second) None second_is_watched stage.Waits) → ⊥ }
     ensures stands_again { IsKeptBy (parallel 1 1) true (minus 2) (keeping (Some along_the_second) None second_is_watched stage.Waits)
-        (keeping (Some along_the_second) None second_is_watched stage.Supported) → ⊥ }
+        (keeping (Some along_the_second) None second_is_watched stage.Stands) → ⊥ }
     ensures support_changes { IsKeptBy (parallel 1 1) true (minus 1) (keeping (Some along_the_second) None second_is_watched stage.Waits)
         (keeping None None second_is_watched stage.Waits) → ⊥ }
     ensures a_stage_more { IsKeptBy (parallel 1 1) true (minus 1) (keeping None None ([] ∷ [] ∷ []) stage.Waits)
@@ -81,7 +81,7 @@ pub fn what_is_kept_either_way()
     ensures rows_change { IsEitherKept (seen_so_far []) (minus 1) (rows_told 1 5) (rows_told 1 6) → ⊥ }
     ensures rows_look { IsEitherKept (seen_so_far []) (minus 1) (rows_told 1 5) (rows_told 2 5) → ⊥ }
     ensures searches { IsEitherKept {R = ℕ} (seen_so_far []) (minus 2) (side.Searches
-        (keeping (Some along_the_second) None second_is_watched stage.Supported))
+        (keeping (Some along_the_second) None second_is_watched stage.Stands))
         (side.Searches (keeping (Some along_the_second) None second_is_watched stage.Waits)) }
     ensures searches_find { IsEitherKept {R = ℕ} (seen_so_far []) (minus 2)
         (side.Searches (keeping (Some along_the_second) None second_is_watched stage.Waits))
@@ -95,13 +95,13 @@ pub fn what_goes_back()
     ensures rows_behind { IsEitherBack 6 (rows_told 5 7) (rows_told 5 7) }
     ensures rows_too_far { IsEitherBack 2 (rows_told 5 7) (rows_told 1 7) → ⊥ }
     ensures rows_ahead { IsEitherBack 2 (rows_told 5 7) (rows_told 5 7) → ⊥ }
-    ensures settled_later { IsEitherBack {R = ℕ} 1 (side.Searches (keeping None (Some cut_at_0) [] (stage.Forcing 2)))
+    ensures settled_later { IsEitherBack {R = ℕ} 1 (side.Searches (keeping None (Some cut_at_0) [] (stage.Shows 2)))
         (side.Searches (keeping None (Some cut_at_0) [] stage.Waits)) }
-    ensures settled_before { IsEitherBack {R = ℕ} 1 (side.Searches (keeping None (Some cut_at_0) [] (stage.Forcing 1)))
-        (side.Searches (keeping None (Some cut_at_0) [] (stage.Forcing 1))) }
-    ensures still_settled { IsEitherBack {R = ℕ} 1 (side.Searches (keeping None (Some cut_at_0) [] (stage.Forcing 2)))
-        (side.Searches (keeping None (Some cut_at_0) [] (stage.Forcing 2))) → ⊥ }
-    ensures forgets_what_was_shown { IsEitherBack {R = ℕ} 1 (side.Searches (keeping None (Some cut_at_0) [] (stage.Forcing 1)))
-        (side.Searches (keeping None None [] (stage.Forcing 1))) → ⊥ }
+    ensures settled_before { IsEitherBack {R = ℕ} 1 (side.Searches (keeping None (Some cut_at_0) [] (stage.Shows 1)))
+        (side.Searches (keeping None (Some cut_at_0) [] (stage.Shows 1))) }
+    ensures still_settled { IsEitherBack {R = ℕ} 1 (side.Searches (keeping None (Some cut_at_0) [] (stage.Shows 2)))
+        (side.Searches (keeping None (Some cut_at_0) [] (stage.Shows 2))) → ⊥ }
+    ensures forgets_what_was_shown { IsEitherBack {R = ℕ} 1 (side.Searches (keeping None (Some cut_at_0) [] (stage.Shows 1)))
+        (side.Searches (keeping None None [] (stage.Shows 1))) → ⊥ }
     ensures rows_for_searches { IsEitherBack 2 (side.Searches (keeping None None [] stage.Waits)) (rows_told 2 7) → ⊥ }
 {}

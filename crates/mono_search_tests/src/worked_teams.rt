@@ -9,7 +9,7 @@ ghost use Rattle.mono_portfolio.specs.declared.event.Reply.TheVariants as reply;
 ghost use Rattle.mono_portfolio.specs.Outcomes.{IsBoardOfRounds};
 ghost use Rattle.mono_portfolio.specs.Preferred.{preferred, prefers};
 ghost use Rattle.mono_portfolio.specs.Rounds.{AreRounds, IsPiece};
-ghost use Rattle.mono_portfolio.specs.Soundness.{IsSound};
+ghost use Rattle.mono_portfolio.specs.Soundness.{IsSoundPlay};
 ghost use Rattle.mono_portfolio.specs.Worked.{some_lemma};
 ghost use Rattle.mono_search_tests.specs.Worked.{over_seven};
 
@@ -32,12 +32,12 @@ pub fn boards_of_rounds()
 
 /// A gift behind Unsat is a refutation, whichever worker gives it. No play has a model and Unsat, whichever comes first.
 pub fn what_plays_show()
-    ensures gift_of_another { IsSound two_clauses (event.Run 1 1 ∷ event.Give 1 ∷ []) (reply.Unsat ∷ reply.Given 1 ∷ []) first_learned → ⊥ }
-    ensures model_last { IsSound two_clauses (event.Run 0 1 ∷ event.Run 1 1 ∷ []) (reply.Unsat ∷ reply.Model (true ∷ true ∷ []) ∷ []) [] → ⊥ }
-    ensures model_between { IsSound two_clauses (event.Run 0 1 ∷ event.Run 1 1 ∷ event.Run 0 1 ∷ [])
+    ensures gift_of_another { IsSoundPlay two_clauses (event.Run 1 1 ∷ event.Give 1 ∷ []) (reply.Unsat ∷ reply.Given 1 ∷ []) first_learned → ⊥ }
+    ensures model_last { IsSoundPlay two_clauses (event.Run 0 1 ∷ event.Run 1 1 ∷ []) (reply.Unsat ∷ reply.Model (true ∷ true ∷ []) ∷ []) [] → ⊥ }
+    ensures model_between { IsSoundPlay two_clauses (event.Run 0 1 ∷ event.Run 1 1 ∷ event.Run 0 1 ∷ [])
         (reply.Slice ∷ reply.Model (true ∷ true ∷ []) ∷ reply.Unsat ∷ []) [] → ⊥ }
-    ensures model_alone { IsSound two_clauses (event.Run 0 1 ∷ []) (reply.Model (true ∷ false ∷ []) ∷ []) [] }
-    ensures unsat_alone { IsSound both_signs (event.Run 2 1 ∷ []) (reply.Unsat ∷ []) [] }
+    ensures model_alone { IsSoundPlay two_clauses (event.Run 0 1 ∷ []) (reply.Model (true ∷ false ∷ []) ∷ []) [] }
+    ensures unsat_alone { IsSoundPlay both_signs (event.Run 2 1 ∷ []) (reply.Unsat ∷ []) [] }
 {}
 
 /// The first worker prefers no variable to be true, and each next one those that one more than its number divides.

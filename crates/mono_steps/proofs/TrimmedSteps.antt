@@ -1,11 +1,10 @@
 -- The needed steps of a refutation, renumbered, are a refutation.
-use Rattle.std.proofs.Common.{◌≡◌, ℕ, ◌+◌, ◌-◌, ◌<◌, Bool, List, length, map, refl, sym, ap, subst, ◌∙◌, arith}
+use Rattle.std.proofs.Common.{◌≡◌, ℕ, ◌+◌, ◌-◌, ◌<◌, ◌^◌, Bool, List, length, map, refl, sym, ap, subst, ◌∙◌, arith}
 use Rattle.std.specs.Prelude.{IsTrue, option_map}
 use Rattle.std.proofs.lemmas.Bool.{and_parts}
 use Rattle.std.proofs.lemmas.Option.{slice_get-map}
 use Rattle.std.proofs.lemmas.List.{length-map}
 use Rattle.mono_problem.specs.Instance.{Instance, numbered}
-use Rattle.mono_steps.specs.declared.lemma.Lemma.{Lemma}
 use Rattle.mono_steps.specs.declared.step.Step.{Step}
 use Rattle.mono_steps.specs.declared.step.Step.TheVariants as step
 use Rattle.mono_steps.specs.Needed.{IsNeeded, AreNumbers}
@@ -66,12 +65,12 @@ needed_carried p needed old justified h = record {
 }
 
 -- the needed steps are a trimmed refutation
-pub trimmed_is : (p : Instance) (needed : List Bool) (old new : List Step) → IsTrue (is_refutation p old) → IsNeeded (length p.clauses) old 0 needed → new ≡ trimmed_steps (length p.clauses) needed old → IsTrimmed p old new
-trimmed_is p needed old new r h e =
+pub trimmed_is : (p : Instance) (needed : List Bool) (old new : List Step) → IsTrue (is_refutation p old) → IsNeeded (length p.clauses) old 0 needed → new ≡ trimmed_steps (length p.clauses) needed old → length new < 2 ^ 63 → IsTrimmed p old new
+trimmed_is p needed old new r h e short =
     let c = length p.clauses in
     let a = and_parts (are_justified p old) (ends_empty old) r in
     let refutes : IsTrue (is_refutation p (trimmed_steps c needed old)) = carried_refutes p p needed (renumbered c needed) old (needed_carried p needed old a.0 h) h.as_many h.last r in
-    let trim : IsTrimRefutation p (trimmed_steps c needed old) = record { refutes = refutes; named = named_trimmed c needed old h } in
+    let trim : IsTrimRefutation p (trimmed_steps c needed old) = record { refutes = refutes; named = named_trimmed c needed old h; short = subst (λ (ss : List Step). length ss < 2 ^ 63) e short } in
     record {
       needed = needed;
       as_many = h.as_many;

@@ -1,7 +1,7 @@
 -- New learned clauses: each is exactly the end of its chain, and unit propagation over the clauses known before doesn't give
 -- it. `all` are all clauses before a step, numbered from 1; `known` are those of the problem and of the chains before, without
 -- those of lemmas.
-use Rattle.std.specs.Prelude.{◌≡◌, ℕ, ◌<◌, ◌^◌, Bool, ℤ, List, [], ◌∷◌, ◌++◌, Some, IsTrue}
+use Rattle.std.specs.Prelude.{◌≡◌, ℕ, ◌<◌, ◌^◌, Bool, ℤ, List, [], ◌∷◌, ◌++◌, length, Some, IsTrue}
 use Rattle.std.specs.List.{list_any}
 use Rattle.mono_base.specs.Literal.{is_lit, has_lit, within}
 use Rattle.mono_base.specs.Partial.{is_partial, is_open_in, others_false, unit_quiet}
@@ -53,12 +53,13 @@ pub record AreNew (p : Instance) (steps : List Step) : Type 0 where
   pub none_empty : IsTrue (has_no_empty steps)
 
 -- justified steps with as many learned clauses as the budget says, each of them new and none empty. There are fewer than 3^V
--- such clauses, so a greater budget is never spent
+-- such clauses, so a greater budget is never spent. The steps are no more than a list in memory has
 pub record IsProgress (p : Instance) (budget : ℕ) (steps : List Step) : Type 0 where
   pub justified : IsTrue (are_justified p steps)
   pub new : AreNew p steps
   pub chains : chain_count steps ≡ budget
   pub few : budget < 3 ^ p.vars
+  pub short : length steps < 2 ^ 63
 
 -- the clause contains one of these
 abbrev pub contains_one : List (List ℤ) → List ℤ → Bool

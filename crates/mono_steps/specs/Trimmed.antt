@@ -1,5 +1,5 @@
 -- What is left of a refutation without the steps that its last one doesn't rest on.
-use Rattle.std.specs.Prelude.{◌≡◌, ℕ, ◌+◌, ◌-◌, ◌<◌, Bool, false, nat_le, if◌then◌else◌, List, length, Some, slice_get, slice_index_or, IsTrue}
+use Rattle.std.specs.Prelude.{◌≡◌, ℕ, ◌+◌, ◌-◌, ◌<◌, ◌^◌, Bool, false, nat_le, if◌then◌else◌, List, length, Some, slice_get, slice_index_or, IsTrue}
 use Rattle.mono_problem.specs.Instance.{Instance}
 use Rattle.mono_steps.specs.declared.step.Step.{Step}
 use Rattle.mono_steps.specs.Renumbering.{rank, names_step, with_numbers, steps_with_numbers}
@@ -24,10 +24,11 @@ pub record IsNamedLater (c : ℕ) (steps : List Step) (k : ℕ) : Type 0 where
   pub is : slice_get steps later ≡ Some step
   pub names : IsTrue (names_step c step k)
 
--- a refutation of nothing but what its last step rests on
+-- a refutation of nothing but what its last step rests on, with no more steps than a list in memory has
 pub record IsTrimRefutation (p : Instance) (steps : List Step) : Type 0 where
   pub refutes : IsTrue (is_refutation p steps)
   pub named : (k : ℕ) → k + 1 < length steps → IsNamedLater (length p.clauses) steps k
+  pub short : length steps < 2 ^ 63
 
 -- the new steps are some of the old ones, in order and renumbered, and with each of them those that it names. They are a
 -- refutation of nothing else

@@ -8,11 +8,11 @@ use Rattle.mono_trail.specs.Moves.{HasLate, IsVar}
 use Rattle.mono_trail.specs.Order.{AllOpenWait, Leaves, NoneOpen}
 use Rattle.mono_trail.specs.Places.{place_in, reason_at}
 use Rattle.mono_trail.specs.Seen.{is_marked, IsUnseen}
-use Rattle.mono_trail.specs.TrailView.{IsSound}
+use Rattle.mono_trail.specs.TrailView.{IsSoundTrail}
 use Rattle.mono_steps.specs.WorkedLemmas.{minus}
 use Rattle.mono_tests.specs.SmallTrail.{mark, both_levels, order}
 
-pub whole_is_sound : IsSound (both_levels 4)
+pub whole_is_sound : IsSoundTrail (both_levels 4)
 whole_is_sound = record {
   partial = refl;
   within = within;
@@ -30,7 +30,7 @@ whole_is_sound = record {
     within (suc (suc (suc zero))) d lt = (omega arith, omega arith)
     within (suc (suc (suc (suc k)))) d lt = absurd (omega (arith, lt))
 
-pub full_is_sound : IsSound (record { vars = 2; lits = pos 2 ∷ minus 1 ∷ []; marks = mark 0 (Clause 7) ∷ mark 1 Decided ∷ []; level = 1; given = 0 })
+pub full_is_sound : IsSoundTrail (record { vars = 2; lits = pos 2 ∷ minus 1 ∷ []; marks = mark 0 (Clause 7) ∷ mark 1 Decided ∷ []; level = 1; given = 0 })
 full_is_sound = record {
   partial = refl;
   within = within;

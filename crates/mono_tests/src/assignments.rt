@@ -1,6 +1,7 @@
-//! Worked rows: partial assignments, numbers in an order, and lists of places.
+//! Worked rows: partial assignments, numbers in an order, lists of places, and lists that stand in one table.
 
-ghost use Rattle.std.specs.Prelude.{[], ◌∷◌, pos, true, false};
+ghost use Rattle.std.specs.Prelude.{◌≡◌, [], ◌∷◌, ℕ, pos, true, false};
+ghost use Rattle.mono_base.specs.Buckets.{listed_in, lists_in};
 ghost use Rattle.mono_base.specs.Partial.{Extends, HasNoOpen};
 ghost use Rattle.mono_base.specs.Ranking.{AreInverse};
 ghost use Rattle.mono_base.specs.Worked.{tft, turned};
@@ -35,4 +36,13 @@ pub fn places_that_are_left()
     ensures taken_unmarked { IsTaken (record { listed = false ∷ []; places = 0 ∷ [] }) (record { listed = false ∷ []; places = [] }) 0 → ⊥ }
     ensures one_stands { IsEmpty (record { listed = false ∷ []; places = 0 ∷ [] }) → ⊥ }
     ensures one_is_marked { IsEmpty (record { listed = true ∷ []; places = [] }) → ⊥ }
+{}
+
+/// A list in a table is as many of its items as the stretch has, from the stretch's first place on.
+pub fn lists_in_one_table()
+    ensures first { listed_in {T = ℕ} (1 ∷ 2 ∷ 3 ∷ []) (record { start = 0; len = 2; room = 2 }) ≡ 1 ∷ 2 ∷ [] }
+    ensures last { listed_in {T = ℕ} (1 ∷ 2 ∷ 3 ∷ []) (record { start = 2; len = 1; room = 4 }) ≡ 3 ∷ [] }
+    ensures none { listed_in {T = ℕ} (1 ∷ 2 ∷ 3 ∷ []) (record { start = 1; len = 0; room = 1 }) ≡ [] }
+    ensures by_key { lists_in {T = ℕ} (1 ∷ 2 ∷ 3 ∷ []) (record { start = 2; len = 1; room = 1 } ∷ record { start = 0; len = 2; room = 2 } ∷ [])
+        ≡ (3 ∷ []) ∷ (1 ∷ 2 ∷ []) ∷ [] }
 {}

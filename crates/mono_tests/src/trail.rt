@@ -8,7 +8,7 @@ ghost use Rattle.mono_trail.specs.Moves.{HasLate, IsVar, joined, lowered, gave, 
 ghost use Rattle.mono_trail.specs.Order.{AllOpenWait, Leaves, AllLeave, NoneOpen, all_wait};
 ghost use Rattle.mono_trail.specs.Places.{place_in, level_at, reason_at};
 ghost use Rattle.mono_trail.specs.Seen.{IsUnseen};
-ghost use Rattle.mono_trail.specs.TrailView.{no_literals, count_to, IsSound};
+ghost use Rattle.mono_trail.specs.TrailView.{no_literals, count_to, IsSoundTrail};
 ghost use Rattle.mono_tests.specs.SmallTrail.{mark, first_level, both_levels, order};
 
 /// A decision begins a level, and what is implied joins the present one. Nothing more is given.
@@ -93,26 +93,44 @@ pub fn variables_in_range()
 
 /// A trail may have a literal of each variable, and all of them may be given.
 pub fn sound_trails()
-    ensures whole { IsSound (both_levels 4) }
-    ensures full { IsSound (record { vars = 2; lits = pos 2 ∷ minus 1 ∷ []; marks = mark 0 (Clause 7) ∷ mark 1 Decided ∷ []; level = 1; given = 0 }) }
+    ensures whole { IsSoundTrail (both_levels 4) }
+    ensures full { IsSoundTrail (record { vars = 2; lits = pos 2 ∷ minus 1 ∷ []; marks = mark 0 (Clause 7) ∷ mark 1 Decided ∷ []; level = 1; given = 0 }) }
 {}
 
 /// A trail has a literal of a variable once, each with its mark, and its levels climb at decisions alone.
 pub fn unsound_trails()
-    ensures both_signs { IsSound (record { vars = 6; lits = pos 3 ∷ minus 3 ∷ []; marks = mark 1 Decided ∷ mark 1 (Clause 7) ∷ []; level = 1; given = 0 }) → ⊥ }
-    ensures beyond { IsSound (record { vars = 3; lits = pos 3 ∷ pos 4 ∷ []; marks = mark 1 Decided ∷ mark 1 (Clause 7) ∷ []; level = 1; given = 0 }) → ⊥ }
-    ensures no_mark { IsSound (record { vars = 6; lits = pos 3 ∷ pos 4 ∷ []; marks = mark 1 Decided ∷ []; level = 1; given = 0 }) → ⊥ }
-    ensures level_above { IsSound (record { vars = 6; lits = pos 3 ∷ pos 4 ∷ []; marks = mark 1 Decided ∷ mark 1 (Clause 7) ∷ []; level = 2; given = 0 }) → ⊥ }
-    ensures implied_climbs { IsSound (record {
+    ensures both_signs { IsSoundTrail (record {
+      vars = 6;
+      lits = pos 3 ∷ minus 3 ∷ [];
+      marks = mark 1 Decided ∷ mark 1 (Clause 7) ∷ [];
+      level = 1;
+      given = 0;
+    }) → ⊥ }
+    ensures beyond { IsSoundTrail (record { vars = 3; lits = pos 3 ∷ pos 4 ∷ []; marks = mark 1 Decided ∷ mark 1 (Clause 7) ∷ []; level = 1; given = 0 }) → ⊥ }
+    ensures no_mark { IsSoundTrail (record { vars = 6; lits = pos 3 ∷ pos 4 ∷ []; marks = mark 1 Decided ∷ []; level = 1; given = 0 }) → ⊥ }
+    ensures level_above { IsSoundTrail (record {
+      vars = 6;
+      lits = pos 3 ∷ pos 4 ∷ [];
+      marks = mark 1 Decided ∷ mark 1 (Clause 7) ∷ [];
+      level = 2;
+      given = 0;
+    }) → ⊥ }
+    ensures implied_climbs { IsSoundTrail (record {
       vars = 6;
       lits = pos 3 ∷ pos 4 ∷ [];
       marks = mark 1 Decided ∷ mark 2 (Clause 7) ∷ [];
       level = 2;
       given = 0;
     }) → ⊥ }
-    ensures decided_stays { IsSound (record { vars = 6; lits = pos 3 ∷ pos 4 ∷ []; marks = mark 1 Decided ∷ mark 1 Decided ∷ []; level = 1; given = 0 }) → ⊥ }
-    ensures too_many_given { IsSound (first_level 3) → ⊥ }
-    ensures too_many_variables { IsSound (no_literals 1000001) → ⊥ }
+    ensures decided_stays { IsSoundTrail (record {
+      vars = 6;
+      lits = pos 3 ∷ pos 4 ∷ [];
+      marks = mark 1 Decided ∷ mark 1 Decided ∷ [];
+      level = 1;
+      given = 0;
+    }) → ⊥ }
+    ensures too_many_given { IsSoundTrail (first_level 3) → ⊥ }
+    ensures too_many_variables { IsSoundTrail (no_literals 1000001) → ⊥ }
 {}
 
 /// In a new order each variable waits, with the sign false.

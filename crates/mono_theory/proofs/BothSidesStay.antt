@@ -2,7 +2,7 @@
 use Rattle.std.proofs.Common.{◌≡◌, ℕ, Bool, ℤ, List, length, sym, ap, subst, ◌∙◌}
 use Rattle.std.specs.Prelude.{Result, Ok, Err, IfOk}
 use Rattle.mono_problem.specs.declared.atom.Predicate.{Predicate}
-use Rattle.mono_theory.specs.Supports.{SideView, IsSide, IsSideFor, IsKept, gone_back}
+use Rattle.mono_theory.specs.Supports.{SideView, IsSide, IsSideFor, IsRightTheory, gone_back}
 use Rattle.mono_theory.specs.Theories.{Facts, cut_to}
 
 -- ---- one side
@@ -28,7 +28,7 @@ side_gone_back kept r side is h = record { side = side; thorough = ap (λ (x : S
 
 -- what is kept is right with other literals, on the same sides
 pub kept_with : {covers : Predicate → Bool} {nodes : ℕ} {f : Facts} {surely later possibly after : Facts → Type 0} {a c b d : Bool} (t : List ℤ) → later (record { graph = f.graph; atoms = f.atoms; seen = t }) → c ≡ a → after (record { graph = f.graph; atoms = f.atoms; seen = t }) → d ≡ b
-    → IsKept covers nodes f surely a possibly b → IsKept covers nodes (record { graph = f.graph; atoms = f.atoms; seen = t }) later c after d
+    → IsRightTheory covers nodes f surely a possibly b → IsRightTheory covers nodes (record { graph = f.graph; atoms = f.atoms; seen = t }) later c after d
 kept_with t low low_sign high high_sign h = record {
   covered = record { each = h.covered.each };
   size = h.size;

@@ -18,8 +18,8 @@ use Rattle.mono_theory.specs.Watching.{AreInvalidated, IsInvalidated, NoneStands
 pub none_invalidated : (xs : List (Option Evidence)) (ks : List ℕ) (stages : List Stage) → AreInvalidated xs ks stages stages
 none_invalidated xs ks stages = record { len = refl; each = λ a. inl refl }
 
-waits_not_stands : (s : Stage) → s ≡ stage.Waits → s ≢ stage.Supported
-waits_not_stands s w e = let bad : stage.Waits ≡ stage.Supported = sym w ∙ e in cc
+waits_not_stands : (s : Stage) → s ≡ stage.Waits → s ≢ stage.Stands
+waits_not_stands s w e = let bad : stage.Waits ≡ stage.Stands = sym w ∙ e in cc
 
 pub invalidated_more : {xs : List (Option Evidence)} {ks : List ℕ} {before mid after : List Stage} → AreInvalidated xs ks before mid → AreInvalidated xs ks mid after → AreInvalidated xs ks before after
 invalidated_more {xs} {ks} {before} {mid} {after} h k = record {
@@ -48,19 +48,19 @@ invalidated_one xs ks stages a k lt among rests = record {
 
     by : (s : Stage) → stage_at stages a ≡ s → (stage_at (set stages a (waiting (stage_at stages a))) a ≡ stage_at stages a) ⊎ IsInvalidated xs ks stages (set stages a (waiting (stage_at stages a))) a
     by stage.Waits e = inl (here ∙ ap waiting e ∙ sym e)
-    by stage.Supported e = inr (record { stood = e; waits = here ∙ ap waiting e; edge = k; among = among; rests = rests })
-    by (stage.Forcing m) e = inl (here ∙ ap waiting e ∙ sym e)
+    by stage.Stands e = inr (record { stood = e; waits = here ∙ ap waiting e; edge = k; among = among; rests = rests })
+    by (stage.Shows m) e = inl (here ∙ ap waiting e ∙ sym e)
 
-never_stands : (s : Stage) → waiting s ≢ stage.Supported
+never_stands : (s : Stage) → waiting s ≢ stage.Stands
 never_stands stage.Waits e = cc
-never_stands stage.Supported e = cc
-never_stands (stage.Forcing m) e = cc
+never_stands stage.Stands e = cc
+never_stands (stage.Shows m) e = cc
 
-pub gone_one : (stages : List Stage) (a : ℕ) → a < length stages → stage_at (set stages a (waiting (stage_at stages a))) a ≢ stage.Supported
+pub gone_one : (stages : List Stage) (a : ℕ) → a < length stages → stage_at (set stages a (waiting (stage_at stages a))) a ≢ stage.Stands
 gone_one stages a lt e = never_stands (stage_at stages a) (sym (get_or-set_same stages a (waiting (stage_at stages a)) stage.Waits lt) ∙ e)
 
 -- where it doesn't stand it still doesn't
-pub still_gone : {xs : List (Option Evidence)} {ks : List ℕ} {before after : List Stage} → AreInvalidated xs ks before after → (a : ℕ) → stage_at before a ≢ stage.Supported → stage_at after a ≢ stage.Supported
+pub still_gone : {xs : List (Option Evidence)} {ks : List ℕ} {before after : List Stage} → AreInvalidated xs ks before after → (a : ℕ) → stage_at before a ≢ stage.Stands → stage_at after a ≢ stage.Stands
 still_gone {xs} {ks} {before} {after} h a gone e = elim (h.each a) [
   | inl same ↦ gone (sym same ∙ e)
   | inr lost ↦ waits_not_stands (stage_at after a) lost.waits e
@@ -71,13 +71,13 @@ still_none h n = record { each = λ w t r. still_gone h w.atom (n.each w t r) }
 
 -- one more atom doesn't stand on the edge
 pub none_more : {xs : List (Option Evidence)} {ks : List ℕ} {before after : List Stage} {k : ℕ} (ws : List Watch) (i : ℕ) (d : Watch) → i < length ws → AreInvalidated xs ks before after
-    → (RestsAt (evidence_at xs (get_or ws i d).atom) (get_or ws i d).place k → stage_at after (get_or ws i d).atom ≢ stage.Supported) → NoneStandsOn xs before (take i ws) k → NoneStandsOn xs after (take (i + 1) ws) k
+    → (RestsAt (evidence_at xs (get_or ws i d).atom) (get_or ws i d).place k → stage_at after (get_or ws i d).atom ≢ stage.Stands) → NoneStandsOn xs before (take i ws) k → NoneStandsOn xs after (take (i + 1) ws) k
 none_more {xs} {ks} {before} {after} {k} ws i d lt step this n =
     let more : take (i + 1) ws ≡ take i ws ++ get_or ws i d ∷ [] = take_more ws i d lt in
     record {
       each = λ w t r. elim (Contains-push_cases (take i ws) (get_or ws i d) w (subst (λ (us : List Watch). Contains us w) more t)) [
         | inl early ↦ still_gone step w.atom (n.each w early r)
-        | inr e ↦ subst (λ (u : Watch). RestsAt (evidence_at xs u.atom) u.place k → stage_at after u.atom ≢ stage.Supported) e this r
+        | inr e ↦ subst (λ (u : Watch). RestsAt (evidence_at xs u.atom) u.place k → stage_at after u.atom ≢ stage.Stands) e this r
       ];
     }
 

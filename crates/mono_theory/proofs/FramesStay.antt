@@ -1,14 +1,14 @@
 -- One more literal, and fewer.
-use Rattle.std.proofs.Common.{◌≡◌, ℕ, zero, suc, ◌+◌, ◌^◌, ◌<◌, ◌≤◌, Bool, true, false, not, ◌||◌, cond, List, [], ◌∷◌, ◌++◌, map, length, take, get_or, eqb, eq-eqb, le-leb, refl, sym, ap, subst, ◌∙◌, inl, inr, arith, ℤ, pos, nat_abs, All, length-append}
+use Rattle.std.proofs.Common.{◌≡◌, ℕ, zero, suc, ◌+◌, ◌^◌, ◌<◌, ◌≤◌, Bool, true, false, not, ◌||◌, cond, List, [], ◌∷◌, ◌++◌, map, length, take, get_or, eqb, le-leb, refl, sym, ap, subst, ◌∙◌, inl, inr, arith, ℤ, pos, nat_abs, All, length-append}
 use Rattle.std.specs.Prelude.{IsTrue, IsSome, Some}
 use Rattle.std.specs.List.{list_any}
 use Rattle.std.proofs.lemmas.Bool.{or_cases, or_left, or_right, and_from, both_ways, eqb-true}
-use Rattle.std.proofs.lemmas.List.{length-map, get_or-map, take_more}
+use Rattle.std.proofs.lemmas.List.{length-map, get_or-map}
 use Rattle.std.proofs.lemmas.List.Folds.{list_any-append}
 use Rattle.mono_base.specs.declared.limits.TheConstants.{MAX_ATOMS}
 use Rattle.mono_base.specs.Literal.{var_of, is_lit}
 use Rattle.mono_base.specs.Partial.{is_true_in, is_false_in, is_open_in, has_var, is_partial}
-use Rattle.mono_base.proofs.Partials.{open_is_new, has_var-append, is_partial-push, is_partial-take, joined, later_is_new}
+use Rattle.mono_base.proofs.Partials.{open_is_new, has_var-append, is_partial-push, is_partial-take, joined}
 use Rattle.mono_graph.specs.declared.edge.Edge.{Edge}
 use Rattle.mono_graph.specs.Digraph.{Digraph, IsGraph, has, is_distinct}
 use Rattle.mono_problem.specs.declared.atom.Atom.{Atom}
@@ -18,14 +18,13 @@ use Rattle.std.specs.Prelude.{int_lt}
 use Rattle.mono_theory.specs.Evidences.{side, shown_by}
 use Rattle.mono_problem.specs.declared.atom.Predicate.{Predicate}
 use Rattle.mono_problem.specs.WellFormed.{IsOver}
-use Rattle.mono_theory.specs.Index.{IsPlaceOf}
+use Rattle.mono_bounds.specs.Index.{IsPlaceOf}
 use Rattle.mono_theory.specs.Theories.{concerns_of, owns_of, atom_of}
 use Rattle.mono_theory.specs.Variables.{AreVarsOf}
-use Rattle.mono_theory.specs.Bound.{Bound, edge_vars, assigned, unassigned, IsBoundOf}
-use Rattle.mono_theory.specs.SeenBounds.{SeenBound, IsSeenBound}
+use Rattle.mono_bounds.specs.Bound.{Bound, edge_vars, IsBoundUnder}
+use Rattle.mono_bounds.specs.SeenBounds.{SeenBound, IsSeenBound}
 use Rattle.mono_theory.specs.Frames.{AreAtomsOf, IsVar, atom_vars, atom_numbers, IsFrame}
 use Rattle.mono_graph.proofs.Pigeons.{pigeon}
-use Rattle.mono_theory.proofs.BoundsStay.{assigned_is_bound, unassigned_is_bound}
 
 -- ---- what concerns a theory
 
@@ -59,14 +58,6 @@ has_var-take (suc k) (l ∷ t) v h =
       | inl e ↦ or_left (eqb (var_of l) v) (has_var t v) e
       | inr e ↦ or_right (eqb (var_of l) v) (has_var t v) (has_var-take k t v e)
     ]
-
--- the last literal of a partial assignment
-last_is_lit : (t : List ℤ) (l : ℤ) → IsTrue (is_partial (t ++ l ∷ [])) → IsTrue (is_lit l)
-last_is_lit [] l p = (joined l [] p).lit
-last_is_lit (m ∷ t) l p = last_is_lit t l (joined m (t ++ l ∷ []) p).rest
-
-last_is_new : (t : List ℤ) (l : ℤ) → IsTrue (is_partial (t ++ l ∷ [])) → has_var t (var_of l) ≡ false
-last_is_new t l p = later_is_new t (l ∷ []) (var_of l) p (or_left (eqb (var_of l) (var_of l)) false (eq-eqb (var_of l) (var_of l) refl))
 
 -- ---- room
 
@@ -166,27 +157,21 @@ IsFrame-take {t = t} b' o' k s h i edge_cells own_cells = record {
   few = s.few;
 }
 
--- the last literal goes
-pub unassigned_last : (b : Bound) (vs : List ℕ) (old t : List ℤ) (l : ℤ) → old ≡ t ++ l ∷ [] → IsTrue (is_partial old) → IsBoundOf b vs old → IsBoundOf (unassigned b l) vs t
-unassigned_last b vs old t l e d h =
-    let p : IsTrue (is_partial (t ++ l ∷ [])) = subst (λ (u : List ℤ). IsTrue (is_partial u)) e d in
-    unassigned_is_bound b vs t l (last_is_lit t l p) (last_is_new t l p) (subst (IsBoundOf b vs) e h)
-
 -- ---- the bounds of the graph
 
 map-map : {X : Type 0} (f : X → ℕ) (h : ℕ → Bool) (xs : List X) → map h (map f xs) ≡ map (λ x. h (f x)) xs
 map-map f h [] = refl
 map-map f h (x ∷ xs) = ap (λ bs. h (f x) ∷ bs) (map-map f h xs)
 
-pub under_is : (b : Bound) (g : Digraph) (t : List ℤ) → IsBoundOf b (edge_vars g) t → b.under ≡ under g t
+pub under_is : (b : Bound) (g : Digraph) (t : List ℤ) → IsBoundUnder b (edge_vars g) t → b.under ≡ under g t
 under_is b g t h = h.surely ∙ map-map (λ (e : Edge). e.var) (λ v. is_true_in t (pos v)) g.edges
 
-pub over_is : (b : Bound) (g : Digraph) (t : List ℤ) → IsBoundOf b (edge_vars g) t → b.over ≡ over g t
+pub over_is : (b : Bound) (g : Digraph) (t : List ℤ) → IsBoundUnder b (edge_vars g) t → b.over ≡ over g t
 over_is b g t h = h.possibly ∙ map-map (λ (e : Edge). e.var) (λ v. not (is_false_in t (pos v))) g.edges
 
 -- ---- the atoms' own values
 
-pub own_true : (o : Bound) (atoms : List Atom) (t : List ℤ) (k : ℕ) → IsBoundOf o (atom_vars atoms) t → k < length atoms → get_or o.under k false ≡ is_true_in t (pos (get_or atoms k no_atom).var)
+pub own_true : (o : Bound) (atoms : List Atom) (t : List ℤ) (k : ℕ) → IsBoundUnder o (atom_vars atoms) t → k < length atoms → get_or o.under k false ≡ is_true_in t (pos (get_or atoms k no_atom).var)
 own_true o atoms t k h lt =
     ap (λ P. get_or P k false) (h.surely ∙ map-map (λ (x : Atom). x.var) (λ v. is_true_in t (pos v)) atoms) ∙ get_or-map (λ (x : Atom). is_true_in t (pos x.var)) atoms k no_atom false lt
 
@@ -194,7 +179,7 @@ not-not : (b : Bool) → not (not b) ≡ b
 not-not true = refl
 not-not false = refl
 
-pub own_false : (o : Bound) (atoms : List Atom) (t : List ℤ) (k : ℕ) → IsBoundOf o (atom_vars atoms) t → k < length atoms → not (get_or o.over k false) ≡ is_false_in t (pos (get_or atoms k no_atom).var)
+pub own_false : (o : Bound) (atoms : List Atom) (t : List ℤ) (k : ℕ) → IsBoundUnder o (atom_vars atoms) t → k < length atoms → not (get_or o.over k false) ≡ is_false_in t (pos (get_or atoms k no_atom).var)
 own_false o atoms t k h lt =
     ap (λ P. not (get_or P k false)) (h.possibly ∙ map-map (λ (x : Atom). x.var) (λ v. not (is_false_in t (pos v))) atoms)
     ∙ ap not (get_or-map (λ (x : Atom). not (is_false_in t (pos x.var))) atoms k no_atom false lt) ∙ not-not (is_false_in t (pos (get_or atoms k no_atom).var))
@@ -231,19 +216,6 @@ found_by_place g atoms ns n k x ok e h is =
     let over : IsVar x.var × IsOver g x.predicate = subst (λ (y : Atom). IsVar y.var × IsOver g y.predicate) (sym is) (ok.over k no_atom lt) in
     (ap (atom_of atoms) (sym number) ∙ own, over.0, over.1)
 
--- ---- back to the first literals, and on again
-
-pub one_back : (b : Bound) (vs : List ℕ) (t : List ℤ) (k : ℕ) (l : ℤ) → k < length t → get_or t k l ≡ l → IsTrue (is_partial t) → IsBoundOf b vs (take (k + 1) t) → IsBoundOf (unassigned b l) vs (take k t)
-one_back b vs t k l lt at p h =
-    let more : take (k + 1) t ≡ take k t ++ l ∷ [] = take_more t k l lt ∙ ap (λ (m : ℤ). take k t ++ m ∷ []) at in
-    unassigned_last b vs (take (k + 1) t) (take k t) l more (is_partial-take (k + 1) t p) h
-
-pub one_on : (b : Bound) (vs : List ℕ) (t : List ℤ) (k : ℕ) (l : ℤ) → k < length t → get_or t k l ≡ l → IsTrue (is_partial t) → IsBoundOf b vs (take k t) → IsBoundOf (assigned b l) vs (take (k + 1) t)
-one_on b vs t k l lt at p h =
-    let more : take (k + 1) t ≡ take k t ++ l ∷ [] = take_more t k l lt ∙ ap (λ (m : ℤ). take k t ++ m ∷ []) at in
-    let front : IsTrue (is_partial (take k t ++ l ∷ [])) = subst (λ (u : List ℤ). IsTrue (is_partial u)) more (is_partial-take (k + 1) t p) in
-    subst (IsBoundOf (assigned b l) vs) (sym more) (assigned_is_bound b vs (take k t) l (last_is_lit (take k t) l front) h)
-
 -- the side of a literal, by the bounds
-pub side_is : (b : Bound) (g : Digraph) (q : Predicate) (t : List ℤ) (l : ℤ) → IsBoundOf b (edge_vars g) t → cond (shown_by q (int_lt (pos 0) l)) b.under b.over ≡ side g q t l
+pub side_is : (b : Bound) (g : Digraph) (q : Predicate) (t : List ℤ) (l : ℤ) → IsBoundUnder b (edge_vars g) t → cond (shown_by q (int_lt (pos 0) l)) b.under b.over ≡ side g q t l
 side_is b g q t l h = ap (λ P. cond (shown_by q (int_lt (pos 0) l)) P b.over) (under_is b g t h) ∙ ap (λ P. cond (shown_by q (int_lt (pos 0) l)) (under g t) P) (over_is b g t h)

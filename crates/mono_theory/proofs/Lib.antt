@@ -1,8 +1,3 @@
-pub mod EntryBuckets
-pub mod Switches
-pub mod IndexMade
-pub mod BoundsStay
-pub mod SpansStay
 pub mod SortedOnce
 pub mod FramesStay
 pub mod EvidenceDecides
@@ -28,8 +23,8 @@ pub mod PartsFollow
 pub mod SureEdges
 pub mod DueStay
 mod RowsStay
-pub mod DueNodes
 pub mod AskedRows
 pub mod PossibleParts
 pub mod WalksTold
 pub mod PossibleDue
+pub mod SureRowsStay

@@ -1,5 +1,5 @@
 -- More atoms watch, edge after edge.
-use Rattle.std.proofs.Common.{◌≡◌, ℕ, zero, suc, ◌+◌, ◌<◌, List, [], ◌∷◌, ◌++◌, length, get_or, sym, subst, ◌∙◌, inl, inr, arith, All}
+use Rattle.std.proofs.Common.{◌≡◌, ℕ, zero, suc, ◌+◌, ◌<◌, List, [], ◌∷◌, ◌++◌, length, get_or, refl, sym, subst, ◌∙◌, inl, inr, arith, All}
 use Rattle.std.specs.Prelude.{IsTrue, Option, Some, None, slice_set}
 use Rattle.std.specs.List.{Contains}
 use Rattle.std.proofs.lemmas.Bool.{cases_eq, cases_lt}
@@ -22,6 +22,9 @@ place_of_edge (x ∷ ks) k h = elim (has_cons x k ks h) [
 
 pub grown_more : {ws vs us : List (List Watch)} → IsGrown ws vs → IsGrown vs us → IsGrown ws us
 grown_more h g = record { len = g.len ∙ h.len; each = λ k w t. g.each k w (h.each k w t) }
+
+pub grown_same : (ws : List (List Watch)) → IsGrown ws ws
+grown_same ws = record { len = refl; each = λ k w t. t }
 
 -- one more watch at one edge
 abbrev pushed : List (List Watch) → ℕ → Watch → List (List Watch)

@@ -52,8 +52,8 @@ none_waiting {f = f} {b = b} {s = s} ok atoms h none = record {
 
     by_stage : (a : ℕ) → a < length f.atoms → (x : Stage) → stage_at s.stages a ≡ x → StageIs f b s a x → IsSettled f.seen b (atom_at f.atoms a) ⊎ Decides f.graph (part_of f.graph f.seen b) (atom_at f.atoms a).predicate (shown_by (atom_at f.atoms a).predicate b)
     by_stage a lt stage.Waits e is = absurd (none a stage.Waits (omega (arith, lt, h.stages_len)) e)
-    by_stage a lt stage.Supported e is = inr (sound_decides f.graph (part_of f.graph f.seen b) (atom_at f.atoms a).predicate b (evidence_at s.supports a) ok (over a lt) (part_len f.graph f.seen b) (h.supports.each a lt) is)
-    by_stage a lt (stage.Forcing m) e is = inl (has_lit-take m f.seen (literal_of (shown_by (atom_at f.atoms a).predicate (not b)) (atom_at f.atoms a).var) is.settled)
+    by_stage a lt stage.Stands e is = inr (sound_decides f.graph (part_of f.graph f.seen b) (atom_at f.atoms a).predicate b (evidence_at s.supports a) ok (over a lt) (part_len f.graph f.seen b) (h.supports.each a lt) is)
+    by_stage a lt (stage.Shows m) e is = inl (has_lit-take m f.seen (literal_of (shown_by (atom_at f.atoms a).predicate (not b)) (atom_at f.atoms a).var) is.settled)
 
 -- ---- what is shown forces
 

@@ -9,7 +9,7 @@ use Rattle.mono_base.specs.Partial.{is_true_in, is_false_in}
 use Rattle.mono_graph.specs.declared.edge.Edge.{Edge}
 use Rattle.mono_graph.specs.Digraph.{Digraph}
 use Rattle.mono_problem.specs.Quiet.{under, over}
-use Rattle.mono_theory.proofs.BoundsStay.{has_lit-push_other, is_above, neg_not_pos, pos_not_neg}
+use Rattle.mono_bounds.proofs.BoundsStay.{has_lit-push_other, is_above, neg_not_pos, pos_not_neg}
 
 -- ---- which edges change
 

@@ -10,8 +10,8 @@ use Rattle.mono_problem.specs.declared.atom.Atom.{Atom}
 use Rattle.mono_theory.specs.declared.evidence.Evidence.{Evidence}
 use Rattle.mono_theory.specs.declared.stage.Stage.{Stage}
 use Rattle.mono_theory.specs.declared.stage.Stage.TheVariants as stage
-use Rattle.mono_theory.specs.Bound.{edge_vars}
-use Rattle.mono_theory.specs.Index.{ArePlacesOf}
+use Rattle.mono_bounds.specs.Bound.{edge_vars}
+use Rattle.mono_bounds.specs.Index.{ArePlacesOf}
 use Rattle.mono_theory.specs.Sound.{IsRightIn, atom_at, evidence_at}
 use Rattle.mono_theory.specs.Stages.{stage_at}
 use Rattle.mono_theory.specs.Supports.{IsKeptBy, IsSettled, IsShown, IsSide, SideView, StageIs, part_of}
@@ -48,8 +48,8 @@ side_seen {f = f} {b = b} {s = s} l stages len right h = record {
   where
     under_stages : (a : ℕ) (x : Stage) → StageIs (seeing f l) b s a x → StageIs (seeing f l) b (record { possible = s.possible; supports = s.supports; shown = s.shown; watchers = s.watchers; stages = stages; thorough = s.thorough }) a x
     under_stages a stage.Waits is = tt
-    under_stages a stage.Supported is = is
-    under_stages a (stage.Forcing m) is = is
+    under_stages a stage.Stands is = is
+    under_stages a (stage.Shows m) is = is
 
 -- the last literal is one more behind the others
 pub side_last : {b : Bool} {s : SideView} (f : Facts) → 0 < length f.seen → IsSide (seeing (but_last f) (last_seen f)) b s → IsSide f b s
@@ -63,8 +63,8 @@ side_other_sign {f = f} {b = b} {s = s} l p sign h =
   where
     same : (a : ℕ) (x : Stage) → StageIs f b s a x → StageIs (seeing f l) b s a x
     same a stage.Waits is = tt
-    same a stage.Supported is = subst (λ (P : List Bool). IsRightIn P b (evidence_at s.supports a)) (sym (other_sign f.graph f.seen l b p sign)) is
-    same a (stage.Forcing m) is = shown_seen l is
+    same a stage.Stands is = subst (λ (P : List Bool). IsRightIn P b (evidence_at s.supports a)) (sym (other_sign f.graph f.seen l b p sign)) is
+    same a (stage.Shows m) is = shown_seen l is
 
 -- ---- one that changes some
 
@@ -74,7 +74,7 @@ place_var g k lt = get_or-map (λ d. d.var) g.edges k no_edge 0 lt
 
 -- an atom that still stands has no edge of the variable in its support
 still_right : {f : Facts} {b : Bool} {s : SideView} (l : ℤ) (ks : List ℕ) (stages : List Stage) → ArePlacesOf (edge_vars f.graph) (var_of l) ks → ((k : ℕ) → IsTrue (has ks k) → NoneStandsOn s.supports stages (watching s.watchers k) k)
-    → (a : ℕ) → a < length f.atoms → stage_at stages a ≡ stage.Supported → StageIs f b s a stage.Supported → IsSide f b s → StageIs (seeing f l) b s a stage.Supported
+    → (a : ℕ) → a < length f.atoms → stage_at stages a ≡ stage.Stands → StageIs f b s a stage.Stands → IsSide f b s → StageIs (seeing f l) b s a stage.Stands
 still_right {f = f} {b = b} {s = s} l ks stages places none a lt stands is h =
     right_by f.graph (atom_at f.atoms a).predicate b (part_of f.graph f.seen b) (part_of f.graph (f.seen ++ l ∷ []) b) (evidence_at s.supports a) (h.supports.each a lt) is (λ k below mine on. elim (cases_eq (edge_at f.graph k).var (var_of l)) [
       | inl e ↦ absurd (stood k (none k (places.all k (omega (arith, below, length-map f.graph.edges (λ d. d.var))) (place_var f.graph k below ∙ e))) (evidence_at s.supports a) refl (h.watched.each a lt) mine is)
@@ -98,8 +98,8 @@ side_invalidated {f = f} {b = b} {s = s} l ks stages places fewer none h = side_
   where
     kept : (a : ℕ) → a < length f.atoms → (x : Stage) → stage_at stages a ≡ x → StageIs f b s a x → StageIs (seeing f l) b s a x
     kept a lt stage.Waits e is = tt
-    kept a lt stage.Supported e is = still_right {f = f} {b = b} {s = s} l ks stages places none a lt e is h
-    kept a lt (stage.Forcing m) e is = shown_seen l is
+    kept a lt stage.Stands e is = still_right {f = f} {b = b} {s = s} l ks stages places none a lt e is h
+    kept a lt (stage.Shows m) e is = shown_seen l is
 
 -- ---- what is kept
 

@@ -6,14 +6,15 @@ use Rattle.mono_base.specs.Literal.{is_lit, var_of}
 use Rattle.mono_base.specs.Partial.{is_true_in, is_false_in, is_partial}
 use Rattle.mono_graph.specs.declared.edge.Edge.{Edge}
 use Rattle.mono_graph.specs.Digraph.{Digraph, present}
-use Rattle.mono_theory.specs.Bound.{Bound, edge_vars, assigned, unassigned, IsBoundOf}
-use Rattle.mono_theory.specs.Index.{ArePlacesOf, switched}
+use Rattle.mono_bounds.specs.Bound.{Bound, edge_vars, assigned, unassigned, IsBoundUnder}
+use Rattle.mono_bounds.specs.Index.{ArePlacesOf, switched}
 use Rattle.mono_theory.specs.Supports.{part_of}
 use Rattle.mono_theory.specs.Theories.{Facts}
-use Rattle.mono_theory.proofs.BoundsStay.{all_on, none_on}
-use Rattle.mono_theory.proofs.FramesStay.{one_back, one_on, over_is, under_is}
+use Rattle.mono_bounds.proofs.BoundsStay.{all_on, none_on}
+use Rattle.mono_bounds.proofs.BoundsStay.{one_back, one_on}
+use Rattle.mono_theory.proofs.FramesStay.{over_is, under_is}
 use Rattle.mono_theory.proofs.PartsOfSides.{other_sign, part_len}
-use Rattle.mono_theory.proofs.Switches.{switched_by}
+use Rattle.mono_bounds.proofs.Switches.{switched_by}
 
 -- a literal of a frame, and the edges of its variable
 pub record IsNextOf (f : Facts) (n : ℕ) (l : ℤ) (ks : List ℕ) : Type 0 where
@@ -34,7 +35,7 @@ next_of f n l ks lt at partial places = record {
 bounds_by : Digraph → List ℤ → Bound
 bounds_by g t = record { vars = edge_vars g; places = []; under = map (λ v. is_true_in t (pos v)) (edge_vars g); over = map (λ v. not (is_false_in t (pos v))) (edge_vars g) }
 
-held_by : (g : Digraph) (t : List ℤ) → IsBoundOf (bounds_by g t) (edge_vars g) t
+held_by : (g : Digraph) (t : List ℤ) → IsBoundUnder (bounds_by g t) (edge_vars g) t
 unfolding bounds_by
 held_by g t = record { vars = refl; surely = refl; possibly = refl }
 

@@ -14,7 +14,7 @@ use Rattle.mono_problem.specs.Quiet.{under, over}
 use Rattle.mono_problem.specs.declared.atom.Predicate.{Predicate}
 use Rattle.mono_theory.specs.Evidences.{shown_by, side}
 use Rattle.mono_theory.specs.Supports.{part_of}
-use Rattle.mono_theory.proofs.BoundsStay.{has_lit-push_other}
+use Rattle.mono_bounds.proofs.BoundsStay.{has_lit-push_other}
 use Rattle.mono_theory.proofs.NothingChanges.{over_by_positive, under_by_negative}
 
 pub part_len : (g : Digraph) (t : List ℤ) (b : Bool) → length (part_of g t b) ≡ length g.edges

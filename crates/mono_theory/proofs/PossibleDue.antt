@@ -17,7 +17,7 @@ use Rattle.mono_problem.specs.declared.atom.Atom.{Atom}
 use Rattle.mono_problem.specs.Read.{no_atom}
 use Rattle.mono_theory.specs.Asked.{asks_walk, no_source, source_at, target_of, AreOfAtoms, HasTarget, HaveRows}
 use Rattle.mono_theory.specs.DueAtoms.{PutsDue}
-use Rattle.mono_theory.specs.DueNodes.{PutsNodes}
+use Rattle.mono_bounds.specs.DueNodes.{PutsNodes}
 use Rattle.mono_theory.specs.PossibleRows.{AreTargetRows, AreAsked, AreEach, IsFilledRow, IsRenewedRow, lacks_by, possible_parts, target_at}
 use Rattle.mono_theory.specs.Supports.{atom_at}
 use Rattle.mono_theory.specs.Theories.{Facts}

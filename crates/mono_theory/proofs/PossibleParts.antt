@@ -19,8 +19,8 @@ use Rattle.mono_dynamic.specs.Ways.{Ways, has_target, IsSameSource, IsTarget, Is
 use Rattle.mono_dynamic.specs.Targets.{Targets, TargetRows, no_targets, targets_at, is_lacking, AreTold, IsShrunk, IsShrunkRow, IsUndoneRow, OnlyShrink}
 use Rattle.mono_dynamic.proofs.Lacking.{told_kept, told_stale}
 use Rattle.mono_problem.specs.Quiet.{over}
-use Rattle.mono_theory.specs.Bound.{edge_vars}
-use Rattle.mono_theory.specs.Index.{ArePlacesOf}
+use Rattle.mono_bounds.specs.Bound.{edge_vars}
+use Rattle.mono_bounds.specs.Index.{ArePlacesOf}
 use Rattle.mono_theory.specs.PossibleRows.{PossibleView, AreEach, AreTargetRows, IsRenewedRow, is_cut_off, lacks_by, possible_parts, target_at}
 use Rattle.mono_theory.specs.Theories.{Facts, cut_to}
 use Rattle.mono_theory.proofs.PartsOfSides.{has_lit-take, unswitched_at, other_sign}

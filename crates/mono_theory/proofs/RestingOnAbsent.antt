@@ -85,7 +85,7 @@ resting_evidence test g P q w ks sign known small looks h p = record {
 
 -- ---- the edges that leave a set
 
-has_flat : (f : ℕ → List ℕ) (us : List ℕ) (u k : ℕ) → IsTrue (has us u) → IsTrue (has (f u) k) → IsTrue (has (flat_map f us) k)
+pub has_flat : (f : ℕ → List ℕ) (us : List ℕ) (u k : ℕ) → IsTrue (has us u) → IsTrue (has (f u) k) → IsTrue (has (flat_map f us) k)
 has_flat f [] u k h i = absurd cc
 has_flat f (w ∷ us) u k h i = elim (has_cons w u us h) [
   | inl e ↦ has_append_left (f w) (flat_map f us) k (subst (λ (x : ℕ). IsTrue (has (f x) k)) (sym e) i)

@@ -13,11 +13,11 @@ use Rattle.mono_steps.specs.Switching.{literal_of}
 use Rattle.mono_theory.specs.DueAtoms.{PutsDue}
 use Rattle.mono_theory.specs.Evidences.{shown_by}
 use Rattle.mono_theory.specs.Frames.{atom_vars}
-use Rattle.mono_theory.specs.Index.{ArePlacesOf}
+use Rattle.mono_bounds.specs.Index.{ArePlacesOf}
 use Rattle.mono_theory.specs.RowSides.{AreRowsFor, AreSettledBut, RowsView}
 use Rattle.mono_theory.specs.Supports.{IsSettled, atom_at, part_of}
 use Rattle.mono_theory.specs.Theories.{Facts, but_last, cut_to}
-use Rattle.mono_theory.proofs.BoundsStay.{has_lit-push_other}
+use Rattle.mono_bounds.proofs.BoundsStay.{has_lit-push_other}
 use Rattle.mono_theory.proofs.EvidenceDecides.{literal_var}
 use Rattle.mono_theory.proofs.LastSeen.{len_but_last, take_but_last}
 use Rattle.mono_theory.proofs.PartsOfSides.{has_lit-take}

@@ -38,8 +38,8 @@ side_set {f = f} {b = b} {s = s} a x lt is h = record {
 -- no atom shows by more literals than were seen
 stage_up_to : (f : Facts) (b : Bool) (s : SideView) (a : ℕ) (x : Stage) → StageIs f b s a x → IsUpTo (length f.seen) x
 stage_up_to f b s a stage.Waits h = tt
-stage_up_to f b s a stage.Supported h = tt
-stage_up_to f b s a (stage.Forcing m) h = h.within
+stage_up_to f b s a stage.Stands h = tt
+stage_up_to f b s a (stage.Shows m) h = h.within
 
 pub side_up_to : {f : Facts} {b : Bool} {s : SideView} → IsSide f b s → All (IsUpTo (length f.seen)) s.stages
 side_up_to {f = f} {b = b} {s = s} h = λ i d lt. subst (IsUpTo (length f.seen)) (get_or_default s.stages i stage.Waits d lt) (stage_up_to f b s i (stage_at s.stages i) (h.right i (omega (arith, lt, h.stages_len))))
@@ -72,8 +72,8 @@ side_support {f = f} {b = b} {s = s} a e n sound watched h =
   where
     other : (x : ℕ) → x ≢ a → (y : Stage) → StageIs f b s x y → StageIs f b (record { possible = s.possible; supports = set s.supports a (Some e); shown = s.shown; watchers = s.watchers; stages = s.stages; thorough = s.thorough }) x y
     other x ne stage.Waits is = tt
-    other x ne stage.Supported is = subst (IsRightIn (part_of f.graph f.seen b) b) (sym (get_or-set_other s.supports a x (Some e) None ne)) is
-    other x ne (stage.Forcing m) is = is
+    other x ne stage.Stands is = subst (IsRightIn (part_of f.graph f.seen b) b) (sym (get_or-set_other s.supports a x (Some e) None ne)) is
+    other x ne (stage.Shows m) is = is
 
 pub side_shown : {f : Facts} {b : Bool} {s : SideView} (a : ℕ) (e : Evidence) → IsNext s a → IsSound f.graph (atom_at f.atoms a).predicate (not b) e → IsSide f b s
     → IsSide f b (record { possible = s.possible; supports = s.supports; shown = set s.shown a (Some e); watchers = s.watchers; stages = s.stages; thorough = s.thorough })
@@ -95,15 +95,15 @@ side_shown {f = f} {b = b} {s = s} a e n sound h =
   where
     other : (x : ℕ) → x ≢ a → (y : Stage) → StageIs f b s x y → StageIs f b (record { possible = s.possible; supports = s.supports; shown = set s.shown a (Some e); watchers = s.watchers; stages = s.stages; thorough = s.thorough }) x y
     other x ne stage.Waits is = tt
-    other x ne stage.Supported is = is
-    other x ne (stage.Forcing m) is = subst (λ (o : Option Evidence). IsShown f b s.thorough o (atom_at f.atoms x) m) (sym (get_or-set_other s.shown a x (Some e) None ne)) is
+    other x ne stage.Stands is = is
+    other x ne (stage.Shows m) is = subst (λ (o : Option Evidence). IsShown f b s.thorough o (atom_at f.atoms x) m) (sym (get_or-set_other s.shown a x (Some e) None ne)) is
 
 -- ---- other watchers
 
 same_stage : (f : Facts) (b : Bool) (s : SideView) (watchers : List (List Watch)) (x : ℕ) (y : Stage) → StageIs f b s x y → StageIs f b (record { possible = s.possible; supports = s.supports; shown = s.shown; watchers = watchers; stages = s.stages; thorough = s.thorough }) x y
 same_stage f b s watchers x stage.Waits is = tt
-same_stage f b s watchers x stage.Supported is = is
-same_stage f b s watchers x (stage.Forcing m) is = is
+same_stage f b s watchers x stage.Stands is = is
+same_stage f b s watchers x (stage.Shows m) is = is
 
 pub side_watched : {f : Facts} {b : Bool} {s : SideView} (watchers : List (List Watch)) → length watchers ≡ length f.graph.edges → AreBelow (length f.atoms) watchers → AllWatch watchers s.supports (length f.atoms) → IsSide f b s
     → IsSide f b (record { possible = s.possible; supports = s.supports; shown = s.shown; watchers = watchers; stages = s.stages; thorough = s.thorough })
@@ -148,14 +148,14 @@ side_cut {f = f} {b = b} {s = s} kept fits h = record {
   right = λ a lt. subst (StageIs (cut_to kept f) b (gone_back kept s) a) (sym (get_or-map (undone kept) s.stages a stage.Waits stage.Waits (omega (arith, lt, h.stages_len)))) (back a lt (stage_at s.stages a) (h.right a lt));
 }
   where
-    later : (a m : ℕ) → StageIs f b s a (stage.Forcing m) → (kept < m) ⊎ (m ≤ kept) → StageIs (cut_to kept f) b (gone_back kept s) a (undone kept (stage.Forcing m))
+    later : (a m : ℕ) → StageIs f b s a (stage.Shows m) → (kept < m) ⊎ (m ≤ kept) → StageIs (cut_to kept f) b (gone_back kept s) a (undone kept (stage.Shows m))
     later a m is (inl high) = rw (lt-ltb kept m high) tt
     later a m is (inr low) = rw (le-ltb kept m low) (shown_back kept fits low is)
 
     back : (a : ℕ) → a < length f.atoms → (x : Stage) → StageIs f b s a x → StageIs (cut_to kept f) b (gone_back kept s) a (undone kept x)
     back a lt stage.Waits is = tt
-    back a lt stage.Supported is = right_by f.graph (atom_at f.atoms a).predicate b (part_of f.graph f.seen b) (part_of f.graph (take kept f.seen) b) (evidence_at s.supports a) (h.supports.each a lt) is (λ k below mine on. fewer f.graph f.seen kept k b below on)
-    back a lt (stage.Forcing m) is = later a m is (cases_lt kept m)
+    back a lt stage.Stands is = right_by f.graph (atom_at f.atoms a).predicate b (part_of f.graph f.seen b) (part_of f.graph (take kept f.seen) b) (evidence_at s.supports a) (h.supports.each a lt) is (λ k below mine on. fewer f.graph f.seen kept k b below on)
+    back a lt (stage.Shows m) is = later a m is (cases_lt kept m)
 
 -- ---- nothing is kept
 
@@ -180,35 +180,35 @@ shown_now {f = f} {b = b} {o = o} {x = x} {m = m} h t sound =
 
 -- ---- what is read of it
 
-pub support_is_witness : {W : Type 0} (r : Option W) (value : W → Witness) (s : SideView) (a : ℕ) (o : Option Evidence) → a < length s.stages → stage_at s.stages a ≡ stage.Supported → o ≡ evidence_at s.supports a → IfSome r (λ w. MatchOption o ⊥ (λ e. value w ≡ e.witness))
+pub support_is_witness : {W : Type 0} (r : Option W) (value : W → Witness) (s : SideView) (a : ℕ) (o : Option Evidence) → a < length s.stages → stage_at s.stages a ≡ stage.Stands → o ≡ evidence_at s.supports a → IfSome r (λ w. MatchOption o ⊥ (λ e. value w ≡ e.witness))
     → IfSome r (λ w. (f : Facts) (b : Bool) → IsSide f b s → IsWitnessIn f.graph (part_of f.graph f.seen b) (atom_at f.atoms a).predicate b (value w))
 support_is_witness None value s a o lt is at read = read
 support_is_witness (Some w) value s a o lt is at read = λ f b h. (
     let held : a < length f.atoms = omega (arith, lt, h.stages_len) in
-    let right : StageIs f b s a stage.Supported = subst (StageIs f b s a) is (h.right a held) in
+    let right : StageIs f b s a stage.Stands = subst (StageIs f b s a) is (h.right a held) in
     sound_witness_of f.graph (part_of f.graph f.seen b) (atom_at f.atoms a).predicate b (evidence_at s.supports a) (value w) (part_len f.graph f.seen b) (h.supports.each a held) right (subst (λ (x : Option Evidence). MatchOption x ⊥ (λ e. value w ≡ e.witness)) at read))
 
-pub shown_is_witness : {W : Type 0} (r : Option W) (value : W → Witness) (s : SideView) (a m : ℕ) (o : Option Evidence) → a < length s.stages → s.thorough ≡ true → stage_at s.stages a ≡ stage.Forcing m → o ≡ evidence_at s.shown a → IfSome r (λ w. MatchOption o ⊥ (λ e. value w ≡ e.witness))
+pub shown_is_witness : {W : Type 0} (r : Option W) (value : W → Witness) (s : SideView) (a m : ℕ) (o : Option Evidence) → a < length s.stages → s.thorough ≡ true → stage_at s.stages a ≡ stage.Shows m → o ≡ evidence_at s.shown a → IfSome r (λ w. MatchOption o ⊥ (λ e. value w ≡ e.witness))
     → IfSome r (λ w. (f : Facts) (b : Bool) → IsSide f b s → IsWitnessIn f.graph (part_of f.graph f.seen b) (atom_at f.atoms a).predicate (not b) (value w))
 shown_is_witness None value s a m o lt thorough is at read = read
 shown_is_witness (Some w) value s a m o lt thorough is at read = λ f b h. (
     let held : a < length f.atoms = omega (arith, lt, h.stages_len) in
     let sound = h.shown.each a held in
-    let shown : StageIs f b s a (stage.Forcing m) = subst (StageIs f b s a) is (h.right a held) in
+    let shown : StageIs f b s a (stage.Shows m) = subst (StageIs f b s a) is (h.right a held) in
     let right : IsRightIn (part_of f.graph f.seen b) (not b) (evidence_at s.shown a) = shown_now {x = atom_at f.atoms a} shown thorough sound in
     sound_witness_of f.graph (part_of f.graph f.seen b) (atom_at f.atoms a).predicate (not b) (evidence_at s.shown a) (value w) (part_len f.graph f.seen b) sound right (subst (λ (x : Option Evidence). MatchOption x ⊥ (λ e. value w ≡ e.witness)) at read))
 
 -- an atom that stands has a support, and one that shows has what it shows, if predicates of settled atoms are decided
-pub support_is_there : {W : Type 0} (r : Option W) (s : SideView) (a : ℕ) (o : Option Evidence) → a < length s.stages → stage_at s.stages a ≡ stage.Supported → o ≡ evidence_at s.supports a → IfNone r (o ≡ None)
-    → (f : Facts) (b : Bool) → IsSide f b s → IfNone r (stage_at s.stages a ≢ stage.Supported)
+pub support_is_there : {W : Type 0} (r : Option W) (s : SideView) (a : ℕ) (o : Option Evidence) → a < length s.stages → stage_at s.stages a ≡ stage.Stands → o ≡ evidence_at s.supports a → IfNone r (o ≡ None)
+    → (f : Facts) (b : Bool) → IsSide f b s → IfNone r (stage_at s.stages a ≢ stage.Stands)
 support_is_there None s a o lt is at none f b h =
-    let right : StageIs f b s a stage.Supported = subst (StageIs f b s a) is (h.right a (omega (arith, lt, h.stages_len))) in
+    let right : StageIs f b s a stage.Stands = subst (StageIs f b s a) is (h.right a (omega (arith, lt, h.stages_len))) in
     absurd (subst (IsRightIn (part_of f.graph f.seen b) b) (sym at ∙ none) right)
 support_is_there (Some w) s a o lt is at none f b h = tt
 
-pub shown_is_there : {W : Type 0} (r : Option W) (s : SideView) (a m : ℕ) (o : Option Evidence) → a < length s.stages → stage_at s.stages a ≡ stage.Forcing m → o ≡ evidence_at s.shown a → IfNone r (o ≡ None)
+pub shown_is_there : {W : Type 0} (r : Option W) (s : SideView) (a m : ℕ) (o : Option Evidence) → a < length s.stages → stage_at s.stages a ≡ stage.Shows m → o ≡ evidence_at s.shown a → IfNone r (o ≡ None)
     → (f : Facts) (b : Bool) → IsSide f b s → s.thorough ≡ true → IfNone r (shows (stage_at s.stages a) ≡ false)
 shown_is_there None s a m o lt is at none f b h thorough =
-    let shown : StageIs f b s a (stage.Forcing m) = subst (StageIs f b s a) is (h.right a (omega (arith, lt, h.stages_len))) in
+    let shown : StageIs f b s a (stage.Shows m) = subst (StageIs f b s a) is (h.right a (omega (arith, lt, h.stages_len))) in
     absurd (subst (IsRightIn (part_of f.graph (take m f.seen) b) (not b)) (sym at ∙ none) (shown.right thorough))
 shown_is_there (Some w) s a m o lt is at none f b h thorough = tt

@@ -54,27 +54,27 @@ changed {items} {places} {p} {q} moved stages s h count e lp lq =
 pub place_of_waiting : {items : List ℕ} {stages : List Stage} {shown border : ℕ} → AreRuns items stages shown border → (k : ℕ) → k < length items → stage_by items stages k ≡ stage.Waits → (shown ≤ k) × (k < border)
 place_of_waiting {items} {stages} {shown} {border} h k lt e = (
   elim (cases_lt k shown) [ inl low ↦ absurd (both_ways (shows (stage_by items stages k)) (ap shows e) (h.show k low)) | inr ge ↦ ge ],
-  elim (cases_lt k border) [ inl low ↦ low | inr ge ↦ absurd (let bad : stage.Waits ≡ stage.Supported = sym e ∙ h.stand k ge lt in cc) ],
+  elim (cases_lt k border) [ inl low ↦ low | inr ge ↦ absurd (let bad : stage.Waits ≡ stage.Stands = sym e ∙ h.stand k ge lt in cc) ],
 )
 
-pub place_of_standing : {items : List ℕ} {stages : List Stage} {shown border : ℕ} → AreRuns items stages shown border → (k : ℕ) → k < length items → stage_by items stages k ≡ stage.Supported → border ≤ k
+pub place_of_standing : {items : List ℕ} {stages : List Stage} {shown border : ℕ} → AreRuns items stages shown border → (k : ℕ) → k < length items → stage_by items stages k ≡ stage.Stands → border ≤ k
 place_of_standing {items} {stages} {shown} {border} h k lt e = elim (cases_lt k border) [
   | inr ge ↦ ge
   | inl low ↦ elim (cases_lt k shown) [
     | inl shown_there ↦ absurd (both_ways (shows (stage_by items stages k)) (ap shows e) (h.show k shown_there))
-    | inr ge ↦ absurd (let bad : stage.Supported ≡ stage.Waits = sym e ∙ h.wait k ge low in cc)
+    | inr ge ↦ absurd (let bad : stage.Stands ≡ stage.Waits = sym e ∙ h.wait k ge low in cc)
   ]
 ]
 
 up_to_more : (m n : ℕ) (s : Stage) → n ≤ m → IsUpTo n s → IsUpTo m s
 up_to_more m n stage.Waits le h = tt
-up_to_more m n stage.Supported le h = tt
-up_to_more m n (stage.Forcing k) le h = omega (arith, le, h)
+up_to_more m n stage.Stands le h = tt
+up_to_more m n (stage.Shows k) le h = omega (arith, le, h)
 
 -- ---- the runs after a change
 
 -- the atom at p, which waited, stands behind the border
-pub runs_stand : {items moved : List ℕ} {stages later : List Stage} {shown border p q : ℕ} → AreRuns items stages shown border → IsChange items stages moved later p q stage.Supported → length moved ≡ length items → shown ≤ p → p < border → q + 1 ≡ border
+pub runs_stand : {items moved : List ℕ} {stages later : List Stage} {shown border p q : ℕ} → AreRuns items stages shown border → IsChange items stages moved later p q stage.Stands → length moved ≡ length items → shown ≤ p → p < border → q + 1 ≡ border
     → AreRuns moved later shown q
 runs_stand {items} {moved} {stages} {later} {shown} {border} {p} {q} h c count lo hi at = record {
   order = omega (arith, lo, hi, at);
@@ -94,7 +94,7 @@ runs_stand {items} {moved} {stages} {later} {shown} {border} {p} {q} h c count l
 }
 
 -- the atom at p, which waited, shows last
-pub runs_show : {items moved : List ℕ} {stages later : List Stage} {shown border p n : ℕ} → AreRuns items stages shown border → IsChange items stages moved later p shown (stage.Forcing n) → length moved ≡ length items → shown ≤ p → p < border
+pub runs_show : {items moved : List ℕ} {stages later : List Stage} {shown border p n : ℕ} → AreRuns items stages shown border → IsChange items stages moved later p shown (stage.Shows n) → length moved ≡ length items → shown ≤ p → p < border
     → ((k : ℕ) → k < length items → IsUpTo n (stage_by items stages k)) → AreRuns moved later (shown + 1) border
 runs_show {items} {moved} {stages} {later} {shown} {border} {p} {n} h c count lo hi low = record {
   order = omega (arith, lo, hi);
@@ -169,8 +169,8 @@ undone_already kept stages a e = map-set_same (undone kept) stages a stage.Waits
 
 undone_same : (kept : ℕ) (s : Stage) → IsUpTo kept s → undone kept s ≡ s
 undone_same kept stage.Waits h = refl
-undone_same kept stage.Supported h = refl
-undone_same kept (stage.Forcing m) h = ap (λ (b : Bool). if b then stage.Waits else stage.Forcing m) (le-ltb kept m h)
+undone_same kept stage.Stands h = refl
+undone_same kept (stage.Shows m) h = ap (λ (b : Bool). if b then stage.Waits else stage.Shows m) (le-ltb kept m h)
 
 -- where none shows by later literals, going back changes nothing
 pub none_later : {items places : List ℕ} {stages : List Stage} {shown border : ℕ} (kept : ℕ) → AreInverse items places → length stages ≡ length items → AreRuns items stages shown border → (shown ≡ 0) ⊎ IsUpTo kept (stage_by items stages (shown - 1)) → map (undone kept) stages ≡ stages
@@ -244,13 +244,13 @@ table_with {r} {r'} {stages} {stages'} {shown} {border} {shown'} {border'} {p} {
   runs = runs;
 }
 
-pub table_stand : {r r' : RankingView} {stages stages' : List Stage} {shown border a p q : ℕ} → IsTable r stages shown border → IsPlaced r.items stages a p stage.Waits → q ≡ border - 1 → IsChanged r stages r' stages' p q stage.Supported → IsTable r' stages' shown q
+pub table_stand : {r r' : RankingView} {stages stages' : List Stage} {shown border a p q : ℕ} → IsTable r stages shown border → IsPlaced r.items stages a p stage.Waits → q ≡ border - 1 → IsChanged r stages r' stages' p q stage.Stands → IsTable r' stages' shown q
 table_stand {p = p} h x at c = let between = place_of_waiting h.runs p x.inside x.its in table_with h c (runs_stand h.runs c.change c.as_many between.0 between.1 (let high = between.1 in omega (arith, high, at)))
 
-pub table_show : {r r' : RankingView} {stages stages' : List Stage} {shown border a p n : ℕ} → IsTable r stages shown border → IsPlaced r.items stages a p stage.Waits → All (IsUpTo n) stages → IsChanged r stages r' stages' p shown (stage.Forcing n) → IsTable r' stages' (shown + 1) border
+pub table_show : {r r' : RankingView} {stages stages' : List Stage} {shown border a p n : ℕ} → IsTable r stages shown border → IsPlaced r.items stages a p stage.Waits → All (IsUpTo n) stages → IsChanged r stages r' stages' p shown (stage.Shows n) → IsTable r' stages' (shown + 1) border
 table_show {r = r} {stages = stages} {p = p} {n = n} h x low c =
     let between = place_of_waiting h.runs p x.inside x.its in
     table_with h c (runs_show h.runs c.change c.as_many between.0 between.1 (λ k lt. low (get_or r.items k 0) stage.Waits (let known = (h.inverse.listed k lt).0 in omega (arith, known, h.as_many))))
 
-pub table_wait : {r r' : RankingView} {stages stages' : List Stage} {shown border a p : ℕ} → IsTable r stages shown border → IsPlaced r.items stages a p stage.Supported → IsChanged r stages r' stages' p border stage.Waits → IsTable r' stages' shown (border + 1)
+pub table_wait : {r r' : RankingView} {stages stages' : List Stage} {shown border a p : ℕ} → IsTable r stages shown border → IsPlaced r.items stages a p stage.Stands → IsChanged r stages r' stages' p border stage.Waits → IsTable r' stages' shown (border + 1)
 table_wait {p = p} h x c = table_with h c (runs_wait h.runs c.change c.as_many (place_of_standing h.runs p x.inside x.its) x.inside)

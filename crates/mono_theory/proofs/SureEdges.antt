@@ -13,12 +13,12 @@ use Rattle.mono_graph.proofs.Parts.{part_by-larger, in_part_by}
 use Rattle.mono_dynamic.specs.Arrivals.{IsGrown, GrowsAfter}
 use Rattle.mono_graph.proofs.GrownWalks.{walks}
 use Rattle.mono_problem.specs.Quiet.{under}
-use Rattle.mono_theory.specs.Bound.{edge_vars}
-use Rattle.mono_theory.specs.Index.{ArePlacesOf, switched}
+use Rattle.mono_bounds.specs.Bound.{edge_vars}
+use Rattle.mono_bounds.specs.Index.{ArePlacesOf, switched}
 use Rattle.mono_theory.specs.Theories.{Facts, seeing, cut_to}
 use Rattle.mono_theory.proofs.PartsFollow.{IsNextOf, part_still, switched_on, vars_len}
 use Rattle.mono_theory.proofs.PartsOfSides.{has_lit-take}
-use Rattle.mono_theory.proofs.Switches.{switched-at, length-switched}
+use Rattle.mono_bounds.proofs.Switches.{switched-at, length-switched}
 use Rattle.mono_theory.specs.SureParts.{sure_parts}
 
 -- ---- more literals, more edges

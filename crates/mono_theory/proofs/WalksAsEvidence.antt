@@ -5,12 +5,15 @@ use Rattle.std.specs.List.{list_all}
 use Rattle.std.proofs.lemmas.Bool.{and_parts, and_from}
 use Rattle.mono_graph.specs.Digraph.{Digraph, IsGraph, edge_at, place_of, present, has, is_place}
 use Rattle.mono_graph.specs.declared.limit.Limit.{Limit}
+use Rattle.mono_graph.specs.declared.limit.Limit.TheVariants as limit
 use Rattle.mono_graph.specs.Walks.{is_walk, is_path, is_light, leads}
 use Rattle.mono_graph.proofs.EdgeNumbers.{place_of-number}
 use Rattle.mono_graph.proofs.Membership.{all_at, all_from, has_get_or}
 use Rattle.mono_problem.specs.declared.atom.Predicate.{Predicate}
+use Rattle.mono_problem.specs.declared.atom.Predicate.TheVariants as kind
 use Rattle.mono_steps.specs.declared.lemma.Witness.TheVariants as by
 use Rattle.mono_steps.specs.Witnesses.{names_edges, names_nodes, placed, passes}
+use Rattle.mono_theory.specs.Asked.{asks_walk, first_node, last_node, limit_of}
 use Rattle.mono_theory.specs.Evidences.{only, IsEvidence}
 use Rattle.mono_theory.specs.Walked.{numbers_of, walk_evidence}
 use Rattle.mono_graph.proofs.Pigeons.{all_has}
@@ -67,3 +70,12 @@ walk_is_evidence g P q u v limit ks serves ok known h =
       used = λ i d lt. refl;
       passes = serves (only g ks) (numbers_of g ks) ∙ ap (is_path g (only g ks) u v limit) (placed-numbers g ks ok known) ∙ own_path g P u v limit ks known h;
     }
+
+-- so a walk as a predicate asks for it is evidence for it
+pub walk_shows : (g : Digraph) (P : List Bool) (q : Predicate) (ks : List ℕ) → IsTrue (asks_walk q) → IsGraph g → All (λ k. k < length g.edges) ks → IsTrue (is_path g P (first_node q) (last_node q) (limit_of q) ks) → IsEvidence g P q (walk_evidence g ks)
+walk_shows g P (kind.Reach u v) ks asks = walk_is_evidence g P (kind.Reach u v) u v limit.Free ks (λ Q es. refl)
+walk_shows g P (kind.Steps u v most) ks asks = walk_is_evidence g P (kind.Steps u v most) u v (limit.Steps most) ks (λ Q es. refl)
+walk_shows g P (kind.Distance u v most) ks asks = walk_is_evidence g P (kind.Distance u v most) u v (limit.Weight most) ks (λ Q es. refl)
+walk_shows g P (kind.Flow u v least) ks asks = absurd cc
+walk_shows g P (kind.Tree most) ks asks = absurd cc
+walk_shows g P kind.Acyclic ks asks = absurd cc

@@ -50,13 +50,6 @@ pub record AreOfAtoms {X : Type 0} (Is : Predicate → X → Type 0) (atoms : Li
   pub len : length xs ≡ n
   pub each : (a : ℕ) (d : X) → a < n → Is (atom_at atoms a).predicate (slice_index_or xs a d)
 
--- the node is the one at which the predicate's walk begins, or to which it is to lead
-abbrev pub HasFirst : Predicate → ℕ → Type 0
-HasFirst q u = u ≡ first_node q
-
-abbrev pub HasLast : Predicate → ℕ → Type 0
-HasLast q v = v ≡ last_node q
-
 -- the predicate asks for a walk, and it is to lead there
 pub record HasTarget (q : Predicate) (t : WalkTarget) : Type 0 where
   pub asks : IsTrue (asks_walk q)

@@ -10,8 +10,8 @@ use Rattle.mono_problem.specs.Read.{atom_numbered, no_atom}
 use Rattle.mono_problem.specs.WellFormed.{IsOver}
 use Rattle.mono_theory.specs.Theories.{concerns_of, atom_of}
 use Rattle.mono_theory.specs.Variables.{AreVarsOf}
-use Rattle.mono_theory.specs.Bound.{edge_vars}
-use Rattle.mono_theory.specs.SeenBounds.{SeenBound, IsSeenBound}
+use Rattle.mono_bounds.specs.Bound.{edge_vars}
+use Rattle.mono_bounds.specs.SeenBounds.{SeenBound, IsSeenBound}
 
 -- a variable's number is within the limits
 abbrev pub IsVar : ℕ → Type 0

@@ -1,10 +1,6 @@
 pub mod Theories
 pub mod AtomPlaces
-pub mod Entries
 pub mod Variables
-pub mod Index
-pub mod Bound
-pub mod SeenBounds
 pub mod Evidences
 pub mod Frames
 pub mod Walked
@@ -22,6 +18,5 @@ pub mod RowSides
 pub mod EitherSides
 pub mod SureParts
 pub mod SureRows
-pub mod DueNodes
 pub mod Asked
 pub mod PossibleRows

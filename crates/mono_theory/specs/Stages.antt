@@ -12,30 +12,30 @@ stage_at stages a = slice_index_or stages a stage.Waits
 -- an atom that was shown by one of the literals after the first `kept` waits again
 abbrev pub undone : ℕ → Stage → Stage
 undone kept stage.Waits = stage.Waits
-undone kept stage.Supported = stage.Supported
-undone kept (stage.Forcing m) = if nat_lt kept m then stage.Waits else stage.Forcing m
+undone kept stage.Stands = stage.Stands
+undone kept (stage.Shows m) = if nat_lt kept m then stage.Waits else stage.Shows m
 
 -- an atom that stands waits again
 abbrev pub waiting : Stage → Stage
 waiting stage.Waits = stage.Waits
-waiting stage.Supported = stage.Waits
-waiting (stage.Forcing m) = stage.Forcing m
+waiting stage.Stands = stage.Waits
+waiting (stage.Shows m) = stage.Shows m
 
 -- if it is shown, then by no more than the first m literals
 abbrev pub IsUpTo : ℕ → Stage → Type 0
 IsUpTo m stage.Waits = Unit {0}
-IsUpTo m stage.Supported = Unit {0}
-IsUpTo m (stage.Forcing n) = n ≤ m
+IsUpTo m stage.Stands = Unit {0}
+IsUpTo m (stage.Shows n) = n ≤ m
 
 abbrev pub shows : Stage → Bool
 shows stage.Waits = false
-shows stage.Supported = false
-shows (stage.Forcing m) = true
+shows stage.Stands = false
+shows (stage.Shows m) = true
 
 abbrev pub waits : Stage → Bool
 waits stage.Waits = true
-waits stage.Supported = false
-waits (stage.Forcing m) = false
+waits stage.Stands = false
+waits (stage.Shows m) = false
 
 -- how many atoms wait
 abbrev pub waiting_count : List Stage → ℕ
@@ -55,7 +55,7 @@ pub record AreRuns (items : List ℕ) (stages : List Stage) (shown border : ℕ)
   pub within : border ≤ length items
   pub show : (k : ℕ) → k < shown → shows (stage_by items stages k) ≡ true
   pub wait : (k : ℕ) → shown ≤ k → k < border → stage_by items stages k ≡ stage.Waits
-  pub stand : (k : ℕ) → border ≤ k → k < length items → stage_by items stages k ≡ stage.Supported
+  pub stand : (k : ℕ) → border ≤ k → k < length items → stage_by items stages k ≡ stage.Stands
   pub later : (j k m : ℕ) → j ≤ k → k < shown → IsUpTo m (stage_by items stages k) → IsUpTo m (stage_by items stages j)
 
 -- what the fields of a table of stages keep

@@ -55,8 +55,8 @@ pub record IsShown (f : Facts) (possible thorough : Bool) (shown : Option Eviden
 -- what the stage of an atom says
 abbrev pub StageIs : Facts → Bool → SideView → ℕ → Stage → Type 0
 StageIs f possible s a stage.Waits = Unit {0}
-StageIs f possible s a stage.Supported = IsRightIn (part_of f.graph f.seen possible) possible (evidence_at s.supports a)
-StageIs f possible s a (stage.Forcing m) = IsShown f possible s.thorough (evidence_at s.shown a) (atom_at f.atoms a) m
+StageIs f possible s a stage.Stands = IsRightIn (part_of f.graph f.seen possible) possible (evidence_at s.supports a)
+StageIs f possible s a (stage.Shows m) = IsShown f possible s.thorough (evidence_at s.shown a) (atom_at f.atoms a) m
 
 -- The side is this one. Supports and what is shown are sound evidence, the edges of supports are watched, and it is as the
 -- stages say.
@@ -79,7 +79,7 @@ pub record RestsOnVar (g : Digraph) (o : Option Evidence) (v : ℕ) : Type 0 whe
 
 -- the atom stood on an edge that the literal changes on this side, and waits now
 pub record HasLostSupport (g : Digraph) (possible : Bool) (l : ℤ) (s r : SideView) (a : ℕ) : Type 0 where
-  pub stood : stage_at s.stages a ≡ stage.Supported
+  pub stood : stage_at s.stages a ≡ stage.Stands
   pub waits : stage_at r.stages a ≡ stage.Waits
   pub changes : int_lt (pos 0) l ≡ not possible
   pub rests : RestsOnVar g (evidence_at s.supports a) (var_of l)
@@ -158,7 +158,7 @@ pub record IsSideOf (f : Facts) (possible : Bool) (is_right : Facts → Type 0) 
 
 -- The atoms are of the kind, which serves graphs with so many nodes. What is kept of them with the surely present edges is
 -- right, and so is what is kept with the possibly present ones.
-pub record IsKept (covers : Predicate → Bool) (nodes : ℕ) (f : Facts) (low : Facts → Type 0) (low_sign : Bool)
+pub record IsRightTheory (covers : Predicate → Bool) (nodes : ℕ) (f : Facts) (low : Facts → Type 0) (low_sign : Bool)
     (high : Facts → Type 0) (high_sign : Bool) : Type 0 where
   pub covered : AreCovered covers f.atoms
   pub size : nodes ≡ f.graph.nodes

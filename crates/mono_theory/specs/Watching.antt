@@ -49,7 +49,7 @@ RestsAt o i k = MatchOption o ⊥ (λ e. IsEdgeAt e.edges i k)
 
 -- the atom stood, and waits now; its support rests on one of the edges
 pub record IsInvalidated (supports : List (Option Evidence)) (ks : List ℕ) (before after : List Stage) (a : ℕ) : Type 0 where
-  pub stood : stage_at before a ≡ stage.Supported
+  pub stood : stage_at before a ≡ stage.Stands
   pub waits : stage_at after a ≡ stage.Waits
   pub edge : ℕ
   pub among : IsTrue (has ks edge)
@@ -62,4 +62,4 @@ pub record AreInvalidated (supports : List (Option Evidence)) (ks : List ℕ) (b
 
 -- no atom stands on the edge at the place by which it watches it
 pub record NoneStandsOn (supports : List (Option Evidence)) (stages : List Stage) (ws : List Watch) (k : ℕ) : Type 0 where
-  pub each : (w : Watch) → Contains ws w → RestsAt (evidence_at supports w.atom) w.place k → stage_at stages w.atom ≢ stage.Supported
+  pub each : (w : Watch) → Contains ws w → RestsAt (evidence_at supports w.atom) w.place k → stage_at stages w.atom ≢ stage.Stands

@@ -10,7 +10,7 @@ use Rattle.mono_steps.specs.declared.lemma.Witness.TheVariants as by
 use Rattle.mono_steps.specs.WorkedLemmas.{minus, of_1}
 use Rattle.mono_theory.specs.declared.stage.Stage.{Stage}
 use Rattle.mono_theory.specs.declared.threat.Threat.{Threat}
-use Rattle.mono_theory.specs.Bound.{Bound}
+use Rattle.mono_bounds.specs.Bound.{Bound}
 use Rattle.mono_theory.specs.PossibleRows.{PossibleView}
 use Rattle.mono_theory.specs.Supports.{SideView}
 use Rattle.mono_theory.specs.Theories.{Facts}

@@ -8,7 +8,7 @@ ghost use Rattle.mono_graph.specs.Walks.{IsBounded};
 ghost use Rattle.mono_dynamic.specs.LeastRows.{cost_slot, IsCostSource};
 ghost use Rattle.mono_dynamic.specs.Sources.{AreApart};
 ghost use Rattle.mono_theory.specs.Supports.{AreCovered};
-ghost use Rattle.mono_theory.specs.Asked.{predicate_of, AreOfAtoms, HasLast, HasTarget, HaveRows, IsSourceFor};
+ghost use Rattle.mono_theory.specs.Asked.{predicate_of, AreOfAtoms, HasTarget, HaveRows, IsSourceFor};
 
 use crate::{Frame, Kind};
 use mono_dynamic::{CostSource, Sources, WalkTarget};
@@ -66,7 +66,10 @@ fn asked_by<K: AsksWalk>(alloc: Global, frame: &Frame) -> Result<Vec<CostSource>
 }
 
 /// Where the walks of the atoms of a frame are to lead, by place of the atom.
-pub fn targets_of<K: AsksWalk>(alloc: Global, frame: &Frame) -> Result<Vec<WalkTarget>, AllocError>
+pub(crate) fn targets_of<K: AsksWalk>(
+    alloc: Global,
+    frame: &Frame,
+) -> Result<Vec<WalkTarget>, AllocError>
     requires { AreCovered K.covers frame.now.atoms }
     ensures targets { IfOk result (λ v. AreOfAtoms HasTarget frame.now.atoms (length frame.now.atoms) v.items) }
     ensures known { IfOk result (λ v. All (λ t. t.node < frame.now.graph.nodes) v.items) }
@@ -83,32 +86,16 @@ pub fn targets_of<K: AsksWalk>(alloc: Global, frame: &Frame) -> Result<Vec<WalkT
     Ok(targets)
 }
 
-/// The nodes to which the walks of the atoms of a frame are to lead, by place of the atom.
-pub fn last_nodes<K: AsksWalk>(alloc: Global, frame: &Frame) -> Result<Vec<u32>, AllocError>
-    requires { AreCovered K.covers frame.now.atoms }
-    ensures { IfOk result (λ v. AreOfAtoms HasLast frame.now.atoms (length frame.now.atoms) v.items) }
-{
-    let mut nodes = Vec::new(alloc);
-    for place in 0..frame.atom_count() {
-        let atom = frame.atom_at(place);
-        nodes.push(K::asked(atom.predicate).to)?;
-    }
-    Ok(nodes)
-}
-
 /// From where the walks of the atoms of a frame are searched, each node and measure once, and for each atom which of them is its
 /// own. Each goes up to beyond the greatest bound of its atoms.
-pub fn sources_of<K: AsksWalk>(
-    alloc: Global,
-    frame: &Frame,
-) -> Result<Sources<CostSource>, AllocError>
+pub(crate) fn sources_of<K: AsksWalk>(alloc: Global, frame: &Frame) -> Result<Sources, AllocError>
     requires { AreCovered K.covers frame.now.atoms }
     ensures known { IfOk result (λ s. All (IsCostSource frame.now.graph.nodes) s.rows.items) }
     ensures few { IfOk result (λ s. length s.rows.items ≤ length frame.now.atoms) }
     ensures apart { IfOk result (λ s. AreApart cost_slot s.rows.items) }
     ensures rows { IfOk result (λ s. HaveRows frame.now.atoms (length frame.now.atoms) s.row_of.items s.rows.items) }
 {
-    let _ = frame.atom_count();
+    frame.known();
     let asked = asked_by::<K>(alloc, frame)?;
     let sources = Sources::of(alloc, frame.graph().nodes(), asked.as_slice())?;
     Ok(sources)

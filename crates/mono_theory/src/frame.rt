@@ -11,23 +11,21 @@ ghost use Rattle.mono_base.specs.Partial.{is_true_in, is_false_in, is_open_in, i
 ghost use Rattle.mono_graph.specs.Digraph.{IsGraph, has};
 ghost use Rattle.mono_problem.specs.Quiet.{under as under_of, over as over_of};
 ghost use Rattle.mono_problem.specs.Read.{no_atom};
-ghost use Rattle.mono_theory.specs.Bound.{edge_vars};
-ghost use Rattle.mono_theory.specs.Index.{ArePlacesOf};
-ghost use Rattle.mono_theory.specs.SeenBounds.{IsSeenBound};
+ghost use Rattle.mono_bounds.specs.Bound.{edge_vars};
+ghost use Rattle.mono_bounds.specs.Index.{ArePlacesOf};
+ghost use Rattle.mono_bounds.specs.SeenBounds.{IsSeenBound};
 ghost use Rattle.mono_steps.specs.Switching.{literal_of};
 ghost use Rattle.mono_theory.specs.Frames.{AreAtomsOf, IsFrame, atom_vars, atom_numbers};
 ghost use Rattle.mono_theory.specs.Variables.{AreVarsOf};
 ghost use Rattle.mono_theory.specs.Supports.{IsSettled, part_of};
 ghost use Rattle.mono_theory.specs.Evidences.{shown_by as shown_by_of};
 
-use crate::bounds::vars_of as edge_vars_of;
 use crate::evidence::shown_by;
-use crate::index::Index;
 use crate::past::evidence_by;
-use crate::seen_bounds::SeenBounds;
 use crate::{Evidence, Kind, Question};
 use mono_base::Lit;
 use mono_base::limits::MAX_ATOMS;
+use mono_bounds::{Index, SeenBounds, vars_of as edge_vars_of};
 use mono_graph::{Graph, Part};
 use mono_problem::Atom;
 use std::alloc::{AllocError, Global};
@@ -138,7 +136,7 @@ fn tables_of(alloc: Global, graph: &Graph, atoms: &[Atom]) -> Result<Tables, All
     ensures unseen { IfOk result (λ t. t.lits.items ≡ []) }
     ensures frame { IfOk result (λ t. IsFrame graph.now atoms.now [] t.edges t.own t.numbers.keys t.vars.items (vec_capacity t.lits)) }
 {
-    let _ = graph.nodes();
+    graph.known();
     let count = graph.edge_count() as usize;
     let cells = count + atoms.len();
     let lits = Vec::with_capacity(alloc, cells)?;
@@ -178,7 +176,7 @@ impl Frame {
         requires few { length atoms.items ≤ MAX_ATOMS }
         ensures { IfOk result (λ s. s ≡ record { graph = graph; atoms = atoms.items; seen = [] }) }
     {
-        let _ = graph.nodes();
+        graph.known();
         let tables = tables_of(alloc, &graph, atoms.as_slice())?;
         Ok(Frame {
             graph,
@@ -203,6 +201,17 @@ impl Frame {
         ensures { AreVarsOf self.now.graph self.now.atoms result.now }
     {
         self.vars.as_slice()
+    }
+
+    /// What holds of every frame. Nothing is computed: it is there for the clauses.
+    pub fn known(&self)
+        ensures graph { IsGraph self.now.graph }
+        ensures atoms { AreAtomsOf self.now.graph self.now.atoms }
+        ensures few_atoms { length self.now.atoms < 2 ^ 32 }
+        ensures partial { IsTrue (is_partial self.now.seen) }
+        ensures few { length self.now.seen < 2 ^ 31 }
+    {
+        let _ = &self.graph;
     }
 
     /// How many literals were seen.
@@ -348,7 +357,7 @@ impl Frame {
         ensures part { result.now ≡ part_of self.now.graph self.now.seen possible }
         ensures size { length result.now ≡ length self.now.graph.edges }
     {
-        let _ = self.graph();
+        self.known();
         if possible { self.over() } else { self.under() }
     }
 

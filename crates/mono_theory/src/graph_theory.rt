@@ -107,13 +107,13 @@ pub struct GraphTheory<K: Kind, S: Side<K> = KeptSide, P: Side<K> = KeptSide> {
 }
 
 impl<K: Kind, S: Side<K>, P: Side<K>> Model for GraphTheory<K, S, P> {
-    ghost use Rattle.mono_theory.specs.Supports.{GraphTheoryView, IsKept};
+    ghost use Rattle.mono_theory.specs.Supports.{GraphTheoryView, IsRightTheory};
 
     ghost Value = { GraphTheoryView S P };
 
     ghost view = { λ s. record { graph = s.frame.graph; atoms = s.frame.atoms; seen = s.frame.seen; surely = s.surely; possibly = s.possibly } };
 
-    ghost invariant = { λ s. IsKept K.covers (K.nodes s.kind) s.frame (S.is_right s.surely) (S.possible s.surely) (P.is_right s.possibly)
+    ghost invariant = { λ s. IsRightTheory K.covers (K.nodes s.kind) s.frame (S.is_right s.surely) (S.possible s.surely) (P.is_right s.possibly)
         (P.possible s.possibly) };
 }
 
@@ -141,7 +141,7 @@ fn frame_of<K: Kind>(
     requires atoms { AreNumbersOf K.covers problem.now graph numbers.now }
     ensures { IfOk result (λ f. f ≡ record { graph = graph_at problem.now graph; atoms = map (atom_numbered problem.now) numbers.now; seen = [] }) }
 {
-    let _ = problem.vars();
+    problem.known();
     let held = atoms_of(alloc, problem, numbers)?;
     let own = problem.graph(graph).copy()?;
     Frame::new(alloc, own, held)

@@ -17,7 +17,7 @@ fn invalidate_one(supports: &KeptEvidence, stages: &mut Stages, watch: Watch, ed
     requires count { length stages.old ≡ length supports.now }
     requires known { watch.atom < length supports.now }
     ensures fewer { (ks : List ℕ) → IsTrue (has ks edge) → AreInvalidated supports.now ks stages.old stages.new }
-    ensures gone { RestsAt (evidence_at supports.now watch.atom) watch.place edge → stage_at stages.new watch.atom ≢ stage.Supported }
+    ensures gone { RestsAt (evidence_at supports.now watch.atom) watch.place edge → stage_at stages.new watch.atom ≢ stage.Stands }
 {
     if !stages.is_standing(watch.atom) {
         return;

@@ -4,7 +4,7 @@ ghost use Rattle.std.specs.Prelude.{◌≡◌, ◌↔◌, ◌<◌, ℕ, Bool, Li
 ghost use Rattle.mono_graph.specs.Digraph.{Digraph, has};
 ghost use Rattle.mono_problem.specs.declared.atom.Atom.{Atom};
 ghost use Rattle.mono_theory.specs.Sound.{AllHave, AreSound, EdgesBelow, IsRightIn, RestsOn, evidence_at};
-ghost use Rattle.mono_theory.specs.Watching.{IsEdgeAt, RestsAt};
+ghost use Rattle.mono_theory.specs.Watching.{AreWatched, IsEdgeAt, RestsAt, WatchesIts};
 
 use crate::Evidence;
 use crate::watch::Watch;
@@ -52,11 +52,21 @@ fn is_right_in(part: &Part, evidence: &Option<Evidence>, value: bool) -> bool
 }
 
 /// Whether the edge is at this place among these.
-fn is_at(edges: &[u32], place: usize, edge: u32) -> bool
+pub(crate) fn is_at(edges: &[u32], place: usize, edge: u32) -> bool
     ensures at { IsTrue result ↔ IsEdgeAt edges.now place edge }
     ensures has { IsTrue result → IsTrue (has edges.now edge) }
 {
     place < edges.len() && edges[place] == edge
+}
+
+/// The edges on which evidence rests: none where there is none.
+pub(crate) fn edges_of(evidence: &Option<Evidence>) -> &[u32]
+    ensures { (watchers : List (List Watch)) (atom : ℕ) → WatchesIts watchers atom evidence.now → AreWatched watchers atom result.now }
+{
+    match evidence {
+        None => &[],
+        Some(known) => known.edges.as_slice(),
+    }
 }
 
 /// Whether there is evidence, and the edge is at this place among those on which it rests.

@@ -12,11 +12,11 @@ ghost use Rattle.mono_theory.specs.Sound.{IsRightIn, IsSound, evidence_at};
 ghost use Rattle.mono_theory.specs.Stages.{NoneWaits};
 ghost use Rattle.mono_theory.specs.Supports.{IsAlike, IsFewer, IsKeptBy, IsNext, IsSide, IsSettled, SideView, atom_at, gone_back, part_of, with_watchers};
 ghost use Rattle.mono_theory.specs.Theories.{Facts, but_last, cut_to, last_seen};
-ghost use Rattle.mono_theory.specs.Watching.{AreWatched};
+ghost use Rattle.mono_theory.specs.Watching.{AreWatched, WatchesIts};
 
 use crate::frame::Frame;
 use crate::invalidation::invalidate;
-use crate::kept_evidence::KeptEvidence;
+use crate::kept_evidence::{KeptEvidence, edges_of};
 use crate::looking::force_by;
 use crate::stages::Stages;
 use crate::wanting::{any_wants, first_open};
@@ -97,7 +97,7 @@ impl KeptSide {
         ensures side { IsSide frame.now self.new.possible self.new }
         ensures kept { IsKeptBy frame.now.graph self.old.possible (last_seen frame.now) self.old self.new }
     {
-        let _ = frame.graph();
+        frame.known();
         let seen = frame.seen();
         let lit = frame.literal_at(seen - 1);
         // The variable of a literal isn't 0.
@@ -120,7 +120,7 @@ impl KeptSide {
     fn is_wanted(&self, frame: &Frame, var: u32) -> bool
         requires side { IsSide frame.now self.now.possible self.now }
     {
-        let _ = frame.graph();
+        frame.known();
         let edges = frame.edges_of(var);
         any_wants(frame, &self.supports, &self.watchers, edges)
     }
@@ -204,7 +204,7 @@ impl KeptSide {
         requires atom { atom < length frame.now.atoms }
         ensures { IfSome result (λ e. IsSound frame.now.graph (atom_at frame.now.atoms atom).predicate self.now.possible e.now) }
     {
-        let _ = frame.seen();
+        frame.known();
         self.supports.at(atom).as_ref()
     }
 
@@ -240,20 +240,23 @@ impl KeptSide {
     {
         if self.watchers.is_full() {
             let edges = frame.graph().edge_count();
-            let _ = frame.atom_count();
+            frame.known();
             self.watchers = Watchers::of_supports(alloc, edges, &self.supports)?;
         }
         Ok(())
     }
 
-    /// The atom watches these edges.
+    /// The atom watches these edges, as it does those of its support.
     fn watch(&mut self, atom: u32, edges: &[u32]) -> Result<(), AllocError>
+        requires atom { atom < length self.old.stages }
+        requires its { WatchesIts self.old.watchers atom (evidence_at self.old.supports atom) }
         requires edges { All (λ k. k < length self.old.watchers) edges.now }
         ensures side { (f : Facts) → atom < length f.atoms → IsSide f self.old.possible self.old → IsSide f self.new.possible self.new }
         ensures same { self.new ≡ with_watchers self.old self.new.watchers }
         ensures watched { IfOk result (λ _. AreWatched self.new.watchers atom edges.now) }
     {
-        self.watchers.watch(atom, edges)
+        let known = edges_of(self.supports.at(atom));
+        self.watchers.watch(atom, known, edges)
     }
 
     /// This is the support of an atom that waits and watches its edges.
@@ -320,14 +323,14 @@ impl KeptSide {
     /// present: `None` exactly where the atom doesn't stand.
     pub fn support_witness(&self, atom: u32) -> Option<&Witness>
         requires { atom < length self.now.stages }
-        ensures none { (f : Facts) → (possible : Bool) → IsSide f possible self.now → IfNone result (stage_at self.now.stages atom ≢ stage.Supported) }
-        ensures stands { IsSome result → stage_at self.now.stages atom ≡ stage.Supported }
+        ensures none { (f : Facts) → (possible : Bool) → IsSide f possible self.now → IfNone result (stage_at self.now.stages atom ≢ stage.Stands) }
+        ensures stands { IsSome result → stage_at self.now.stages atom ≡ stage.Stands }
         ensures its { IfSome result (λ w. MatchOption (evidence_at self.now.supports atom) ⊥ (λ e. w.now ≡ e.witness)) }
         ensures right { IfSome result (λ w. (f : Facts) → (possible : Bool) → IsSide f possible self.now
             → IsWitnessIn f.graph (part_of f.graph f.seen possible) (atom_at f.atoms atom).predicate possible w.now) }
     {
         match self.stage(atom) {
-            Stage::Supported => witness_of(self.supports.at(atom)),
+            Stage::Stands => witness_of(self.supports.at(atom)),
             _ => None,
         }
     }
@@ -347,7 +350,7 @@ impl KeptSide {
             return None;
         }
         match self.stage(atom) {
-            Stage::Forcing(_) => witness_of(self.shown_at(atom)),
+            Stage::Shows(_) => witness_of(self.shown_at(atom)),
             _ => None,
         }
     }
@@ -383,7 +386,7 @@ impl<K: Kind> Side<K> for KeptSide {
     }
 
     fn undo_to(&mut self, frame: &Frame, kept: usize) {
-        let _ = frame.seen();
+        frame.known();
         KeptSide::undo_to(self, kept);
     }
 
@@ -398,7 +401,7 @@ impl<K: Kind> Side<K> for KeptSide {
         frame: &mut Frame,
         question: Question,
     ) -> Result<Evidence, AllocError> {
-        let _ = frame.seen();
+        frame.known();
         let known = self.shown_at(question.place).as_ref();
         frame.evidence_at::<K>(alloc, kind, known, question)
     }

@@ -1,7 +1,9 @@
 //! What a kind of predicate supplies. All else is the same for every kind.
 
-ghost use Rattle.std.specs.Prelude.{◌≡◌, ◌<◌, All, IfOk, IfSome, IsTrue, length};
+ghost use Rattle.std.specs.Prelude.{◌≡◌, IfOk, IfSome, IsTrue};
+ghost use Rattle.mono_steps.specs.Witnesses.{rests_on_present};
 ghost use Rattle.mono_theory.specs.Evidences.{IsEvidence};
+ghost use Rattle.mono_theory.specs.Sound.{IsSound};
 
 use crate::Evidence;
 use mono_graph::{Graph, Part};
@@ -57,8 +59,8 @@ pub trait Kind: Drop {
         ensures evidence { IfOk result (IsEvidence graph.now part.now predicate) };
 
     /// What shows that the predicate holds in the part, or that it fails there, found near to the evidence that was kept of it and
-    /// that is right no more: edges on which that rests came or went. Where none was kept, what a short search finds. `None` where
-    /// nothing was found: then `evidence` tells.
+    /// that is right no more: edges on which that rests came or went. It passes still wherever these are as it needs them. Where
+    /// none was kept, what a short search finds. `None` where nothing was found: then `evidence` tells.
     fn mend(
         &mut self,
         alloc: Global,
@@ -71,11 +73,12 @@ pub trait Kind: Drop {
         requires kind { IsTrue (covers predicate) }
         requires over { IsOver graph.now predicate }
         requires part { IsPartOf part.now graph.now }
-        requires kept { IfSome kept (λ e. All (λ k. k < length graph.now.edges) e.now.edges) }
+        requires kept { IfSome kept (λ e. IsSound graph.now predicate (rests_on_present e.now.witness) e.now) }
         ensures size { nodes self.new ≡ nodes self.old }
         ensures evidence { IfOk result (λ found. IfSome found (IsEvidence graph.now part.now predicate)) }
     {
-        let _ = (alloc, graph.nodes(), predicate);
+        graph.known();
+        let _ = (alloc, predicate);
         Ok(None)
     }
 }

@@ -3,18 +3,12 @@
 
 /// What predicates ask for that ask for a walk.
 mod asked;
-/// The edges that are surely and possibly present.
-mod bounds;
-/// Places in the order of their keys.
-mod entries;
 /// What shows that a predicate holds or fails, as a lemma.
 mod evidence;
 /// A graph, atoms over it, and the literals that were seen.
 mod frame;
 /// Theories of one kind of predicate.
 mod graph_theory;
-/// Places by key.
-mod index;
 /// The atoms that lose their support by a literal.
 mod invalidation;
 /// The evidence that is kept of atoms.
@@ -41,12 +35,10 @@ mod question;
 mod rows;
 /// Rows and the literals that they are of.
 mod rows_side;
-/// The bounds of a list of literals.
-mod seen_bounds;
+/// Rows that show walks.
+mod shows_walks;
 /// What is kept of atoms on one side.
 mod side;
-/// Where the places of a key stand.
-mod span;
 /// What is known of an atom on one side.
 mod stage;
 /// The stages of the atoms, and which to look at next.
@@ -70,8 +62,7 @@ pub mod worked;
 /// Rows of definitions that were worked by hand.
 pub mod worked_definitions;
 
-pub use asked::{Asked, AsksWalk, last_nodes, sources_of, targets_of};
-pub use bounds::Bounds;
+pub use asked::{Asked, AsksWalk};
 pub use either_side::EitherSide;
 pub use evidence::{Evidence, literal, shown_by};
 pub use frame::Frame;
@@ -83,6 +74,7 @@ pub use possible_rows::PossibleRows;
 pub use question::Question;
 pub use rows::Rows;
 pub use rows_side::RowsSide;
+pub use shows_walks::ShowsWalks;
 pub use side::{NewSide, Side};
 pub use stage::Stage;
 pub use sure_rows::SureRows;

@@ -29,7 +29,7 @@ fn answer_shown(frame: &Frame, side: &mut KeptSide, place: u32) -> Force
         side.show(frame, place);
         return Force::Quiet;
     }
-    let _ = frame.graph();
+    frame.known();
     let atom = frame.atom_at(place as usize);
     Force::Literal {
         atom: atom.number,
@@ -139,7 +139,7 @@ pub(crate) fn force_by<K: Kind>(
     ensures answer { IfOk result (SideIs frame.now side.old.possible) }
     ensures none_waits { IfOk result (λ answer. answer ≡ Force.Quiet → NoneWaits side.new.stages) }
 {
-    let _ = frame.graph();
+    frame.known();
     'waiting: while let Some(place) = side.next() {
         match examine::<K>(alloc, kind, frame, side, place)? {
             Force::Quiet => {}

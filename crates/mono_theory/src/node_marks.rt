@@ -54,7 +54,7 @@ fn push_joining(
         → IfOk result (λ _. edges.new.items ≡ edges.old.items ++ absent_joining graph.now part.now nodes places.now) }
 {
     // The edges of a graph lead between its nodes.
-    let _ = graph.nodes();
+    graph.known();
     for place in places {
         if !part.has(*place) && joins(marks, graph.edge(*place)) {
             edges.push(*place)?;

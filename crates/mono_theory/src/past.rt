@@ -5,16 +5,16 @@ ghost use Rattle.std.specs.Prelude.{◌≡◌, ◌≤◌, length, take, pos, int
 ghost use Rattle.mono_base.specs.Partial.{is_partial};
 ghost use Rattle.mono_graph.specs.Digraph.{IsPartOf};
 ghost use Rattle.mono_problem.specs.WellFormed.{IsOver};
-ghost use Rattle.mono_theory.specs.Bound.{edge_vars};
+ghost use Rattle.mono_bounds.specs.Bound.{edge_vars};
 ghost use Rattle.mono_theory.specs.Evidences.{IsEvidence, side, shown_by as shown_by_of};
-ghost use Rattle.mono_theory.specs.SeenBounds.{IsSeenBound};
+ghost use Rattle.mono_bounds.specs.SeenBounds.{IsSeenBound};
 ghost use Rattle.mono_theory.specs.Sound.{IsSound};
 
 use crate::evidence::shown_by;
 use crate::kept_evidence::have;
-use crate::seen_bounds::SeenBounds;
 use crate::{Evidence, Kind, Question};
 use mono_base::Lit;
+use mono_bounds::SeenBounds;
 use mono_graph::{Graph, Part};
 use mono_problem::Predicate;
 use std::alloc::{AllocError, Global};

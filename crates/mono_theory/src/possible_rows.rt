@@ -14,9 +14,9 @@ ghost use Rattle.mono_theory.specs.DueAtoms.{PutsDue};
 ghost use Rattle.mono_theory.specs.PossibleRows.{is_cut_off as is_cut_off_by, lacks_by, target_at, AreAsked, AreEach, AreSettledRows, IsFilledRow, IsRenewedRow};
 
 use crate::asked::{AsksWalk, sources_of, targets_of};
-use crate::index::Index;
 use crate::{Evidence, Frame, Rows};
 use mono_base::{Lit, Worklist};
+use mono_bounds::Index;
 use mono_dynamic::{Sources, TargetsBySource, WalkTarget};
 use mono_graph::{Graph, Part};
 use std::alloc::{AllocError, Global};
@@ -173,7 +173,7 @@ impl<K: AsksWalk> Rows<K> for PossibleRows {
 
     fn of_frame(alloc: Global, frame: &Frame) -> Result<Self, AllocError> {
         let graph = frame.graph();
-        let _ = frame.atom_count();
+        frame.known();
         let sources = sources_of::<K>(alloc, frame)?;
         let targets = targets_of::<K>(alloc, frame)?;
         let Sources { rows, row_of } = sources;
@@ -196,7 +196,7 @@ impl<K: AsksWalk> Rows<K> for PossibleRows {
         lit: Lit,
         due: &mut Worklist,
     ) -> Result<(), AllocError> {
-        let _ = frame.seen();
+        frame.known();
         let _ = &*due;
         // The variable of a literal isn't 0.
         let _ = lit.var();
@@ -216,7 +216,7 @@ impl<K: AsksWalk> Rows<K> for PossibleRows {
         looked: usize,
         due: &mut Worklist,
     ) -> Result<(), AllocError> {
-        let _ = frame.seen();
+        frame.known();
         settle_rows(
             &mut self.rows,
             &self.atoms,
@@ -230,12 +230,14 @@ impl<K: AsksWalk> Rows<K> for PossibleRows {
     }
 
     fn undo_to(&mut self, frame: &Frame, looked: usize, kept: usize) {
-        let _ = (frame.seen(), looked);
+        frame.known();
+        let _ = looked;
         self.rows.undo_to(kept as u32);
     }
 
     fn prefers(&self, frame: &Frame, looked: usize, var: u32) -> bool {
-        let _ = (frame.seen(), looked);
+        frame.known();
+        let _ = looked;
         self.rows.rest_on_any(frame.graph(), frame.edges_of(var))
     }
 
@@ -252,7 +254,8 @@ impl<K: AsksWalk> Rows<K> for PossibleRows {
         place: usize,
         kept: usize,
     ) -> Result<Option<Evidence>, AllocError> {
-        let _ = (alloc, frame.seen(), looked, place, kept);
+        frame.known();
+        let _ = (alloc, looked, place, kept);
         Ok(None)
     }
 }

@@ -126,7 +126,8 @@ pub trait Rows<K: Kind>: Drop {
             (IsEvidence frame.now.graph (part_of frame.now.graph (take kept frame.now.seen) IS_POSSIBLE)
             (atom_at frame.now.atoms place).predicate)) }
     {
-        let _ = (alloc, frame.seen(), looked, place, kept);
+        frame.known();
+        let _ = (alloc, looked, place, kept);
         Ok(None)
     }
 
@@ -145,7 +146,8 @@ pub trait Rows<K: Kind>: Drop {
         ensures shown { (a : ℕ) → shown self.new a ≡ shown self.old a }
         ensures threat { IfOk result (λ found. IfSome found (IsThreat frame.now IS_POSSIBLE)) }
     {
-        let _ = (alloc, frame.seen(), looked);
+        frame.known();
+        let _ = (alloc, looked);
         Ok(None)
     }
 
@@ -154,7 +156,8 @@ pub trait Rows<K: Kind>: Drop {
         requires right { are_right self.now (cut_to looked frame.now) }
         requires looked { looked ≤ length frame.now.seen }
     {
-        let _ = (frame.seen(), looked, var);
+        frame.known();
+        let _ = (looked, var);
         false
     }
 }

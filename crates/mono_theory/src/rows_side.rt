@@ -15,9 +15,9 @@ ghost use Rattle.mono_theory.specs.RowSides.{AreRowsFor, AreSettledBut, DecidesR
 ghost use Rattle.mono_theory.specs.Supports.{AreCovered, IsSettled, SideIs, atom_at, part_of};
 ghost use Rattle.mono_theory.specs.Theories.{cut_to};
 
-use crate::index::set_all;
 use crate::{Evidence, Force, Frame, Kind, Question, Rows, Side, Threat, literal, shown_by};
 use mono_base::Worklist;
+use mono_bounds::set_all;
 use mono_graph::{Graph, Part};
 use std::alloc::{AllocError, Global};
 use std::marker::Model;
@@ -51,7 +51,7 @@ fn follow(frame: &Frame, part: &mut Part, place: usize, possible: bool)
     requires part { part.old ≡ part_of frame.now.graph (take place frame.now.seen) possible }
     ensures { part.new ≡ part_of frame.now.graph (take (place + 1) frame.now.seen) possible }
 {
-    let _ = frame.seen();
+    frame.known();
     let lit = frame.literal_at(place);
     // The variable of a literal isn't 0.
     let _ = lit.var();
@@ -67,7 +67,7 @@ fn follow_back(frame: &Frame, part: &mut Part, place: usize, possible: bool)
     requires part { part.old ≡ part_of frame.now.graph (take (place + 1) frame.now.seen) possible }
     ensures { part.new ≡ part_of frame.now.graph (take place frame.now.seen) possible }
 {
-    let _ = frame.seen();
+    frame.known();
     let lit = frame.literal_at(place);
     // The variable of a literal isn't 0.
     let _ = lit.var();
@@ -99,7 +99,7 @@ fn undo_due_to(frame: &Frame, due: &mut Worklist, looked: usize, kept: usize)
     ensures { (possible : Bool) → (shown : ℕ → Bool) → AreSettledBut (take looked frame.now.seen) possible frame.now.atoms shown due.old.listed
         → AreSettledBut (take kept frame.now.seen) possible frame.now.atoms shown due.new.listed }
 {
-    let _ = frame.seen();
+    frame.known();
     let mut at = looked;
     'back: while at > kept {
         at -= 1;
@@ -117,7 +117,7 @@ fn look_at_next<K: Kind, R: Rows<K>>(
     ensures right { AreRowsFor K.covers R.IS_POSSIBLE R.are_right R.shown frame.now side.new }
     ensures looked { OnOk result (side.new.looked ≡ side.old.looked + 1) }
 {
-    let _ = frame.seen();
+    frame.known();
     let lit = frame.literal_at(side.looked);
     follow(frame, &mut side.part, side.looked, R::IS_POSSIBLE);
     match side
@@ -274,11 +274,11 @@ impl<K: Kind, R: Rows<K>> Side<K> for RowsSide<R> {
     ghost decides = { λ s f. AreUpToDate R.stand f s };
 
     fn assign(&mut self, frame: &Frame) {
-        let _ = frame.seen();
+        frame.known();
     }
 
     fn undo_to(&mut self, frame: &Frame, kept: usize) {
-        let _ = frame.seen();
+        frame.known();
         if self.looked <= kept {
             return;
         }
@@ -301,7 +301,7 @@ impl<K: Kind, R: Rows<K>> Side<K> for RowsSide<R> {
         frame: &mut Frame,
         question: Question,
     ) -> Result<Evidence, AllocError> {
-        let _ = frame.seen();
+        frame.known();
         let place = question.place as usize;
         match self
             .rows

@@ -88,7 +88,8 @@ pub trait Side<K: Kind>: Drop {
         ensures right { is_right self.new frame.now }
         ensures threat { IfOk result (λ found. IfSome found (IsThreat frame.now (possible self.old))) }
     {
-        let _ = (alloc, frame.seen());
+        frame.known();
+        let _ = alloc;
         Ok(None)
     }
 
@@ -96,7 +97,8 @@ pub trait Side<K: Kind>: Drop {
     fn prefers(&self, frame: &Frame, var: u32) -> bool
         requires { is_right self.now frame.now }
     {
-        let _ = (frame.seen(), var);
+        frame.known();
+        let _ = var;
         false
     }
 
@@ -106,7 +108,8 @@ pub trait Side<K: Kind>: Drop {
         requires right { is_right self.now frame.now }
         requires place { place < length frame.now.atoms }
     {
-        let _ = (frame.seen(), place);
+        frame.known();
+        let _ = place;
         None
     }
 }

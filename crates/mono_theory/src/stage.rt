@@ -8,7 +8,7 @@ pub enum Stage {
     /// The atom has to be looked at.
     Waits,
     /// Its predicate is decided as the side would have it: its support is right.
-    Supported,
+    Stands,
     /// Its predicate is decided the other way, and its literal is true, both by so many first literals seen.
-    Forcing(usize),
+    Shows(usize),
 }

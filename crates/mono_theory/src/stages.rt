@@ -56,11 +56,11 @@ fn change(ranking: &mut Ranking, stages: &mut Vec<Stage>, place: usize, target: 
 
 /// Whether an atom of this stage stands.
 fn is_standing(its: Stage) -> bool
-    ensures stands { IsTrue result → its ≡ stage.Supported }
-    ensures other { result ≡ false → its ≢ stage.Supported }
+    ensures stands { IsTrue result → its ≡ stage.Stands }
+    ensures other { result ≡ false → its ≢ stage.Stands }
     ensures same { result ≡ false → waiting its ≡ its }
 {
-    matches!(its, Stage::Supported)
+    matches!(its, Stage::Stands)
 }
 
 /// Whether an atom of this stage shows only by literals after the first `kept`.
@@ -69,7 +69,7 @@ fn is_after(its: Stage, kept: usize) -> bool
     ensures up_to { result ≡ false → IsUpTo kept its }
 {
     match its {
-        Stage::Forcing(count) => count > kept,
+        Stage::Shows(count) => count > kept,
         _ => false,
     }
 }
@@ -135,7 +135,7 @@ impl Stages {
     /// Whether an atom stands.
     pub(crate) fn is_standing(&self, atom: u32) -> bool
         requires { atom < length self.now }
-        ensures { result ≡ false → stage_at self.now atom ≢ stage.Supported }
+        ensures { result ≡ false → stage_at self.now atom ≢ stage.Stands }
     {
         is_standing(self.stage(atom))
     }
@@ -154,7 +154,7 @@ impl Stages {
     pub(crate) fn stand(&mut self, atom: u32)
         requires atom { atom < length self.old }
         requires waits { stage_at self.old atom ≡ stage.Waits }
-        ensures { self.new ≡ slice_set self.old atom stage.Supported }
+        ensures { self.new ≡ slice_set self.old atom stage.Stands }
     {
         let place = self.ranking.place(atom);
         let last = self.border - 1;
@@ -163,7 +163,7 @@ impl Stages {
             &mut self.stages,
             place,
             last,
-            Stage::Supported,
+            Stage::Stands,
         );
         self.border = last;
     }
@@ -173,7 +173,7 @@ impl Stages {
         requires atom { atom < length self.old }
         requires waits { stage_at self.old atom ≡ stage.Waits }
         requires latest { All (IsUpTo count) self.old }
-        ensures { self.new ≡ slice_set self.old atom (stage.Forcing count) }
+        ensures { self.new ≡ slice_set self.old atom (stage.Shows count) }
     {
         let place = self.ranking.place(atom);
         change(
@@ -181,7 +181,7 @@ impl Stages {
             &mut self.stages,
             place,
             self.shown,
-            Stage::Forcing(count),
+            Stage::Shows(count),
         );
         self.shown += 1;
     }

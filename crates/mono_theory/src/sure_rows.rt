@@ -1,43 +1,63 @@
 //! Rows along the surely present edges, by the first nodes of the atoms of a frame.
 //!
-//! Atoms whose walks begin at one node share a row. The rows follow the literals one by one: a positive literal brings edges, by
-//! which each row grows, and going back takes from each row what came with later literals (Ramalingam and Reps 1996). What a
-//! row tells of a node changes only where the row says so, and then the atoms are due whose walks are to lead to that node.
+//! Atoms whose walks begin at one node, and are measured alike, share a row. The rows follow the literals one by one: a positive
+//! literal brings edges, by which each row grows, and going back takes from each row what came with later literals (Ramalingam
+//! and Reps 1996). What a row tells of a node changes only where the row says so, and then the atoms are due whose walks are to
+//! lead to that node. A row shows the walk for which an atom asks exactly where there is one, and keeps it with the number of
+//! literals that it needed. So neither asks for a search.
 
-ghost use Rattle.std.specs.Prelude.{◌≡◌, ◌+◌, ◌<◌, ◌^◌, All, IfOk, OnErr, OnOk, length, map, slice_index_or};
+ghost use Rattle.std.specs.Prelude.{◌≡◌, ◌+◌, ◌<◌, ◌≤◌, ◌^◌, All, IfOk, OnErr, OnOk, length, map, slice_index_or};
 ghost use Rattle.std.specs.List.{AllZip};
-ghost use Rattle.mono_theory.specs.DueNodes.{PutsNodes, PutsRows};
+ghost use Rattle.mono_dynamic.specs.LeastRows.{IsCostSource};
+ghost use Rattle.mono_bounds.specs.DueNodes.{PutsNodes, PutsRows};
+ghost use Rattle.mono_theory.specs.PossibleRows.{target_at};
 ghost use Rattle.mono_theory.specs.SureParts.{sure_parts};
-ghost use Rattle.mono_theory.specs.SureRows.{row_of_atom, HaveLooked};
+ghost use Rattle.mono_theory.specs.SureRows.{nodes_of as nodes_of_targets, row_of_atom, HaveLooked};
 
-use crate::Frame;
-use crate::index::Index;
+use crate::asked::{AsksWalk, sources_of, targets_of};
+use crate::shows_walks::ShowsWalks;
+use crate::walks::walk_evidence;
+use crate::{Evidence, Frame, Rows};
+use mono_base::limits::MAX_NODES;
 use mono_base::{Lit, Worklist};
-use mono_dynamic::{AtNode, BySource, Row};
+use mono_bounds::Index;
+use mono_dynamic::{AtNode, BySource, CostSource, SourceRow, Sources, WalkTarget};
 use mono_graph::Part;
 use std::alloc::{AllocError, Global};
 use std::marker::Model;
 
-/// Rows along the surely present edges, and by place of an atom its row and its last node.
+/// Rows along the surely present edges, and by place of an atom its row and where its walk is to lead.
 #[derive(Drop)]
 pub struct SureRows<R> {
     rows: BySource<R>,
     /// By place of an atom its row.
     row_of: Vec<u32>,
+    /// By place of an atom where its walk is to lead.
+    targets: Vec<WalkTarget>,
     /// The atoms by their last nodes.
     lasts: Index,
 }
 
 impl<R> Model for SureRows<R> {
-    ghost use Rattle.mono_theory.specs.SureRows.{SureRowsView};
+    ghost use Rattle.std.specs.Prelude.{◌≡◌};
+    ghost use Rattle.mono_theory.specs.SureRows.{nodes_of, SureRowsView};
 
     ghost Value = { SureRowsView R };
 
-    ghost view = { λ s. record { rows = s.rows; row_of = s.row_of.items; lasts = s.lasts.keys } };
+    ghost view = { λ s. record { rows = s.rows; row_of = s.row_of.items; targets = s.targets.items } };
+
+    ghost invariant = { λ s. s.lasts.keys ≡ nodes_of s.targets.items };
+}
+
+/// The nodes of the targets.
+fn nodes_of(alloc: Global, targets: &[WalkTarget]) -> Result<Vec<u32>, AllocError>
+    ensures { IfOk result (λ nodes. nodes.items ≡ nodes_of_targets targets.now) }
+{
+    targets.iter().map(|target| target.node).collect(alloc)
 }
 
 /// Puts the atoms in `due` whose last nodes have changed in a row after the first `looked` steps.
-fn put_due<R: Row>(lasts: &Index, row: &R, looked: u32, due: &mut Worklist)
+fn put_due<R: SourceRow>(lasts: &Index, row: &R, looked: u32, due: &mut Worklist)
     requires { length due.old.listed ≡ length lasts.now.keys }
     ensures { PutsNodes lasts.now.keys (map R.Change.node (R.changed_after looked row.now)) due.old.listed due.new.listed }
 {
@@ -47,7 +67,7 @@ fn put_due<R: Row>(lasts: &Index, row: &R, looked: u32, due: &mut Worklist)
 }
 
 /// Puts the atoms in `due` whose last nodes have changed in some row after the first `looked` steps.
-fn put_each_due<R: Row>(lasts: &Index, rows: &BySource<R>, looked: u32, due: &mut Worklist)
+fn put_each_due<R: SourceRow>(lasts: &Index, rows: &BySource<R>, looked: u32, due: &mut Worklist)
     requires { length due.old.listed ≡ length lasts.now.keys }
     ensures { PutsRows lasts.now.keys (λ r. map R.Change.node (R.changed_after looked r)) rows.now (length rows.now)
         due.old.listed due.new.listed }
@@ -57,25 +77,28 @@ fn put_each_due<R: Row>(lasts: &Index, rows: &BySource<R>, looked: u32, due: &mu
     }
 }
 
-impl<R: Row> SureRows<R> {
-    /// A row from each of these sources, where no literal was looked at. The atoms have these rows and last nodes, by place.
-    pub fn new(
+impl<R: SourceRow> SureRows<R> {
+    /// A row from each of these sources, where no literal was looked at. The atoms have these rows and targets, by place.
+    fn new(
         alloc: Global,
         nodes: u32,
-        sources: &[R::Source],
+        sources: &[CostSource],
         row_of: Vec<u32>,
-        lasts: Vec<u32>,
+        targets: Vec<WalkTarget>,
     ) -> Result<Self, AllocError>
-        requires known { All (R.can_begin nodes) sources.now }
-        requires few { length lasts.items < 2 ^ 32 }
+        requires nodes { nodes ≤ MAX_NODES }
+        requires sources { All (IsCostSource nodes) sources.now }
+        requires few { length targets.items < 2 ^ 32 }
         ensures { IfOk result (λ s. s
-            ≡ record { rows = map (R.at_first nodes) sources.now; row_of = row_of.items; lasts = lasts.items }) }
+            ≡ record { rows = map (R.at_first nodes) sources.now; row_of = row_of.items; targets = targets.items }) }
     {
-        let lasts = Index::new(alloc, lasts)?;
+        let ends = nodes_of(alloc, targets.as_slice())?;
+        let lasts = Index::new(alloc, ends)?;
         let rows = BySource::new(alloc, nodes, sources)?;
         Ok(SureRows {
             rows,
             row_of,
+            targets,
             lasts,
         })
     }
@@ -89,9 +112,17 @@ impl<R: Row> SureRows<R> {
         self.rows.row(self.row_of[place] as usize)
     }
 
+    /// Where the walk of the atom at a place is to lead.
+    fn target(&self, place: usize) -> WalkTarget
+        requires { place < length self.now.targets }
+        ensures { result ≡ target_at self.now.targets place }
+    {
+        self.targets[place]
+    }
+
     /// Looks at the next literal, the one at place `looked`, and puts the atoms in `due` whose last nodes change in a row by it.
     /// The part is that of the surely present edges which the literal leaves. Where memory is missing, all is as before.
-    pub fn look_at(
+    fn look_at(
         &mut self,
         frame: &Frame,
         part: &Part,
@@ -103,20 +134,20 @@ impl<R: Row> SureRows<R> {
         requires more { looked < length frame.now.seen }
         requires next { slice_index_or frame.now.seen looked lit ≡ lit }
         requires part { part.now ≡ sure_parts frame.now (looked + 1) }
-        requires size { length due.old.listed ≡ length self.old.lasts }
+        requires size { length due.old.listed ≡ length self.old.targets }
         ensures looked { OnOk result (HaveLooked R.grown (λ n r. map R.Change.node (R.changed_after n r)) frame.now looked
             self.old self.new due.old.listed due.new.listed) }
         ensures unlooked { OnErr result (self.new ≡ self.old) }
         ensures none_due { OnErr result (due.new ≡ due.old) }
     {
-        let _ = frame.seen();
+        frame.known();
         // The variable of a literal isn't 0.
         let _ = lit.var();
         if !lit.is_positive() {
             return Ok(());
         }
         let graph = frame.graph();
-        let _ = graph.nodes();
+        graph.known();
         self.rows
             .grow(graph, part, frame.edges_at(looked), looked as u32)?;
         put_each_due::<R>(&self.lasts, &self.rows, looked as u32, due);
@@ -124,10 +155,100 @@ impl<R: Row> SureRows<R> {
     }
 
     /// Goes back to the first `kept` literals. It takes no memory.
-    pub fn undo_to(&mut self, kept: u32)
+    fn undo_to(&mut self, kept: u32)
         ensures same { self.new ≡ record self.old { rows = self.new.rows } }
         ensures undone { AllZip (R.undone kept) self.old.rows self.new.rows }
     {
         self.rows.undo_to(kept);
+    }
+}
+
+impl<K: AsksWalk, R: ShowsWalks<K>> Rows<K> for SureRows<R> {
+    ghost use Rattle.std.specs.Prelude.{false, length};
+    ghost use Rattle.mono_theory.specs.RowSides.{AlwaysStand};
+    ghost use Rattle.mono_theory.specs.SureRows.{shows_walk, AreSureRows};
+
+    const IS_POSSIBLE: bool = false;
+
+    ghost IS_POSSIBLE = { false };
+
+    ghost are_right = { λ s f. AreSureRows K.covers R.along f (length f.seen) s };
+
+    ghost shown = { λ s a. shows_walk R.shows s a };
+
+    ghost stand = { AlwaysStand };
+
+    fn are_few(alloc: Global, frame: &Frame) -> Result<bool, AllocError> {
+        let sources = sources_of::<K>(alloc, frame)?;
+        let count = sources.rows.len();
+        let cells = count.saturating_mul(frame.graph().nodes() as usize);
+        Ok(cells <= R::MOST_CELLS)
+    }
+
+    fn of_frame(alloc: Global, frame: &Frame) -> Result<Self, AllocError> {
+        let graph = frame.graph();
+        frame.known();
+        let sources = sources_of::<K>(alloc, frame)?;
+        let targets = targets_of::<K>(alloc, frame)?;
+        let Sources { rows, row_of } = sources;
+        let rows = SureRows::<R>::new(alloc, graph.nodes(), rows.as_slice(), row_of, targets)?;
+        Ok(rows)
+    }
+
+    fn look_at(
+        &mut self,
+        frame: &Frame,
+        part: &Part,
+        looked: usize,
+        lit: Lit,
+        due: &mut Worklist,
+    ) -> Result<(), AllocError> {
+        SureRows::look_at(self, frame, part, looked, lit, due)?;
+        Ok(())
+    }
+
+    fn settle(
+        &mut self,
+        alloc: Global,
+        frame: &Frame,
+        part: &Part,
+        looked: usize,
+        due: &mut Worklist,
+    ) -> Result<(), AllocError> {
+        frame.known();
+        Ok(())
+    }
+
+    fn undo_to(&mut self, frame: &Frame, looked: usize, kept: usize) {
+        frame.known();
+        let _ = looked;
+        SureRows::undo_to(self, kept as u32);
+    }
+
+    fn shows(&self, frame: &Frame, looked: usize, place: usize) -> bool {
+        frame.known();
+        let _ = looked;
+        let target = self.target(place);
+        let row = self.row(place);
+        <R as ShowsWalks<K>>::shows(row, target)
+    }
+
+    fn evidence(
+        &self,
+        alloc: Global,
+        frame: &Frame,
+        looked: usize,
+        place: usize,
+        kept: usize,
+    ) -> Result<Option<Evidence>, AllocError> {
+        frame.known();
+        let target = self.target(place);
+        let stamp = kept.min(looked) as u32;
+        let row = self.row(place);
+        let Some(walk) = <R as ShowsWalks<K>>::walk_within(row, alloc, target, stamp)? else {
+            return Ok(None);
+        };
+        let evidence = walk_evidence(alloc, frame.graph(), walk)?;
+        Ok(Some(evidence))
     }
 }

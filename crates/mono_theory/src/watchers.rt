@@ -9,7 +9,7 @@ ghost use Rattle.mono_theory.specs.Sound.{EdgesBelow, evidence_at};
 ghost use Rattle.mono_theory.specs.Watching.{watching, AreBelow, AreWatched, AllWatch, IsGrown, WatchesIts};
 
 use crate::Evidence;
-use crate::kept_evidence::KeptEvidence;
+use crate::kept_evidence::{KeptEvidence, is_at};
 use crate::watch::Watch;
 use mono_base::Buckets;
 use std::alloc::{AllocError, Global};
@@ -34,18 +34,30 @@ impl Model for Watchers {
     ghost view = { λ w. w.lists };
 }
 
-/// The atom watches each of the edges.
-fn watch_all(lists: &mut Buckets<Watch>, atom: u32, edges: &[u32]) -> Result<(), AllocError>
+/// The atom watches each of the edges, where it watches the known ones already, each by its place. The answer is how many watches
+/// came.
+fn watch_all(
+    lists: &mut Buckets<Watch>,
+    atom: u32,
+    known: &[u32],
+    edges: &[u32],
+) -> Result<usize, AllocError>
     requires edges { All (λ k. k < length lists.old) edges.now }
+    requires known { AreWatched lists.old atom known.now }
     ensures grown { IsGrown lists.old lists.new }
     ensures below { (n : ℕ) → atom < n → AreBelow n lists.old → AreBelow n lists.new }
     ensures watched { IfOk result (λ _. AreWatched lists.new atom edges.now) }
 {
+    let mut count: usize = 0;
     for place in 0..edges.len() {
         let edge = edges[place];
+        if is_at(known, place, edge) {
+            continue;
+        }
         lists.push(edge, Watch { atom, place })?;
+        count = count.saturating_add(1);
     }
-    Ok(())
+    Ok(count)
 }
 
 /// The atom watches the edges of its support.
@@ -61,10 +73,7 @@ fn watch_support(
 {
     match support {
         None => Ok(0),
-        Some(known) => {
-            watch_all(lists, atom, known.edges.as_slice())?;
-            Ok(known.edges.as_slice().len())
-        }
+        Some(known) => watch_all(lists, atom, &[], known.edges.as_slice()),
     }
 }
 
@@ -109,14 +118,21 @@ impl Watchers {
         self.entries > self.limit
     }
 
-    /// The atom watches each of the edges. Where memory is wanting, it may watch some.
-    pub(crate) fn watch(&mut self, atom: u32, edges: &[u32]) -> Result<(), AllocError>
+    /// The atom watches each of the edges, where it watches those of `known` already. Where memory is wanting, it may watch some.
+    pub(crate) fn watch(
+        &mut self,
+        atom: u32,
+        known: &[u32],
+        edges: &[u32],
+    ) -> Result<(), AllocError>
         requires edges { All (λ k. k < length self.old) edges.now }
+        requires known { AreWatched self.old atom known.now }
         ensures grown { IsGrown self.old self.new }
         ensures below { (n : ℕ) → atom < n → AreBelow n self.old → AreBelow n self.new }
         ensures watched { IfOk result (λ _. AreWatched self.new atom edges.now) }
     {
-        self.entries = self.entries.saturating_add(edges.len());
-        watch_all(&mut self.lists, atom, edges)
+        let more = watch_all(&mut self.lists, atom, known, edges)?;
+        self.entries = self.entries.saturating_add(more);
+        Ok(())
     }
 }

@@ -9,7 +9,7 @@ ghost use Rattle.mono_steps.specs.declared.lemma.Witness.TheVariants as by;
 ghost use Rattle.mono_steps.specs.WorkedLemmas.{minus, of_1};
 ghost use Rattle.mono_theory.specs.declared.stage.Stage.TheVariants as stage;
 ghost use Rattle.mono_theory.specs.Asked.{asks_walk, first_node, last_node, limit_of, predicate_of, target_of, IsSourceFor};
-ghost use Rattle.mono_theory.specs.Bound.{assigned, unassigned};
+ghost use Rattle.mono_bounds.specs.Bound.{assigned, unassigned};
 ghost use Rattle.mono_theory.specs.Evidences.{all_but, lemma_by, only, shown_by, side, uses};
 ghost use Rattle.mono_theory.specs.PossibleRows.{is_cut_off, possible_parts};
 ghost use Rattle.mono_theory.specs.Resting.{absent_across, absent_from, absent_into, absent_out, is_joining};
@@ -111,13 +111,13 @@ pub fn lemmas_by_evidence()
 
 /// An atom waits again where it was shown by a literal that goes, or where its support goes.
 pub fn atoms_that_wait_again()
-    ensures shown_by_one_that_goes { undone 1 (stage.Forcing 2) ≡ stage.Waits }
-    ensures shown_by_one_that_stays { undone 2 (stage.Forcing 2) ≡ stage.Forcing 2 }
-    ensures supported { undone 0 stage.Supported ≡ stage.Supported }
-    ensures on_a_side { gone_back 1 (side_with (stage.Forcing 1 ∷ stage.Supported ∷ stage.Forcing 2 ∷ []))
-        ≡ side_with (stage.Forcing 1 ∷ stage.Supported ∷ stage.Waits ∷ []) }
-    ensures support_goes { waiting stage.Supported ≡ stage.Waits }
-    ensures shown { waiting (stage.Forcing 2) ≡ stage.Forcing 2 }
+    ensures shown_by_one_that_goes { undone 1 (stage.Shows 2) ≡ stage.Waits }
+    ensures shown_by_one_that_stays { undone 2 (stage.Shows 2) ≡ stage.Shows 2 }
+    ensures supported { undone 0 stage.Stands ≡ stage.Stands }
+    ensures on_a_side { gone_back 1 (side_with (stage.Shows 1 ∷ stage.Stands ∷ stage.Shows 2 ∷ []))
+        ≡ side_with (stage.Shows 1 ∷ stage.Stands ∷ stage.Waits ∷ []) }
+    ensures support_goes { waiting stage.Stands ≡ stage.Waits }
+    ensures shown { waiting (stage.Shows 2) ≡ stage.Shows 2 }
 {}
 
 /// Each predicate that asks for a walk is that of its two nodes and its limit, and trees, flows and cycles ask for none.
@@ -158,8 +158,8 @@ pub fn sources_of_walks()
 
 /// The row of an atom is the one that is named at its place.
 pub fn rows_of_atoms()
-    ensures first { row_of_atom {R = ℕ} (record { rows = 5 ∷ 7 ∷ 9 ∷ []; row_of = 2 ∷ 0 ∷ 1 ∷ []; lasts = 3 ∷ 3 ∷ 4 ∷ [] }) 0 ≡ 2 }
-    ensures last { row_of_atom {R = ℕ} (record { rows = 5 ∷ 7 ∷ 9 ∷ []; row_of = 2 ∷ 0 ∷ 1 ∷ []; lasts = 3 ∷ 3 ∷ 4 ∷ [] }) 2 ≡ 1 }
+    ensures first { row_of_atom {R = ℕ} (record { rows = 5 ∷ 7 ∷ 9 ∷ []; row_of = 2 ∷ 0 ∷ 1 ∷ []; targets = [] }) 0 ≡ 2 }
+    ensures last { row_of_atom {R = ℕ} (record { rows = 5 ∷ 7 ∷ 9 ∷ []; row_of = 2 ∷ 0 ∷ 1 ∷ []; targets = [] }) 2 ≡ 1 }
 {}
 
 /// An edge joins a marked node with one that isn't, in either direction.

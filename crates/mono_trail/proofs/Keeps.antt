@@ -15,14 +15,14 @@ use Rattle.mono_trail.specs.declared.reason.Reason.TheVariants.{Clause, Late}
 use Rattle.mono_trail.specs.Kept.{HoldTrail, starts_after, unvalued}
 use Rattle.mono_trail.specs.Moves.{joined, lowered, settled, settled_at, HasLate}
 use Rattle.mono_trail.specs.Places.{no_mark, level_at, reason_at}
-use Rattle.mono_trail.specs.TrailView.{TrailView, IsSound, count_to, next_level}
+use Rattle.mono_trail.specs.TrailView.{TrailView, IsSoundTrail, count_to, next_level}
 use Rattle.mono_trail.proofs.Levels.{climbs_push, climbs_back, climbs_settle, climbs_bound, count_within, starts_join, starts_back, starts_settle}
 use Rattle.mono_trail.proofs.Places.{places_join, places_back, place_read, mark_within, mark_read}
 use Rattle.mono_trail.proofs.Values.{values_join, values_back}
 
 -- ---- a literal joins
 
-sound_join : (t : TrailView) (l : ℤ) (why : Reason) → IsSound t → IsLitWithin t.vars l → IsTrue (is_open_in t.lits l) → IsSound (joined t l why)
+sound_join : (t : TrailView) (l : ℤ) (why : Reason) → IsSoundTrail t → IsLitWithin t.vars l → IsTrue (is_open_in t.lits l) → IsSoundTrail (joined t l why)
 sound_join t l why s r o =
     let partial : IsTrue (is_partial (t.lits ++ l ∷ [])) = is_partial-push t.lits l s.partial (le-leb 1 (var_of l) r.0) (open_is_new t.lits l o) in
     let within : All (IsLitWithin t.vars) (t.lits ++ l ∷ []) = All-push (IsLitWithin t.vars) t.lits l s.within r in
@@ -41,7 +41,7 @@ pub record HasRoom (t : TrailView) : Type 0 where
   pub lits : length t.lits < t.vars
   pub level : t.level ≤ length t.lits
 
-pub has_room : (t : TrailView) (l : ℤ) → IsSound t → IsLitWithin t.vars l → IsTrue (is_open_in t.lits l) → HasRoom t
+pub has_room : (t : TrailView) (l : ℤ) → IsSoundTrail t → IsLitWithin t.vars l → IsTrue (is_open_in t.lits l) → HasRoom t
 has_room t l s r o =
     let longer = sound_join t l (Clause 0) s r o in
     record {
@@ -65,7 +65,7 @@ kept_join t u values values' places places' starts starts' a b c a' b' c' l why 
 
 -- ---- literals are dropped
 
-sound_back : (t : TrailView) (level : ℕ) → IsSound t → level ≤ t.level → IsSound (lowered level t)
+sound_back : (t : TrailView) (level : ℕ) → IsSoundTrail t → level ≤ t.level → IsSoundTrail (lowered level t)
 sound_back t level s le =
     let n = count_to level t.marks in
     record {
@@ -94,7 +94,7 @@ kept_back t u values values' places starts starts' a b c a' b' c' level k le eu 
 
 -- ---- a reason is settled
 
-pub sound_settle : (t : TrailView) (k a q n : ℕ) → IsSound t → reason_at t.marks k ≡ Late a q → IsSound (settled_at t k n)
+pub sound_settle : (t : TrailView) (k a q n : ℕ) → IsSoundTrail t → reason_at t.marks k ≡ Late a q → IsSoundTrail (settled_at t k n)
 sound_settle t k a q n s e = record {
   partial = s.partial;
   within = s.within;

@@ -10,7 +10,7 @@ use Rattle.mono_base.proofs.Partials.{open_is_new, new_is_open}
 use Rattle.mono_trail.specs.Kept.{ArePlaces}
 use Rattle.mono_trail.specs.declared.reason.Mark.{Mark}
 use Rattle.mono_trail.specs.Places.{place_in, mark_at, no_mark}
-use Rattle.mono_trail.specs.TrailView.{TrailView, IsSound}
+use Rattle.mono_trail.specs.TrailView.{TrailView, IsSoundTrail}
 
 -- the variable's literal stands at this place of the list
 pub record StandsAtPlace (t : List ℤ) (v k : ℕ) : Type 0 where
@@ -101,10 +101,10 @@ place_found vars lits places v x p high h e =
     ap Some at ∙ sym found.is
 
 -- and there is its mark
-pub mark_within : {t : TrailView} (v k : ℕ) → IsSound t → place_in t.lits v ≡ Some k → k < length t.marks
+pub mark_within : {t : TrailView} (v k : ℕ) → IsSoundTrail t → place_in t.lits v ≡ Some k → k < length t.marks
 mark_within {t} v k s e = omega (arith, (place_stands t.lits v k e).within, s.as_many)
 
-pub mark_read : {t : TrailView} (v k : ℕ) (m : Mark) → IsSound t → place_in t.lits v ≡ Some k → m ≡ get_or t.marks k m → m ≡ get_or t.marks k no_mark
+pub mark_read : {t : TrailView} (v k : ℕ) (m : Mark) → IsSoundTrail t → place_in t.lits v ≡ Some k → m ≡ get_or t.marks k m → m ≡ get_or t.marks k no_mark
 mark_read {t} v k m s e r = get_or_read t.marks k m (mark_within v k s e) r no_mark
 
 -- and what that one says

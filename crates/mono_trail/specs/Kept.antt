@@ -7,7 +7,7 @@ use Rattle.mono_base.specs.Partial.{value_by}
 use Rattle.mono_trail.specs.declared.reason.Mark.{Mark}
 use Rattle.mono_trail.specs.declared.reason.Reason.{Reason}
 use Rattle.mono_trail.specs.declared.reason.Reason.TheVariants.{Decided, Clause, Late}
-use Rattle.mono_trail.specs.TrailView.{TrailView, IsSound, count_to}
+use Rattle.mono_trail.specs.TrailView.{TrailView, IsSoundTrail, count_to}
 
 -- the table has the value of each literal
 pub record AreValues (vars : ℕ) (lits : List ℤ) (values : List Value) : Type 0 where
@@ -32,7 +32,7 @@ starts_after (Late atom kept) starts place = starts
 
 -- what the fields keep
 pub record HoldTrail (t : TrailView) (values : List Value) (places starts : List ℕ) (lit_room mark_room start_room : ℕ) : Type 0 where
-  pub sound : IsSound t
+  pub sound : IsSoundTrail t
   pub values_are : AreValues t.vars t.lits values
   pub places_are : ArePlaces t.vars t.lits places
   pub starts_are : AreStarts starts t.marks t.level

@@ -36,7 +36,7 @@ Climbs low [] top = top ≡ low
 Climbs low (m ∷ ms) top = (m.level ≡ next_level m.reason low) × Climbs m.level ms top
 
 -- what every trail keeps
-pub record IsSound (t : TrailView) : Type 0 where
+pub record IsSoundTrail (t : TrailView) : Type 0 where
   pub partial : IsTrue (is_partial t.lits)
   pub within : All (IsLitWithin t.vars) t.lits
   pub as_many : length t.marks ≡ length t.lits

@@ -66,7 +66,7 @@ impl Model for Trail {
 
 impl Trail {
     ghost use Rattle.mono_trail.specs.Moves.{joined, lowered, gave, settled, HasLate};
-    ghost use Rattle.mono_trail.specs.TrailView.{IsSound, no_literals};
+    ghost use Rattle.mono_trail.specs.TrailView.{IsSoundTrail, no_literals};
 
     /// The trail of the variables from 1 to `vars` on which nothing stands. There are at most 1,000,000 of them.
     pub fn new(alloc: Global, vars: u32) -> Result<Trail, AllocError>
@@ -110,14 +110,14 @@ impl Trail {
     /// The present level: how many decisions stand on the trail.
     pub fn level(&self) -> u32
         ensures value { result ≡ self.now.level }
-        ensures sound { IsSound self.now }
+        ensures sound { IsSoundTrail self.now }
     {
         self.level
     }
 
     /// What holds of every trail. Nothing is computed: it is there for the clause.
     pub fn known(&self)
-        ensures sound { IsSound self.now }
+        ensures sound { IsSoundTrail self.now }
     {
         let _ = &self.level;
     }

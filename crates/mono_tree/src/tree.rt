@@ -107,7 +107,7 @@ impl Tree {
         ensures size { self.new ≡ self.old }
         ensures evidence { IfOk result (IsEvidence graph.now part.now (Predicate.Tree most)) }
     {
-        let _ = graph.nodes();
+        graph.known();
         match self.finder.find_tree(graph, part, most)? {
             TreeFound::Tree(places) => tree_evidence(alloc, graph, places),
             TreeFound::Split(nodes) => split_evidence(alloc, &mut self.marks, graph, part, nodes),

@@ -25,6 +25,9 @@ const WIDE: &str =
     "digraph int 2 1 0\nedge 0 0 1 1 18446744073709551615\nmaximum_flow_geq 0 0 1 2 7\n";
 /// A walk of no edge, and a tree of one node.
 const NOTHING: &str = "digraph int 1 0 0\ndistance_leq 0 0 0 1 5\nmst_weight_leq 0 2 5\n";
+/// A sum of four amounts of 1, each added where one of the first four variables is true. Of each two one is.
+const SUM: &str =
+    "digraph int 5 8 0\nedge 0 0 1 9 1\nedge 0 0 1 5 0\nedge 0 1 2 9 1\nedge 0 1 2 6 0\nedge 0 2 3 9 1\nedge 0 2 3 7 0\nedge 0 3 4 9 1\nedge 0 3 4 8 0\nweighted_distance_leq 0 0 4 10 0\n9 0\n1 5 0 -1 -5 0 2 6 0 -2 -6 0 3 7 0 -3 -7 0 4 8 0 -4 -8 0\n1 2 0 3 4 0\n";
 
 /// Each row has an input, the predicate, how what `best` writes begins, the bound that `ask` is asked for, and the verdict.
 #[test]
@@ -77,6 +80,14 @@ fn best_bounds_are_accepted(rt: HostRuntime) -> Result<(), Fail> {
             Status::Satisfiable,
             "9007199254740993",
             b"accepted model\n",
+        ),
+        (
+            SUM,
+            "1",
+            b"c best 2\n",
+            Status::Satisfiable,
+            "1",
+            b"accepted refutation\n",
         ),
         (
             NOTHING,

@@ -12,7 +12,7 @@ returns-then-insert_all-clause-kept c =
     let f = c.args.frame.now in
     let n = c.args.at in
     let ks = c.edges_at-places.result.now in
-    let its : AreItsEdges f n c.args.lit ks = edges_told f n c.args.lit ks c.requires.more c.requires.next c.seen.ensures.partial c.requires.positive c.edges_at-places.ensures in
+    let its : AreItsEdges f n c.args.lit ks = edges_told f n c.args.lit ks c.requires.more c.requires.next c.known.ensures.partial c.requires.positive c.edges_at-places.ensures in
     let put = subst (λ (g : Digraph). IsPutIn g c.args.ordered.now c.insert_all.new.ordered ks) c.graph-graph.ensures.graph (c.insert_all.ensures.put c.if-insert_all.true) in
     ordered_on f c.args.at c.args.lit ks c.args.ordered.now c.insert_all.new.ordered its c.requires.ordered put
 
@@ -21,7 +21,7 @@ returns-in_err-cycle-clause-stays c =
     let f = c.args.frame.now in
     let n = c.args.at in
     let ks = c.edges_at-places.result.now in
-    let its : AreItsEdges f n c.args.lit ks = edges_told f n c.args.lit ks c.requires.more c.requires.next c.seen.ensures.partial c.requires.positive c.edges_at-places.ensures in
+    let its : AreItsEdges f n c.args.lit ks = edges_told f n c.args.lit ks c.requires.more c.requires.next c.known.ensures.partial c.requires.positive c.edges_at-places.ensures in
     let some = c.insert_all.ensures.some c.if-insert_all.false in
     let put = subst (λ (g : Digraph). IsPutIn g c.args.ordered.now c.insert_all.new.ordered (take some.0 ks)) c.graph-graph.ensures.graph some.1 in
     let out = c.remove_all.ensures in
@@ -32,7 +32,7 @@ returns-clause-kept c =
     let f = c.args.frame.now in
     let n = c.args.at in
     let ks = c.edges_at-places.result.now in
-    let its : AreItsEdges f n c.args.lit ks = edges_told f n c.args.lit ks c.requires.more c.requires.next c.seen.ensures.partial c.requires.positive c.edges_at-places.ensures in
+    let its : AreItsEdges f n c.args.lit ks = edges_told f n c.args.lit ks c.requires.more c.requires.next c.known.ensures.partial c.requires.positive c.edges_at-places.ensures in
     let some = c.insert_all.ensures.some c.if-insert_all.false in
     let put = subst (λ (g : Digraph). IsPutIn g c.args.ordered.now c.insert_all.new.ordered (take some.0 ks)) c.graph-graph.ensures.graph some.1 in
     let out = c.remove_all.ensures in

@@ -9,7 +9,7 @@ returns-then-is_positive c =
     let f = c.args.frame.now in
     let ks = c.edges_at.result.now in
     let lit = c.literal_at-lit.result in
-    let its : AreItsEdges f c.args.at lit ks = edges_told f c.args.at lit ks c.requires.at (sym c.literal_at-lit.ensures) c.seen.ensures.partial (sym c.is_positive.ensures ∙ c.if-is_positive.true) c.edges_at.ensures in
+    let its : AreItsEdges f c.args.at lit ks = edges_told f c.args.at lit ks c.requires.at (sym c.literal_at-lit.ensures) c.known.ensures.partial (sym c.is_positive.ensures ∙ c.if-is_positive.true) c.edges_at.ensures in
     let out = c.remove_all.ensures in
     ordered_back f c.args.at lit ks c.args.ordered.now c.remove_all.new.ordered its c.requires.ordered out.size out.part_size out.part (out.order f.graph)
 

@@ -8,7 +8,7 @@ returns-clause-five c = record {
   low = omega (arith, ints);
   high = omega (arith, ints);
   met = record { len = refl; satisfies = five_met };
-  refutes = record { refutes = refl; named = four_named };
+  refutes = record { refutes = refl; named = four_named; short = omega arith };
 }
 
 pub returns-clause-no_model : goal.returns-clause-no_model

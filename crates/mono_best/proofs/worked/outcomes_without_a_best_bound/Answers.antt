@@ -8,7 +8,7 @@ use Rattle.mono_best.proofs.WorkedBest.{all_named, four_not_met, six_met, wide_m
 use Rattle.mono_best.proofs.worked.outcomes_without_a_best_bound.Goals as goal
 
 pub returns-clause-never : goal.returns-clause-never
-returns-clause-never c = record { refutes = refl; named = all_named }
+returns-clause-never c = record { refutes = refl; named = all_named; short = omega arith }
 
 pub returns-clause-not_the_weakest : goal.returns-clause-not_the_weakest
 returns-clause-not_the_weakest c = λ h. let e = h.refutes in cc
@@ -26,14 +26,14 @@ pub returns-clause-spent : goal.returns-clause-spent
 returns-clause-spent c = record {
   bound = (omega (arith, ints), omega (arith, ints));
   first_or_next = inr (record { met_bound = pos 6; model = both_there; met = record { len = refl; satisfies = six_met }; next = refl });
-  progress = record { justified = refl; new = record { chains = tt; none_empty = refl }; chains = refl; few = omega arith };
+  progress = record { justified = refl; new = record { chains = tt; none_empty = refl }; chains = refl; few = omega arith; short = omega arith };
 }
 
 pub returns-clause-spent_on_the_weakest : goal.returns-clause-spent_on_the_weakest
 returns-clause-spent_on_the_weakest c = record {
   bound = (omega (arith, ints), omega (arith, ints));
   first_or_next = inl refl;
-  progress = record { justified = refl; new = record { chains = tt; none_empty = refl }; chains = refl; few = omega arith };
+  progress = record { justified = refl; new = record { chains = tt; none_empty = refl }; chains = refl; few = omega arith; short = omega arith };
 }
 
 -- 3 is the next bound after 4 alone

@@ -3,7 +3,7 @@ use Rattle.std.specs.Prelude.{IsTrue}
 use Rattle.mono_steps.specs.declared.step.Step.{Step}
 use Rattle.mono_steps.specs.Steps.{is_refutation}
 use Rattle.mono_portfolio.specs.Ends.{IsRefutationOfTurn}
-use Rattle.mono_portfolio.specs.Outcomes.{IsTeamOutcome, IsBoardOfRounds}
+use Rattle.mono_portfolio.specs.Outcomes.{IsTeamOutcome}
 use Rattle.mono_cmd.proofs.TeamSolutions.{team_model_solves, team_board_solves}
 use Rattle.mono_cmd.proofs.teaming.answer_of.Goals as goal
 use Rattle.mono_cmd.proofs.teaming.answer_of.Goals.{In-Refutation}
@@ -28,6 +28,5 @@ returns-in-Refutation c =
 
 pub returns : goal.returns
 returns c =
-    team_board_solves c.args.problem.now c.args.workers c.args.rounds c.few_steps.result c.requires.problem c.few_steps.ensures.few
-    (subst (λ (steps : List Step). IsBoardOfRounds c.args.problem.now c.args.workers c.args.rounds steps) (sym c.few_steps.ensures.same)
-    (subst (IsTeamOutcome c.args.problem.now c.args.workers c.args.rounds) c.in-Board.is c.requires.outcome))
+    team_board_solves c.args.problem.now c.args.workers c.args.rounds c.in-Board.board c.requires.problem
+    (subst (IsTeamOutcome c.args.problem.now c.args.workers c.args.rounds) c.in-Board.is c.requires.outcome)

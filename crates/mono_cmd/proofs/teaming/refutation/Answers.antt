@@ -1,4 +1,4 @@
-use Rattle.std.proofs.Common.{arith, sym, subst, List}
+use Rattle.std.proofs.Common.{sym, subst, List}
 use Rattle.mono_steps.specs.declared.step.Step.{Step}
 use Rattle.mono_answer.specs.declared.answer.Answer.TheVariants as answer
 use Rattle.mono_cmd.specs.Teams.{IsTeamSolution}
@@ -8,4 +8,4 @@ use Rattle.mono_cmd.proofs.teaming.refutation.Goals as goal
 pub returns : goal.returns
 returns c = λ workers rounds refuted.
     subst (λ (steps : List Step). IsTeamSolution c.args.problem.now workers rounds (answer.Refutation steps)) (sym c.from_vec.ensures)
-    (team_refutation_solves c.args.problem.now workers rounds c.args.steps.now c.in_ok-steps.steps.items c.requires.problem (omega (arith, c.in_ok-steps.steps.small)) refuted c.in_ok-steps.ensures)
+    (team_refutation_solves c.args.problem.now workers rounds c.args.steps.now c.in_ok-steps.steps.items c.requires.problem refuted c.in_ok-steps.ensures)

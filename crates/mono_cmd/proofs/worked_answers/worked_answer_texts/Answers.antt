@@ -28,6 +28,7 @@ returns-clause-progress c = (
     new = record { chains = ((λ full. record { exact = one_is_end _ refl refl; new = one_is_left_open _ refl }), tt); none_empty = refl };
     chains = refl;
     few = omega arith;
+    short = omega arith;
   },
   refl,
   refl,

@@ -8,6 +8,7 @@ returns-clause-spent c = record {
   new = record { chains = ((λ full. record { exact = one_is_end _ refl refl; new = one_is_left_open _ refl }), tt); none_empty = refl };
   chains = refl;
   few = omega arith;
+  short = omega arith;
 }
 
 pub returns-clause-not_yet : goal.returns-clause-not_yet

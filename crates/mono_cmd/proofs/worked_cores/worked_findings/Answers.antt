@@ -25,7 +25,7 @@ returns-clause-core c = record {
     kept = false ∷ true ∷ [];
     as_many = refl;
     is = refl;
-    refutes = record { refutes = refl; named = λ k lt. absurd (omega (arith, lt)) };
+    refutes = record { refutes = refl; named = λ k lt. absurd (omega (arith, lt)); short = omega arith };
     needed = (record { len = refl; satisfies = (refl, (λ k d lt. absurd (omega arith))) }, tt);
   };
   accepted = refl;
@@ -60,6 +60,7 @@ returns-clause-progress c = record {
     };
     chains = refl;
     few = omega arith;
+    short = omega arith;
   };
   accepted = refl;
 }

@@ -43,7 +43,7 @@ returns-clause-refutation c = (
     reached = at_first both_signs;
     refuted = record {
       steps = chain [] (1 ∷ 2 ∷ []) ∷ [];
-      trim = record { refutes = refl; named = λ k lt. absurd (omega (arith, lt)) };
+      trim = record { refutes = refl; named = λ k lt. absurd (omega (arith, lt)); short = omega arith };
       is = refl;
       refutes = refl;
     };
@@ -53,7 +53,7 @@ returns-clause-refutation c = (
     as_many = refl;
     closed = λ j k s on is names. absurd (names_none j k s is names);
     is = refl;
-    trim = record { refutes = refl; named = λ k lt. absurd (omega (arith, lt)) };
+    trim = record { refutes = refl; named = λ k lt. absurd (omega (arith, lt)); short = omega arith };
   },
 )
 

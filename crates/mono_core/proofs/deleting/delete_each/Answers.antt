@@ -1,8 +1,10 @@
-use Rattle.std.proofs.Common.{◌≡◌, ◌+◌, ◌-◌, ◌∷◌, [], ap, subst, sym, length, arith, List, Bool, Option, true, length-append}
+use Rattle.std.proofs.Common.{◌≡◌, ◌∙◌, ap, subst, sym, length, List, Bool, Option, true}
 use Rattle.std.specs.Prelude.{replicate}
+use Rattle.std.proofs.lemmas.List.{length-reverse}
 use Rattle.mono_core.specs.declared.outcome.Need.{Need}
-use Rattle.mono_core.specs.Cores.{AreFound, IsRefuted}
-use Rattle.mono_core.proofs.Needs.{all_found_fewer, found_more, refuted_whole}
+use Rattle.mono_core.specs.Cores.{AreLeft, IsRefuted}
+use Rattle.mono_core.proofs.Needs.{refuted_whole}
+use Rattle.mono_core.proofs.Left.{left_of_found}
 use Rattle.mono_core.proofs.deleting.delete_each.Goals as goal
 
 pub shrunk-requires : goal.shrunk-requires
@@ -12,14 +14,14 @@ shrunk-requires g c =
     let all : c.in_ok-all.all.items ≡ replicate (length assumed) true = c.in_ok-all.ensures.items_if_clones_equal (λ y e. e) in
     record { refuted = subst (λ (bs : List Bool). IsRefuted p assumed bs c.args.steps) (sym all) (refuted_whole p assumed c.args.steps c.requires.refutes) }
 
-pub loop-place-preserved : goal.loop-place-preserved
-loop-place-preserved g c =
+pub tried_again-requires-clause-soon : goal.tried_again-requires-clause-soon
+tried_again-requires-clause-soon g c =
     let p = c.args.problem.now in
     let assumed = c.args.assumed.now in
-    let kept = c.try_without.new.deletion.refuted.kept.items in
-    let before = c.loop-place.found.items in
-    let place = c.loop-place.place - 1 in
-    let len : length before + (place + 1) ≡ length assumed = omega (arith, c.loop-place.invariant.2, c.loop-place-test.true) in
-    let fewer = all_found_fewer p c.args.budget assumed kept c.loop-place.deletion.refuted.kept.items before c.in_ok-need.ensures.fewer c.loop-place.invariant.1 in
-    let more = found_more p c.args.budget assumed kept before place c.in_ok-need.need len fewer c.in_ok-need.ensures.need in
-    (c.in_ok-need.ensures.refuted, subst (λ (os : List (Option Need)). AreFound p c.args.budget assumed kept os) (sym c.in_ok-push.ensures.items) more, omega (arith, ap length c.in_ok-push.ensures.items, length-append before (c.in_ok-need.need ∷ []), len))
+    let kept = c.tried_each.new.deletion.refuted.kept.items in
+    subst (λ (os : List (Option Need)). AreLeft p assumed kept os) (sym c.reverse.ensures.items)
+    (left_of_found p c.at_most-short.result assumed kept c.in_ok-soon.soon.items c.in_ok-soon.ensures.all c.in_ok-soon.ensures.found)
+
+pub tried_again-requires-clause-all : goal.tried_again-requires-clause-all
+tried_again-requires-clause-all g c =
+    ap (λ (os : List (Option Need)). length os) c.reverse.ensures.items ∙ length-reverse c.in_ok-soon.soon.items ∙ c.in_ok-soon.ensures.all

@@ -12,7 +12,7 @@ returns-clause-core c = record {
   kept = false ∷ true ∷ [];
   as_many = refl;
   is = refl;
-  refutes = record { refutes = refl; named = λ k lt. absurd (omega (arith, lt)) };
+  refutes = record { refutes = refl; named = λ k lt. absurd (omega (arith, lt)); short = omega arith };
   needed = (record { len = refl; satisfies = (refl, (λ k d lt. absurd (omega arith))) }, tt);
 }
 
@@ -27,7 +27,7 @@ returns-clause-named_later c = record {
   kept = false ∷ true ∷ [];
   as_many = refl;
   is = refl;
-  refutes = record { refutes = refl; named = later };
+  refutes = record { refutes = refl; named = later; short = omega arith };
   needed = (record { len = refl; satisfies = (refl, (λ k d lt. absurd (omega arith))) }, tt);
 }
   where

@@ -30,7 +30,7 @@ returns-clause-spent c = record {
   is = refl;
   without = refl;
   others = λ i other on. no_other i other on;
-  progress = record { justified = refl; new = record { chains = tt; none_empty = refl }; chains = refl; few = omega arith };
+  progress = record { justified = refl; new = record { chains = tt; none_empty = refl }; chains = refl; few = omega arith; short = omega arith };
 }
   where
     no_other : (i : ℕ) → (i ≡ 0 → ⊥) → is_set (true ∷ []) i ≡ true → is_set (false ∷ []) i ≡ true

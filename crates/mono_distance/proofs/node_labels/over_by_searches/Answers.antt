@@ -41,8 +41,8 @@ returns-clause-decides c none last =
     let a : ℕ = c.args.place in
     let x = c.args.asked in
     let h = c.requires.right in
-    let atoms = c.graph.ensures.atoms in
+    let atoms = c.known.ensures.atoms in
     let read : c.over_by.result ≡ over_of x.limit c.args.node (stage_at s.stages a) (evidence_at s.shown a) =
     over_read c.shown_witness-witness.result (λ w. w.now) c.over_by.result x.limit c.args.node (stage_at s.stages a) (evidence_at s.shown a) c.over_by.ensures
     (c.shown_witness-witness.ensures.none f true h.side h.thorough) c.shown_witness-witness.ensures.shows c.shown_witness-witness.ensures.its in
-    over_decides f s a x.from x.to c.args.node c.over_by.result x.limit c.graph.ensures.known (atoms.over a no_atom c.requires.place).1 c.requires.kind c.requires.place none h c.requires.asked read last
+    over_decides f s a x.from x.to c.args.node c.over_by.result x.limit c.known.ensures.graph (atoms.over a no_atom c.requires.place).1 c.requires.kind c.requires.place none h c.requires.asked read last

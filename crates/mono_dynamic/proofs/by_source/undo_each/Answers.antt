@@ -5,7 +5,7 @@ use Rattle.mono_dynamic.proofs.RowLists.{changed_none, changed_more, all_changed
 use Rattle.mono_dynamic.proofs.by_source.undo_each.Goals as goal
 
 pub loop-i-init : goal.loop-i-init
-loop-i-init g c = record { end = (let n = c.len-i-end.ensures in omega arith); changed = changed_none (IsBack g.R.Row.fits g.R.Row.grown g.R.Row.undone c.args.kept) c.args.rows.now.items }
+loop-i-init g c = record { end = (let n = c.len-i-end.ensures in omega arith); changed = changed_none (IsBack g.R.SourceRow.fits g.R.SourceRow.grown g.R.SourceRow.undone c.args.kept) c.args.rows.now.items }
 
 pub loop-i-preserved : goal.loop-i-preserved
 loop-i-preserved g c =

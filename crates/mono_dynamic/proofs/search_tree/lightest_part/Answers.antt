@@ -9,7 +9,7 @@ pub returns-in_ok-light-in-Some-clause-light : goal.returns-in_ok-light-in-Some-
 returns-in_ok-light-in-Some-clause-light c =
     let now : Costs = c.search.new.self in
     let found = c.in_ok-search-in-Some.ensures in
-    light_of_least c.args.graph.now c.args.part.now c.in_ok-light-in-Some.light c.args.source now (record { from = λ k lt. (c.nodes.ensures.graph.ends k no_edge lt).0 })
+    light_of_least c.args.graph.now c.args.part.now c.in_ok-light-in-Some.light c.args.source now (record { from = λ k lt. (c.known.ensures.graph.ends k no_edge lt).0 })
     (subst (λ (l : Limit). AreLeast c.args.graph.now c.args.part.now l c.args.source now.cap now.labels) (sym found.limit)
     (subst (λ (n : ℕ). AreLeast c.args.graph.now c.args.part.now c.in-Some.costs.limit c.args.source n now.labels) (sym found.cap) found.least))
     c.in_ok-light-in-Some.ensures

@@ -30,7 +30,7 @@ loop-slot-preserved c =
           ap (λ v. facts_of graph_of atoms_of seen_of v.items) w.theories-is ∙ ap (facts_of graph_of atoms_of seen_of) w.in_ok-push.ensures.items ∙ map_push (fact_of graph_of atoms_of seen_of) ts t in
           let some = some_from (length c.list-numbers.result.now) (sym c.is_empty.ensures ∙ w.if-not-is_empty.true) in
           subst (AreMade p (j + 1)) (sym more)
-          (made_push p j (facts_of graph_of atoms_of seen_of ts) (fact_of graph_of atoms_of seen_of t) c.vars.ensures.problem c.loop-slot.invariant made (subst (λ (ns : List ℕ). 0 < length ns) numbers some)))
+          (made_push p j (facts_of graph_of atoms_of seen_of ts) (fact_of graph_of atoms_of seen_of t) c.known.ensures.problem c.loop-slot.invariant made (subst (λ (ns : List ℕ). 0 < length ns) numbers some)))
       | else-not-is_empty w ↦ (
           let none : c.list-numbers.result.now ≡ [] = length-zero c.list-numbers.result.now (eqb-true (length c.list-numbers.result.now) 0 (sym c.is_empty.ensures ∙ w.if-not-is_empty.false)) in
           rw w.theories-is (made_skip p j (facts_of graph_of atoms_of seen_of c.loop-slot.theories.items) c.loop-slot.invariant (sym numbers ∙ none)))

@@ -10,4 +10,4 @@ loop-place-preserved c =
     let m = c.loop-place.place in
     let lt : m < length p.atoms = omega (arith, c.loop-place-test.true, c.atom_count-place-end.ensures) in
     let slot : c.slot_of.result ≡ slot_of (atom_numbered p (m + 1)) = c.slot_of.ensures ∙ ap slot_of c.atom-atom.ensures in
-    rw (c.in_ok-push.ensures.ok, slot) (slots_more p m c.loop-place.slots (slot_held p (m + 1) c.vars.ensures.problem (omega arith) (omega (arith, lt))) c.loop-place.invariant)
+    rw (c.in_ok-push.ensures.ok, slot) (slots_more p m c.loop-place.slots (slot_held p (m + 1) c.known.ensures.problem (omega arith) (omega (arith, lt))) c.loop-place.invariant)

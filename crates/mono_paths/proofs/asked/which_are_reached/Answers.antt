@@ -1,6 +1,6 @@
 use Rattle.std.proofs.Common.{length, refl, ap, subst, ◌∙◌, arith}
 use Rattle.mono_graph.specs.declared.limit.Limit.{Limit}
-use Rattle.mono_paths.specs.Searches.{IsSearch, source_of}
+use Rattle.mono_paths.specs.Searches.{IsLabelSearch, source_of}
 use Rattle.mono_paths.proofs.Reached.{answer_more}
 use Rattle.mono_paths.proofs.asked.which_are_reached.Goals as goal
 
@@ -9,7 +9,7 @@ loop-target-init c = record {
   len = c.in_ok-begin.ensures.len;
   cap = refl;
   source = c.in_ok-begin.ensures.source;
-  search = subst (λ (l : Limit). IsSearch c.args.graph.now c.args.part.now l c.begin.new.self) c.limit.ensures (c.in_ok-begin.ensures.begun c.args.part.now);
+  search = subst (λ (l : Limit). IsLabelSearch c.args.graph.now c.args.part.now l c.begin.new.self) c.limit.ensures (c.in_ok-begin.ensures.begun c.args.part.now);
   count = ap length c.new-answers.ensures.items;
   each = λ i lt. absurd (omega arith);
 }

@@ -43,5 +43,5 @@ returns g c =
     let e : c.loop.counter ≡ c.args.rounds = omega arith in
     let h : RoundsSoFar c.args.team.now.problem c.args.workers c.args.rounds c.loop.team = subst (λ (n : ℕ). RoundsSoFar c.args.team.now.problem c.args.workers n c.loop.team) e c.loop.invariant in
     let problem : c.loop.team.problem ≡ c.args.team.now.problem = ap (λ (x : TeamView). x.problem) h.is in
-    let justified : IsTrue (are_justified c.args.team.now.problem c.loop.team.board) = subst (λ (q : Instance). IsTrue (are_justified q c.loop.team.board)) problem c.board.ensures.team.justified in
+    let justified : IsTrue (are_justified c.args.team.now.problem c.loop.team.board) = subst (λ (q : Instance). IsTrue (are_justified q c.loop.team.board)) problem c.known.ensures.team.justified in
     (justified, rounds_done c.args.team.now.problem c.args.workers c.args.rounds c.loop.team h, h.few)

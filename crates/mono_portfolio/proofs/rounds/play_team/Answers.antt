@@ -1,4 +1,4 @@
-use Rattle.std.proofs.Common.{◌≡◌, ◌∙◌, ap, sym, subst, arith, List}
+use Rattle.std.proofs.Common.{◌≡◌, ◌∙◌, ◌<◌, ◌^◌, ap, sym, subst, arith, List, length}
 use Rattle.mono_steps.specs.declared.step.Step.{Step}
 use Rattle.mono_portfolio.specs.declared.rounds.Turn.{Turn}
 use Rattle.mono_portfolio.specs.declared.rounds.Turn.TheVariants as turn
@@ -36,4 +36,9 @@ returns-in-Gave g c =
     let played : EndsBy p c.args.workers c.args.rounds b turn.Gave = subst (λ (x : Turn). EndsBy p c.args.workers c.args.rounds b x) c.in-Gave.is c.in_ok-end.ensures in
     let all : EndsBy c.args.problem.now c.args.workers c.args.rounds c.from_vec-board.result turn.Gave =
     subst (λ (ss : List Step). EndsBy c.args.problem.now c.args.workers c.args.rounds ss turn.Gave) (sym board) (subst (λ (s : TeamView). EndsBy s.problem c.args.workers c.args.rounds b turn.Gave) c.in_ok-team.ensures played) in
-    record { justified = all.0; rounds_are = all.1; few = all.2 (omega (arith, c.requires.rounds)) (omega (arith, c.requires.low)) }
+    record {
+      justified = all.0;
+      rounds_are = all.1;
+      few = all.2 (omega (arith, c.requires.rounds)) (omega (arith, c.requires.low));
+      short = subst (λ (ss : List Step). length ss < 2 ^ 63) (sym c.from_vec-board.ensures) (omega (arith, c.into_board.result.small));
+    }

@@ -6,7 +6,7 @@ use Rattle.mono_portfolio.specs.declared.event.Reply.{Reply}
 use Rattle.mono_portfolio.specs.declared.event.Event.TheVariants as event
 use Rattle.mono_portfolio.specs.TeamView.{TeamView, start}
 use Rattle.mono_portfolio.specs.Plays.{Plays}
-use Rattle.mono_portfolio.specs.Soundness.{IsSound}
+use Rattle.mono_portfolio.specs.Soundness.{IsSoundPlay}
 use Rattle.mono_portfolio.proofs.Playing.{plays_more, play_sound}
 use Rattle.mono_portfolio.proofs.whole_plays.play.Goals as goal
 
@@ -27,6 +27,6 @@ returns-clause-sound g c =
     let s : TeamView = start c.args.problem.now c.args.workers in
     let all : take c.loop-event.event-index c.args.events.now ≡ c.args.events.now = take_all c.loop-event.event-index c.args.events.now (omega arith) in
     let plays : Plays s c.args.events.now c.loop-event.replies.items c.loop-event.team = subst (λ (es : List Event). Plays s es c.loop-event.replies.items c.loop-event.team) all c.loop-event.invariant in
-    subst (λ (rs : List Reply). IsSound c.args.problem.now c.args.events.now rs c.from_vec.result) (sym c.from_vec-2.ensures)
-    (subst (λ (b : List Step). IsSound c.args.problem.now c.args.events.now c.loop-event.replies.items b) (sym (c.from_vec.ensures ∙ c.into_board.ensures))
-    (play_sound c.args.problem.now c.args.workers c.args.events.now c.loop-event.replies.items c.loop-event.team c.vars.ensures.problem plays))
+    subst (λ (rs : List Reply). IsSoundPlay c.args.problem.now c.args.events.now rs c.from_vec.result) (sym c.from_vec-2.ensures)
+    (subst (λ (b : List Step). IsSoundPlay c.args.problem.now c.args.events.now c.loop-event.replies.items b) (sym (c.from_vec.ensures ∙ c.into_board.ensures))
+    (play_sound c.args.problem.now c.args.workers c.args.events.now c.loop-event.replies.items c.loop-event.team c.known.ensures.problem plays))

@@ -39,7 +39,7 @@ returns-clause-refutation c = record {
   reached = at_first both_signs;
   refuted = record {
     steps = chain [] (1 ∷ 2 ∷ []) ∷ [];
-    trim = record { refutes = refl; named = λ k lt. absurd (omega (arith, lt)) };
+    trim = record { refutes = refl; named = λ k lt. absurd (omega (arith, lt)); short = omega arith };
     is = refl;
     refutes = refl;
   };

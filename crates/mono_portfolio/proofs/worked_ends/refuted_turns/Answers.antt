@@ -6,7 +6,7 @@ use Rattle.mono_steps.specs.declared.step.Step.{Step}
 use Rattle.mono_steps.specs.Steps.{is_refutation}
 use Rattle.mono_steps.specs.WorkedLemmas.{chain}
 use Rattle.mono_search.specs.Worked.{both_signs, first_learned}
-use Rattle.mono_portfolio.specs.Ends.{IsRefuted}
+use Rattle.mono_portfolio.specs.Ends.{IsRefutedTurn}
 use Rattle.mono_portfolio.specs.Extended.{extended}
 use Rattle.mono_portfolio.specs.Moved.{moved, moved_step}
 use Rattle.mono_portfolio.proofs.worked_ends.refuted_turns.Goals as goal
@@ -14,7 +14,7 @@ use Rattle.mono_portfolio.proofs.worked_ends.refuted_turns.Goals as goal
 pub returns-clause-alone : goal.returns-clause-alone
 returns-clause-alone c = record {
   steps = chain [] (1 ∷ 2 ∷ []) ∷ [];
-  trim = record { refutes = refl; named = λ k lt. absurd (omega (arith, lt)) };
+  trim = record { refutes = refl; named = λ k lt. absurd (omega (arith, lt)); short = omega arith };
   is = refl;
   refutes = refl;
 }
@@ -22,7 +22,7 @@ returns-clause-alone c = record {
 pub returns-clause-renumbered : goal.returns-clause-renumbered
 returns-clause-renumbered c = record {
   steps = chain [] (3 ∷ 4 ∷ []) ∷ [];
-  trim = record { refutes = refl; named = λ k lt. absurd (omega (arith, lt)) };
+  trim = record { refutes = refl; named = λ k lt. absurd (omega (arith, lt)); short = omega arith };
   is = refl;
   refutes = refl;
 }
@@ -35,7 +35,7 @@ some : (p : Instance) (steps : List Step) → IsTrue (is_refutation p steps) →
 some p [] refutes = absurd cc
 some p (s ∷ ss) refutes = omega arith
 
-longer : (p : Instance) (taken : List ℕ) (before board : List Step) → IsRefuted p taken before board → length before < length board
+longer : (p : Instance) (taken : List ℕ) (before board : List Step) → IsRefutedTurn p taken before board → length before < length board
 longer p taken before board h =
     omega (
       arith,

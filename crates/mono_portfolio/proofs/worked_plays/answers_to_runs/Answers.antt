@@ -23,7 +23,7 @@ returns-clause-no_refutation c = λ h.
     let f : IsTrue (is_refutation two_clauses first_learned) = subst (λ (ss : List Step). IsTrue (is_refutation two_clauses ss)) (sym e) h.are.refutes in cc
 
 pub returns-clause-refuted : goal.returns-clause-refuted
-returns-clause-refuted c = record { made = chain [] (1 ∷ 2 ∷ []) ∷ []; are = record { refutes = refl; named = λ k lt. absurd (omega (arith, lt)) }; after = refl }
+returns-clause-refuted c = record { made = chain [] (1 ∷ 2 ∷ []) ∷ []; are = record { refutes = refl; named = λ k lt. absurd (omega (arith, lt)); short = omega arith }; after = refl }
 
 -- the last chain names the clauses alone
 not_named : IsNamedLater 2 (chain (pos 1 ∷ []) (1 ∷ []) ∷ chain [] (1 ∷ 2 ∷ []) ∷ []) 0 → ⊥

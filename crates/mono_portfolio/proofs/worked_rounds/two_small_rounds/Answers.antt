@@ -20,7 +20,7 @@ next_end : IsExactEnd five_clauses.clauses (record { clause = pos 1 ∷ []; used
 next_end = record { named = refl; end = pos 1 ∷ pos 1 ∷ pos 1 ∷ []; is_end = refl; same = λ l. thrice (int_eq l (pos 1)) }
 
 next_learned : IsProgress five_clauses 1 (given_next ∷ [])
-next_learned = record { justified = refl; new = record { chains = ((λ full. record { exact = next_end; new = one_is_left_open _ refl }), tt); none_empty = refl }; chains = refl; few = lit< tt }
+next_learned = record { justified = refl; new = record { chains = ((λ full. record { exact = next_end; new = one_is_left_open _ refl }), tt); none_empty = refl }; chains = refl; few = lit< tt; short = lit< tt }
 
 pub returns : goal.returns
 returns c = (

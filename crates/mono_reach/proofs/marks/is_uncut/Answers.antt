@@ -15,8 +15,8 @@ returns-in-Some-clause-value c =
 
 pub returns-in-None-clause-decides : goal.returns-in-None-clause-decides
 returns-in-None-clause-decides c none last =
-    let atoms = c.graph.ensures.atoms in
-    unshown_decides true c.args.place c.requires.place c.graph.ensures.known (c.requires.covered.each c.args.place no_atom c.requires.place) (atoms.over c.args.place no_atom c.requires.place).1 c.requires.side none (c.in-None.ensures.none c.args.frame.now true c.requires.side c.requires.thorough)
+    let atoms = c.known.ensures.atoms in
+    unshown_decides true c.args.place c.requires.place c.known.ensures.graph (c.requires.covered.each c.args.place no_atom c.requires.place) (atoms.over c.args.place no_atom c.requires.place).1 c.requires.side none (c.in-None.ensures.none c.args.frame.now true c.requires.side c.requires.thorough)
 
 pub returns-in-Some-clause-fails : goal.returns-in-Some-clause-fails
 returns-in-Some-clause-fails c off =

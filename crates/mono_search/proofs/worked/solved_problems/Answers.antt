@@ -17,7 +17,7 @@ pub returns-clause-no_model : goal.returns-clause-no_model
 returns-clause-no_model c = λ h. let e = h.satisfies.0 in cc
 
 pub returns-clause-refutation : goal.returns-clause-refutation
-returns-clause-refutation c = record { refutes = refl; named = λ k lt. absurd (omega (arith, lt)) }
+returns-clause-refutation c = record { refutes = refl; named = λ k lt. absurd (omega (arith, lt)); short = omega arith }
 
 pub returns-clause-no_refutation : goal.returns-clause-no_refutation
 returns-clause-no_refutation c = λ (h : IsTrimRefutation two_clauses first_learned). let e : false ≡ true = h.refutes in cc
@@ -35,7 +35,7 @@ pub returns-clause-step_too_many : goal.returns-clause-step_too_many
 returns-clause-step_too_many c = λ (h : IsTrimRefutation both_signs (chain (pos 1 ∷ []) (1 ∷ []) ∷ chain [] (1 ∷ 2 ∷ []) ∷ [])). first_not_named (h.named 0 (omega arith))
 
 pub returns-clause-progress : goal.returns-clause-progress
-returns-clause-progress c = record { justified = refl; new = one_is_new two_clauses refl refl refl; chains = refl; few = omega arith }
+returns-clause-progress c = record { justified = refl; new = one_is_new two_clauses refl refl refl; chains = refl; few = omega arith; short = omega arith }
 
 pub returns-clause-unjustified_lemma : goal.returns-clause-unjustified_lemma
 returns-clause-unjustified_lemma c = λ (h : IsProgress two_clauses 1 learned_behind_a_lemma). let e : false ≡ true = h.justified in cc

@@ -9,10 +9,10 @@ use Rattle.mono_search_tests.specs.Worked.{over_seven}
 use Rattle.mono_search_tests.proofs.worked_teams.boards_of_rounds.Goals as goal
 
 pub returns-clause-no_round : goal.returns-clause-no_round
-returns-clause-no_round c = record { justified = refl; rounds_are = ([], (refl, refl)); few = lit< tt }
+returns-clause-no_round c = record { justified = refl; rounds_are = ([], (refl, refl)); few = lit< tt; short = lit< tt }
 
 pub returns-clause-nobody : goal.returns-clause-nobody
-returns-clause-nobody c = record { justified = refl; rounds_are = ([], ([], refl, (refl, refl))); few = lit< tt }
+returns-clause-nobody c = record { justified = refl; rounds_are = ([], ([], refl, (refl, refl))); few = lit< tt; short = lit< tt }
 
 -- a thousand learned clauses are some steps
 some_steps : (steps : List Step) → chain_count steps ≡ 1000 → 0 < length steps

@@ -1,4 +1,4 @@
-use Rattle.std.proofs.Common.{ℕ, arith, List, [], ◌∷◌, length, length-append, true, false, ap}
+use Rattle.std.proofs.Common.{ℕ, arith, List, [], ◌∷◌, length, length-append, ap}
 use Rattle.mono_steps.proofs.Ranks.{rank_zero, rank_step, rank_skip, rank_le, numbers_more}
 use Rattle.mono_steps.proofs.renumbering.new_numbers.Goals as goal
 use Rattle.mono_steps.proofs.renumbering.new_numbers.Goals.{then-flag, else-flag}

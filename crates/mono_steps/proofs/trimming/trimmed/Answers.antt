@@ -30,5 +30,5 @@ returns c =
     let numbers : AreNumbers c.from-count.result flags c.as_slice-2.result.now = subst (λ (ns : List ℕ). AreNumbers c.from-count.result flags ns) (sym c.as_slice-2.ensures.value) (subst (λ (bs : List Bool). AreNumbers c.from-count.result bs c.in_ok-numbers.numbers.items) c.as_slice.ensures.value c.in_ok-numbers.ensures) in
     let table = is_table c.from-count.result flags c.as_slice-2.result.now numbers in
     IfOk-weaker c.renumber_steps.result _ _
-    (λ new e. trimmed_is c.args.problem.now flags c.args.steps.now new.items c.requires needed (e (renumbered c.from-count.result flags) table ∙ ap (λ (bs : List Bool). steps_with_numbers (renumbered c.from-count.result flags) bs c.args.steps.now) c.as_slice-3.ensures.value ∙ ap (λ (n : ℕ). trimmed_steps n flags c.args.steps.now) count))
+    (λ new e. trimmed_is c.args.problem.now flags c.args.steps.now new.items c.requires needed (e (renumbered c.from-count.result flags) table ∙ ap (λ (bs : List Bool). steps_with_numbers (renumbered c.from-count.result flags) bs c.args.steps.now) c.as_slice-3.ensures.value ∙ ap (λ (n : ℕ). trimmed_steps n flags c.args.steps.now) count) (omega (arith, new.small)))
     c.renumber_steps.ensures

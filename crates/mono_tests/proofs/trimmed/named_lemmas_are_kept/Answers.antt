@@ -9,7 +9,7 @@ returns-clause-kept c = record {
   as_many = refl;
   closed = λ j k s on is names. closed_of_three _ _ 3 (true ∷ false ∷ true ∷ []) (first_is_kept (true ∷ false ∷ true ∷ []) refl) j k s is names;
   is = refl;
-  trim = record { refutes = refl; named = all_named };
+  trim = record { refutes = refl; named = all_named; short = omega arith };
 }
 
 pub returns-clause-dropped : goal.returns-clause-dropped

@@ -9,7 +9,7 @@ returns-clause-trimmed c = record {
   as_many = refl;
   closed = λ j k s on is names. closed_of_three _ _ 4 (false ∷ true ∷ true ∷ []) (second_is_kept (false ∷ true ∷ true ∷ []) refl) j k s is names;
   is = refl;
-  trim = record { refutes = refl; named = all_named };
+  trim = record { refutes = refl; named = all_named; short = omega arith };
 }
 
 pub returns-clause-as_it_was : goal.returns-clause-as_it_was
@@ -18,7 +18,7 @@ returns-clause-as_it_was c = record {
   as_many = refl;
   closed = λ j k s on is names. closed_of_two _ 3 (true ∷ true ∷ []) (first_is_kept (true ∷ true ∷ []) refl) j k s is names;
   is = refl;
-  trim = record { refutes = refl; named = all_named };
+  trim = record { refutes = refl; named = all_named; short = omega arith };
 }
 
 pub returns-clause-not_trimmed : goal.returns-clause-not_trimmed

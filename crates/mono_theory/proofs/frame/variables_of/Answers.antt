@@ -1,7 +1,7 @@
 use Rattle.std.proofs.Common.{◌≡◌, ◌∙◌, ◌++◌, ℕ, List, ap, eqb}
 use Rattle.std.proofs.lemmas.List.Folds.{list_any-append}
 use Rattle.mono_graph.specs.Digraph.{has}
-use Rattle.mono_theory.specs.Bound.{edge_vars}
+use Rattle.mono_bounds.specs.Bound.{edge_vars}
 use Rattle.mono_theory.specs.Frames.{atom_vars}
 use Rattle.mono_theory.proofs.FramesStay.{has-both}
 use Rattle.mono_theory.proofs.frame.variables_of.Goals as goal

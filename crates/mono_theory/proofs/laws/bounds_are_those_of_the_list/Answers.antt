@@ -1,4 +1,4 @@
-use Rattle.mono_theory.proofs.BoundsStay.{assigned_is_bound, unassigned_is_bound}
+use Rattle.mono_bounds.proofs.BoundsStay.{assigned_is_bound, unassigned_is_bound}
 use Rattle.mono_theory.proofs.FramesStay.{under_is, over_is}
 use Rattle.mono_theory.proofs.laws.bounds_are_those_of_the_list.Goals as goal
 

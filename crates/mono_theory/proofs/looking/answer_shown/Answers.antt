@@ -15,7 +15,7 @@ returns-clause-answer c =
     let a = c.args.place in
     let x = c.atom_at-atom.result in
     let at = c.atom_at-atom.ensures.atom in (
-      rw (c.literal.ensures, c.shown_by.ensures, c.is_possible.ensures) (shown_forces f.graph f.atoms f.seen x b (evidence_at c.args.side.now.shown a) c.graph.ensures.known c.atom_at-atom.ensures.over c.atom_at-atom.ensures.found
+      rw (c.literal.ensures, c.shown_by.ensures, c.is_possible.ensures) (shown_forces f.graph f.atoms f.seen x b (evidence_at c.args.side.now.shown a) c.known.ensures.graph c.atom_at-atom.ensures.over c.atom_at-atom.ensures.found
           (subst (λ (y : Atom). IfSome (evidence_at c.args.side.now.shown a) (IsSound f.graph y.predicate (not b))) (sym at) (c.requires.side.shown.each a c.requires.place)) c.requires.right
           (subst (λ (y : Atom). is_true_in f.seen (literal_of (shown_by y.predicate (not b)) y.var) ≡ false) (sym at) (c.is_settled.ensures.open c.if-is_settled.false))),
       record { sign = refl; thorough = refl },

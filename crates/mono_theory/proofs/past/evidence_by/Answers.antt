@@ -1,12 +1,12 @@
 use Rattle.std.proofs.Common.{◌≡◌, take, ap, sym, subst, ◌∙◌, List, Bool, length, cond, pos, int_lt}
 use Rattle.std.proofs.lemmas.List.{length-map}
 use Rattle.mono_graph.specs.declared.edge.Edge.{Edge}
-use Rattle.mono_theory.specs.declared.span.Span.{Span}
+use Rattle.mono_bounds.specs.declared.span.Span.{Span}
 use Rattle.mono_theory.specs.Evidences.{shown_by}
-use Rattle.mono_theory.specs.SeenBounds.{SeenBound, AreSpansOf}
-use Rattle.mono_theory.proofs.BoundsStay.{by_own_vars, by_same_vars}
+use Rattle.mono_bounds.specs.SeenBounds.{SeenBound, AreSpansOf}
+use Rattle.mono_bounds.proofs.BoundsStay.{by_own_vars, by_same_vars}
 use Rattle.mono_theory.proofs.FramesStay.{side_is}
-use Rattle.mono_theory.proofs.SpansStay.{seen_is_one, spans_over}
+use Rattle.mono_bounds.proofs.SpansStay.{seen_is_one, spans_over}
 use Rattle.mono_theory.proofs.past.evidence_by.Goals as goal
 
 pub go_back-requires-clause-bound : goal.go_back-requires-clause-bound

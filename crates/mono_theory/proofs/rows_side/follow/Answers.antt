@@ -16,7 +16,7 @@ pub set_all-requires : goal.set_all-requires
 set_all-requires c =
     let f = c.args.frame.now in
     let ks = c.edges_at.result.now in
-    let its : IsNextOf f c.args.place c.literal_at-lit.result ks = next_of f c.args.place c.literal_at-lit.result ks c.requires.place (sym c.literal_at-lit.ensures) c.seen.ensures.partial c.edges_at.ensures in
+    let its : IsNextOf f c.args.place c.literal_at-lit.result ks = next_of f c.args.place c.literal_at-lit.result ks c.requires.place (sym c.literal_at-lit.ensures) c.known.ensures.partial c.edges_at.ensures in
     edges_held (take c.args.place f.seen) c.args.possible c.args.part.now c.requires.part its
 
 pub returns : goal.returns
@@ -24,6 +24,6 @@ returns c =
     let f = c.args.frame.now in
     let l = c.literal_at-lit.result in
     let ks = c.edges_at.result.now in
-    let its : IsNextOf f c.args.place l ks = next_of f c.args.place l ks c.requires.place (sym c.literal_at-lit.ensures) c.seen.ensures.partial c.edges_at.ensures in
+    let its : IsNextOf f c.args.place l ks = next_of f c.args.place l ks c.requires.place (sym c.literal_at-lit.ensures) c.known.ensures.partial c.edges_at.ensures in
     let sign : int_lt (pos 0) l ≡ not c.args.possible = sym c.is_positive.ensures ∙ unlike c.is_positive.result c.args.possible c.if-is_positive-possible.false in
     part_on f c.args.place l c.args.possible ks c.args.part.now c.set_all.new.part its sign c.requires.part c.set_all.ensures.size c.set_all.ensures.done c.set_all.ensures.others

@@ -1,5 +1,5 @@
 use Rattle.std.proofs.Common.{map, take}
-use Rattle.mono_theory.specs.DueNodes.{PutsNodes}
+use Rattle.mono_bounds.specs.DueNodes.{PutsNodes}
 use Rattle.mono_theory.proofs.sure_rows.put_due.Given as goal
 
 abbrev pub invariant-loop-change : goal.invariant-loop-change

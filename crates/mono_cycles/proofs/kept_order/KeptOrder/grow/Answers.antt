@@ -1,5 +1,5 @@
 use Rattle.std.proofs.Common.{◌≡◌, ◌∙◌, ◌<◌, ◌++◌, [], ℕ, List, Bool, false, length, take, drop, get_or, sym, ap, subst, arith}
-use Rattle.std.specs.Prelude.{IsTrue, vec_capacity}
+use Rattle.std.specs.Prelude.{IsTrue}
 use Rattle.std.proofs.lemmas.List.{get_or_read, take_at}
 use Rattle.mono_graph.specs.Digraph.{has}
 use Rattle.mono_graph.specs.declared.edge.Edge.{Edge}
@@ -9,14 +9,14 @@ use Rattle.mono_cycles.specs.Behind.{IsClosed}
 use Rattle.mono_graph.specs.Cycles.{is_order}
 use Rattle.mono_cycles.specs.Kept.{Kept}
 use Rattle.mono_cycles.proofs.Found.{continues_has}
-use Rattle.mono_cycles.proofs.Grown.{IsMended, order_stays, order_mended, rank_known, kept_arranged, kept_at, one_not}
+use Rattle.mono_cycles.proofs.Grown.{IsMended, order_stays, order_mended, rank_known, ranked_arranged, ranked_at, one_not}
 use Rattle.mono_cycles.proofs.kept_order.KeptOrder.grow.Goals as goal
 
 pub returns-then-high-low-clause-order : goal.returns-then-high-low-clause-order
 returns-then-high-low-clause-order c =
     let g = c.args.graph.now in
     let o = c.self.inside in
-    let k = c.self.invariant in
+    let k = c.self.invariant.ranked in
     let e = c.edge-edge.result in
     let view : o.order.items ≡ c.args.self.now.order = ap (λ (v : Kept). v.order) c.self.view_is in
     let size : length o.order.items ≡ g.nodes = ap (λ (ks : List ℕ). length ks) view ∙ c.requires.size in
@@ -34,7 +34,7 @@ pub arrange-requires-clause-high : goal.arrange-requires-clause-high
 arrange-requires-clause-high c =
     let g = c.args.graph.now in
     let o = c.self.inside in
-    let k = c.self.invariant in
+    let k = c.self.invariant.ranked in
     let e = c.edge-edge.result in
     let view : o.order.items ≡ c.args.self.now.order = ap (λ (v : Kept). v.order) c.self.view_is in
     let size : length o.order.items ≡ g.nodes = ap (λ (ks : List ℕ). length ks) view ∙ c.requires.size in
@@ -48,7 +48,7 @@ pub invariant_of-self-in-None : goal.invariant_of-self-in-None
 invariant_of-self-in-None c =
     let g = c.args.graph.now in
     let o = c.self.inside in
-    let k = c.self.invariant in
+    let k = c.self.invariant.ranked in
     let e = c.edge-edge.result in
     let s = c.search-found.new.self in
     let found = c.in-None.ensures in
@@ -62,18 +62,27 @@ invariant_of-self-in-None c =
     let f = c.forget-in-None.new.self in
     let ranks-len : length c.arrange.new.ranks ≡ o.ranks.len = c.arrange.auto.ranks ∙ c.deref_mut-in-None.ensures.len in
     let ranks-taken : take o.ranks.len (c.arrange.new.ranks ++ drop (length c.arrange.new.ranks) o.ranks.items) ≡ c.arrange.new.ranks = take_at c.arrange.new.ranks (drop (length c.arrange.new.ranks) o.ranks.items) o.ranks.len ranks-len in
-    kept_at c.arrange.new.order _ c.arrange.new.ranks _ f.marks.items f.onward.items (vec_capacity f.nodes) (vec_capacity c.arrange.new.buffer) (vec_capacity o.cycle) order-taken ranks-taken
-    (kept_arranged (is_marked s.marks.items) o.order.items o.ranks.items c.arrange.new.order c.arrange.new.ranks o.behind.marks.items f.marks.items o.behind.onward.items f.onward.items (vec_capacity o.behind.nodes) (vec_capacity o.buffer) (vec_capacity o.cycle)
-    (vec_capacity f.nodes) (vec_capacity c.arrange.new.buffer) c.index-low.result.now c.index-high.result.now k c.if-high-low.false order-is c.arrange.ensures.ranks
-    (c.arrange.auto.order ∙ ap (λ (ks : List ℕ). length ks) c.deref_mut.ensures.value) (c.arrange.auto.ranks ∙ ap (λ (ks : List ℕ). length ks) c.deref_mut-in-None.ensures.value)
-    (c.forget-in-None.ensures.len ∙ (found.behind.marks_len ∙ sym size)) (ap (λ (ks : List ℕ). length ks) c.forget-in-None.ensures.onward ∙ (found.behind.onward_len ∙ sym size)) c.forget-in-None.ensures.clear
-    (let room = found.room in let cap = c.forget-in-None.ensures.capacity in omega arith) c.arrange.ensures.capacity)
+    let same : length c.arrange.new.order ≡ length o.order.items = c.arrange.auto.order ∙ ap (λ (ks : List ℕ). length ks) c.deref_mut.ensures.value in
+    let nodes : length (take o.order.len (c.arrange.new.order ++ drop (length c.arrange.new.order) o.order.items)) ≡ g.nodes = ap (λ (ks : List ℕ). length ks) order-taken ∙ (same ∙ size) in
+    record {
+      ranked = ranked_at c.arrange.new.order _ c.arrange.new.ranks _ order-taken ranks-taken
+          (ranked_arranged (is_marked s.marks.items) o.order.items o.ranks.items c.arrange.new.order c.arrange.new.ranks c.index-low.result.now c.index-high.result.now k c.if-high-low.false order-is c.arrange.ensures.ranks
+          same (c.arrange.auto.ranks ∙ ap (λ (ks : List ℕ). length ks) c.deref_mut-in-None.ensures.value));
+      room = record {
+        marks_len = c.forget-in-None.ensures.len ∙ (found.behind.marks_len ∙ sym nodes);
+        onward_len = ap (λ (ks : List ℕ). length ks) c.forget-in-None.ensures.onward ∙ (found.behind.onward_len ∙ sym nodes);
+        clear = c.forget-in-None.ensures.clear;
+        found = let room = found.room in let capacity = c.forget-in-None.ensures.capacity in omega (arith, nodes);
+        buffer = let room = c.self.invariant.room.buffer in let capacity = c.arrange.ensures.capacity in omega (arith, nodes, size);
+        cycle = let room = c.self.invariant.room.cycle in omega (arith, nodes, size);
+      };
+    }
 
 pub returns-in-None-clause-order : goal.returns-in-None-clause-order
 returns-in-None-clause-order c =
     let g = c.args.graph.now in
     let o = c.self.inside in
-    let k = c.self.invariant in
+    let k = c.self.invariant.ranked in
     let e = c.edge-edge.result in
     let s = c.search-found.new.self in
     let found = c.in-None.ensures in

@@ -14,7 +14,7 @@ returns-in-Path-clause-evidence c =
     rw c.what_is_asked-asked.ensures
     (IfOk-weaker c.walk_evidence.result (λ e. e ≡ walk_evidence g ks) _
     (λ e is. subst (IsEvidence g P _) (sym is)
-    (walk_shows g P a.from a.to a.limit ks c.nodes.ensures.graph (rw c.in-Path.is at c.in_ok-places.ensures.known) (rw c.in-Path.is at c.in_ok-places.ensures.passes))) c.walk_evidence.ensures)
+    (walk_shows g P a.from a.to a.limit ks c.known.ensures.graph (rw c.in-Path.is at c.in_ok-places.ensures.known) (rw c.in-Path.is at c.in_ok-places.ensures.passes))) c.walk_evidence.ensures)
 
 pub least_labels-requires-clause-labels : goal.least_labels-requires-clause-labels
 least_labels-requires-clause-labels c = rw c.in-Labels.is at c.in_ok-places.ensures.known

@@ -52,8 +52,8 @@ returns-clause-decided_under c decided =
     let a : ℕ = c.place_of-place.result in
     let found : atom_of s.atoms c.args.atom ≡ Some (atom_at s.atoms a) = rw c.frame-frame.ensures at c.place_of-place.ensures.is in
     let held : a < length s.atoms = rw c.frame-frame.ensures at c.place_of-place.ensures.held in
-    let graph = rw c.frame-frame.ensures at c.graph.ensures.known in
-    let atoms = rw c.frame-frame.ensures at c.graph.ensures.atoms in
+    let graph = rw c.frame-frame.ensures at c.known.ensures.graph in
+    let atoms = rw c.frame-frame.ensures at c.known.ensures.atoms in
     let low = subst (λ (b : Bool). IsEitherRight is_distance b true AreSureLabels shows_last (facts_in s) s.surely) c.surely-surely.ensures.sign c.surely-surely.ensures.right in
     let read : c.under_by.result ≡ under_in s.surely a (atom_at s.atoms a).predicate c.args.node = rw (c.frame-frame.ensures, c.surely-surely.ensures.value) at c.under_by.ensures.value in
     subst (λ (o : Option Atom). MatchOption o ⊥ (λ y. c.args.node ≡ last_node y.predicate → Decides s.graph (under s.graph s.seen) y.predicate (is_some c.under_by.result))) (sym found)

@@ -16,7 +16,7 @@ later c = subst (λ (t : Costs). IsLater c.args.stamp t c.relax_from.new.self.ta
 least : (c : goal.In-Ok) → (u : ℕ) (P : List Bool) → AreLeast c.args.graph.now P c.args.self.now.limit u c.args.self.now.cap c.args.self.now.labels → IsGrown P c.args.part.now c.args.places.now
     → AreLeast c.args.graph.now c.args.part.now c.args.self.now.limit u c.args.self.now.cap c.relax_from.new.self.table.labels
 least c u P l grown =
-    let ends : HasNodes c.args.graph.now = record { from = λ k lt. (c.nodes.ensures.graph.ends k no_edge lt).0 } in
+    let ends : HasNodes c.args.graph.now = record { from = λ k lt. (c.known.ensures.graph.ends k no_edge lt).0 } in
     least_relaxed c.args.graph.now P c.args.part.now u c.args.places.now c.args.self.now c.relax_from.new.self.table ends (later c).len grown
     (subst (λ (t : Costs). AreRelaxed c.args.graph.now c.args.part.now c.args.places.now [] t c.relax_from.new.self.table [] [] []) c.self.view_is c.in-Ok.ensures.relaxed) l
 

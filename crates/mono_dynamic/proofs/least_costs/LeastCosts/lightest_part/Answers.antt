@@ -12,5 +12,5 @@ returns c =
     let all : length c.args.self.now.changes ≤ c.loop-change.change-index =
     subst (λ (t : Costs). length t.changes ≤ c.loop-change.change-index) c.self.view_is (subst (λ (cs : List Change). length cs ≤ c.loop-change.change-index) c.changes-change-items.ensures.changes past) in
     let last = subst (λ (t : Costs). (v : ℕ) → v < length t.labels → (x : ℕ) × IsLast t.changes (length t.changes) v (label_of t.labels v) x) c.self.view_is c.changes-change-items.ensures.last in
-    lightest_found c.args.graph.now c.args.part.now c.loop-change.light c.args.source c.loop-change.change-index c.args.self.now (record { from = λ k lt. (c.nodes.ensures.graph.ends k no_edge lt).0 }) c.requires.from
+    lightest_found c.args.graph.now c.args.part.now c.loop-change.light c.args.source c.loop-change.change-index c.args.self.now (record { from = λ k lt. (c.known.ensures.graph.ends k no_edge lt).0 }) c.requires.from
     last all inv.len inv.only inv.source inv.each

@@ -25,7 +25,7 @@ returns-clause-least c =
     let first : now.labels ≡ set (replicate c.args.graph.now.nodes now.cap) c.args.source 0 =
     ap (λ (s : Costs). s.labels) undone ∙ (c.requires.from.first ∙ ap (λ (n : ℕ). set (replicate c.args.graph.now.nodes n) c.args.source 0) (sym (ap (λ (s : Costs). s.cap) undone))) in
     let least : AreLeast c.args.graph.now c.args.part.now now.limit c.args.source now.cap c.relax_from.new.self.table.labels =
-    least_anew c.args.graph.now c.args.part.now c.args.source 0 now c.relax_from.new.self.table (record { from = λ k lt. (c.nodes.ensures.graph.ends k no_edge lt).0 }) c.requires.from.inside first c.in_ok-relax_from.ensures.later
+    least_anew c.args.graph.now c.args.part.now c.args.source 0 now c.relax_from.new.self.table (record { from = λ k lt. (c.known.ensures.graph.ends k no_edge lt).0 }) c.requires.from.inside first c.in_ok-relax_from.ensures.later
     (subst (λ (ks : List ℕ). AreRelaxed c.args.graph.now c.args.part.now ks [] now c.relax_from.new.self.table [] [] []) c.leaving.ensures.places c.in_ok-relax_from.ensures.relaxed) in
     subst (λ (l : Limit). AreLeast c.args.graph.now c.args.part.now l c.args.source t.cap c.relax_from.new.self.table.labels) (ap (λ (s : Costs). s.limit) undone)
     (subst (λ (n : ℕ). AreLeast c.args.graph.now c.args.part.now now.limit c.args.source n c.relax_from.new.self.table.labels) (ap (λ (s : Costs). s.cap) undone) least)

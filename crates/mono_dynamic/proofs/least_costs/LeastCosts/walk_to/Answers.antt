@@ -17,9 +17,8 @@ returns c =
     let last : ℕ = c.given_after-given.result.last in
     let walk : List ℕ = c.in_ok-walk.walk.items in
     let node : c.args.node < length now.labels = subst (λ (t : Costs). c.args.node < length t.labels) (sym c.self.view_is) c.requires.node in
-    let below : label_of (labels_after c.args.kept now) c.args.node < now.cap = subst (λ (t : Costs). label_of (labels_after c.args.kept t) c.args.node < t.cap) (sym c.self.view_is) c.requires.below in
     let way = subst (λ (xs : List Change). (g : Digraph) (P : List Bool) (limit : Limit) (u : ℕ) → ((i : ℕ) → i < last → IsLed g P limit u xs i) → IsTrue (is_walk g P u (node_by u xs last) walk) × (cost_along limit g walk ≡ label_by xs last))
     c.changes.ensures.changes c.in_ok-walk.ensures in
-    subst (λ (t : Costs). (g : Digraph) (parts : ℕ → List Bool) (n u : ℕ) → c.args.kept ≤ n → AreLeastAlong g parts n u t → IsTrue (is_walk g (parts c.args.kept) u c.args.node walk) × (cost_along t.limit g walk ≡ label_of (labels_after c.args.kept t) c.args.node))
+    subst (λ (t : Costs). label_of (labels_after c.args.kept t) c.args.node < t.cap → (g : Digraph) (parts : ℕ → List Bool) (n u : ℕ) → c.args.kept ≤ n → AreLeastAlong g parts n u t → IsTrue (is_walk g (parts c.args.kept) u c.args.node walk) × (cost_along t.limit g walk ≡ label_of (labels_after c.args.kept t) c.args.node))
     c.self.view_is
-    (λ g parts n u le r. walk_of_given g parts n u c.args.kept c.args.node c.given_after-given.result.label last now walk c.changes.ensures.ordered.rising node below c.given_after-given.ensures way le r)
+    (λ below g parts n u le r. walk_of_given g parts n u c.args.kept c.args.node c.given_after-given.result.label last now walk c.changes.ensures.ordered.rising node below c.given_after-given.ensures way le r)

@@ -17,7 +17,7 @@ returns-in-Flow-clause-evidence c =
     let amounts = c.in-Flow.amounts in
     IfOk-weaker c.flow_evidence.result (λ e. e ≡ flow_evidence g amounts.items) _
     (λ e is. subst (IsEvidence g P _) (sym is)
-    (flow_shows g P c.args.source c.args.sink c.args.least amounts.items c.nodes.ensures.graph (rw c.in-Flow.is at c.in_ok-found.ensures.known) (rw c.in-Flow.is at c.in_ok-found.ensures.small)
+    (flow_shows g P c.args.source c.args.sink c.args.least amounts.items c.known.ensures.graph (rw c.in-Flow.is at c.in_ok-found.ensures.known) (rw c.in-Flow.is at c.in_ok-found.ensures.small)
     (subst (λ (z : ℤ). Passes g P c.args.source c.args.sink z (found.Flow amounts)) kept (rw c.in-Flow.is at c.in_ok-found.ensures.passes)))) (rw c.as_slice.ensures.value at c.flow_evidence.ensures)
 
 pub returns-in-Cut-clause-evidence : goal.returns-in-Cut-clause-evidence

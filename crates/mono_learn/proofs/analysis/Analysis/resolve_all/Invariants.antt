@@ -1,5 +1,5 @@
 use Rattle.std.proofs.Common.{◌≡◌, ◌≤◌, length}
-use Rattle.mono_trail.specs.TrailView.{IsSound}
+use Rattle.mono_trail.specs.TrailView.{IsSoundTrail}
 use Rattle.mono_steps.specs.Steps.{clauses_after}
 use Rattle.mono_learn.specs.Asked.{AsksFor}
 use Rattle.mono_learn.specs.Reasons.{HasReasons}
@@ -11,7 +11,7 @@ invariant-loop-place g l = record {
   start : l.self.start ≡ l.fn.self.start;
   by : l.by ≡ l.fn.by;
   asks : AsksFor l.problem l.fn.trail l.fn.journal l.trail l.journal;
-  sound : IsSound l.trail;
+  sound : IsSoundTrail l.trail;
   reasons : HasReasons l.problem (clauses_after l.problem l.journal) (g.E.Explainer.shown l.fn.by) l.trail;
   come : HasCome (clauses_after l.problem l.journal) l.trail.lits l.self.start l.place l.self.resolvent l.self.used.items;
   within : l.place ≤ length l.trail.lits;

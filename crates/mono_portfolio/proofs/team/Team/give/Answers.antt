@@ -7,7 +7,7 @@ use Rattle.mono_portfolio.specs.declared.event.Reply.TheVariants as reply
 use Rattle.mono_portfolio.specs.Moved.{moved_step, moved}
 use Rattle.mono_portfolio.specs.TeamView.{TeamView}
 use Rattle.mono_portfolio.specs.Plays.{Answers}
-use Rattle.mono_portfolio.specs.Workers.{WorkerState, IsKept, shown_team, IsKeptTeam}
+use Rattle.mono_portfolio.specs.Workers.{WorkerState, IsKeptWorker, shown_team, IsKeptTeam}
 use Rattle.mono_portfolio.proofs.Carried.{moved_justified}
 use Rattle.mono_portfolio.proofs.Kept.{kept_makes, team_gives, give_answers, kept_names}
 use Rattle.mono_portfolio.proofs.team.Team.give.Goals as goal
@@ -20,7 +20,7 @@ moved_steps-requires-clause-names c =
     let x = c.index-giver.result.now in
     let lt : c.args.worker < length c.self.inside.workers.items = omega arith in
     let is : x ≡ get_or c.self.inside.workers.items c.args.worker x = get_or_read c.self.inside.workers.items c.args.worker x lt c.index-giver.ensures x in
-    let kept : IsKept p b x = subst (λ (y : WorkerState). IsKept p b y) (sym is) (c.self.invariant.workers c.args.worker x lt) in
+    let kept : IsKeptWorker p b x = subst (λ (y : WorkerState). IsKeptWorker p b y) (sym is) (c.self.invariant.workers c.args.worker x lt) in
     kept_names p b x c.from-count.result c.taken.result.now c.made-2.result.now kept (c.from-count.ensures ∙ c.clause_count.ensures) c.taken.ensures c.made-2.ensures
 
 there : (c : After-drop-steps-2) → c.args.worker < length c.self.inside.workers.items
@@ -61,8 +61,8 @@ invariant_of-self-2 c =
     let b = e.self.inside.board.items in
     let xs = e.self.inside.workers.items in
     let x = e.index_mut.result.now in
-    let kept : IsKept p b x = subst (λ (y : WorkerState). IsKept p b y) (sym (changed_is e)) (e.self.invariant.workers e.args.worker x (there e)) in
-    let y : IsKept p b e.clear_made.new.self = subst (λ (z : WorkerState). IsKept p b z) (sym e.clear_made.ensures) (kept_makes p b x [] kept refl) in
+    let kept : IsKeptWorker p b x = subst (λ (y : WorkerState). IsKeptWorker p b y) (sym (changed_is e)) (e.self.invariant.workers e.args.worker x (there e)) in
+    let y : IsKeptWorker p b e.clear_made.new.self = subst (λ (z : WorkerState). IsKeptWorker p b z) (sym e.clear_made.ensures) (kept_makes p b x [] kept refl) in
     let joined = moved_justified p b x.taken x.made e.self.invariant.justified kept.worker.held kept.worker.justified in
     let o = e.self.inside.built in
     let same : e.clear_made.new.self.taken ≡ x.taken = ap (λ (z : WorkerState). z.taken) e.clear_made.ensures in

@@ -9,7 +9,7 @@ pub invariant_of-result : goal.invariant_of-result
 invariant_of-result c =
     let p = c.args.problem.now in
     subst (λ (xs : List WorkerState). IsKeptTeam p c.new-board.result.items xs None) (sym c.in_ok-idle.ensures)
-    (subst (λ (ss : List Step). IsKeptTeam p ss (replicate c.args.workers (idle_over p)) None) (sym c.new-board.ensures.items) (team_new p c.args.workers c.vars.ensures.problem))
+    (subst (λ (ss : List Step). IsKeptTeam p ss (replicate c.args.workers (idle_over p)) None) (sym c.new-board.ensures.items) (team_new p c.args.workers c.known.ensures.problem))
 
 pub returns : goal.returns
 returns c =

@@ -9,7 +9,7 @@ use Rattle.mono_portfolio.specs.Extended.{extended as extended_by, has_chain, pa
 use Rattle.mono_portfolio.specs.Plays.{Answers}
 use Rattle.mono_portfolio.specs.TeamView.{TeamView}
 use Rattle.mono_portfolio.specs.declared.building.Built.{Built}
-use Rattle.mono_portfolio.specs.Workers.{WorkerState, IsKept, shown, shown_team, IsKeptTeam}
+use Rattle.mono_portfolio.specs.Workers.{WorkerState, IsKeptWorker, shown, shown_team, IsKeptTeam}
 use Rattle.mono_portfolio.proofs.Kept.{on_error, team_sets, team_takes, unchanged, take_answers, already_taken, full}
 use Rattle.mono_portfolio.proofs.team.Team.take.Goals as goal
 
@@ -19,8 +19,8 @@ is_full-requires-clause-kept c =
     let b = c.self.inside.board.items in
     let x = c.index-taker.result.now in
     let there : c.args.worker < length c.self.inside.workers.items = omega arith in
-    let kept : IsKept p b x = subst (λ (y : WorkerState). IsKept p b y) (sym c.index-taker.ensures) (c.self.invariant.workers c.args.worker x there) in
-    subst (λ (ss : List Step). IsKept p ss x) (sym c.as_slice-board.ensures.value) kept
+    let kept : IsKeptWorker p b x = subst (λ (y : WorkerState). IsKeptWorker p b y) (sym c.index-taker.ensures) (c.self.invariant.workers c.args.worker x there) in
+    subst (λ (ss : List Step). IsKeptWorker p ss x) (sym c.as_slice-board.ensures.value) kept
 
 pub is_full-requires-clause-held : goal.is_full-requires-clause-held
 is_full-requires-clause-held c = sym c.has_chain.ensures ∙ c.if-not-has_chain.false
@@ -31,8 +31,8 @@ take-requires-clause-kept c =
     let b = c.self.inside.board.items in
     let x = c.index_mut.result.now in
     let there : c.args.worker < length c.self.inside.workers.items = omega arith in
-    let kept : IsKept p b x = subst (λ (y : WorkerState). IsKept p b y) (sym c.index_mut.ensures.value) (c.self.invariant.workers c.args.worker x there) in
-    subst (λ (ss : List Step). IsKept p ss x) (sym c.as_slice-board.ensures.value) kept
+    let kept : IsKeptWorker p b x = subst (λ (y : WorkerState). IsKeptWorker p b y) (sym c.index_mut.ensures.value) (c.self.invariant.workers c.args.worker x there) in
+    subst (λ (ss : List Step). IsKeptWorker p ss x) (sym c.as_slice-board.ensures.value) kept
 
 pub take-requires-clause-held : goal.take-requires-clause-held
 take-requires-clause-held c = sym c.has_chain.ensures ∙ c.if-not-has_chain.false
@@ -73,7 +73,7 @@ invariant_of-self c =
     let y = c.take.new.self in
     let same : y.taken ≡ c.index_mut.result.now.taken = ap (λ (z : WorkerState). z.taken) c.in_err-take.ensures.err in
     team_sets p c.self.inside.board.items c.self.inside.workers.items c.self.inside.built c.args.worker c.index_mut.result.now y c.self.invariant c.index_mut.ensures.value
-    (subst (λ (ss : List Step). IsKept p ss y) c.as_slice-board.ensures.value c.take.ensures.kept) same
+    (subst (λ (ss : List Step). IsKeptWorker p ss y) c.as_slice-board.ensures.value c.take.ensures.kept) same
 
 pub invariant_of-self-2 : goal.invariant_of-self-2
 invariant_of-self-2 c =
@@ -82,7 +82,7 @@ invariant_of-self-2 c =
     let xs = c.self.inside.workers.items in
     let y = c.take.new.self in
     subst (λ (r : Option Built). IsKeptTeam p b (set xs c.args.worker y) r) (sym c.drop_built_of.ensures)
-    (team_takes p b xs c.self.inside.built c.args.worker y c.self.invariant (subst (λ (ss : List Step). IsKept p ss y) c.as_slice-board.ensures.value c.take.ensures.kept))
+    (team_takes p b xs c.self.inside.built c.args.worker y c.self.invariant (subst (λ (ss : List Step). IsKeptWorker p ss y) c.as_slice-board.ensures.value c.take.ensures.kept))
 
 pub returns-in_err-take-clause-err : goal.returns-in_err-take-clause-err
 returns-in_err-take-clause-err c =

@@ -1,6 +1,6 @@
 use Rattle.std.proofs.Common.{◌≡◌, ◌+◌, ◌++◌, ◌∷◌, [], ◌∙◌, ap, refl, sym, subst, arith, ℕ, ℤ, length, List}
 use Rattle.mono_portfolio.specs.Extended.{extended as extended_by, board_clause}
-use Rattle.mono_portfolio.specs.Workers.{WorkerState, shown, IsKept}
+use Rattle.mono_portfolio.specs.Workers.{WorkerState, shown, IsKeptWorker}
 use Rattle.mono_portfolio.specs.TeamView.{WorkerView}
 use Rattle.mono_portfolio.proofs.ExtendedLaws.{within_limits}
 use Rattle.mono_portfolio.proofs.Kept.{taken_is, kept_takes}
@@ -27,7 +27,7 @@ returns-clause-kept c =
     let literals : ℕ = c.self.inside.literals + length c.clause_of.result.now in
     let t : c.add_number.new.taken.keys ≡ x.taken ++ n ∷ [] = c.in_ok-add_number.ensures.ok ∙ ap (λ (y : WorkerState). y.taken ++ n ∷ []) c.self.view_is in
     let l : literals ≡ x.literals + length (board_clause p b n) = omega (arith, ap (λ (y : WorkerState). y.literals) c.self.view_is, ap (λ (ls : List ℤ). length ls) c.clause_of.ensures) in
-    subst (λ (y : WorkerState). IsKept p b y) (sym (c.clear_made.ensures ∙ taken_is p b x n literals c.add_number.new.taken.keys [] t refl l)) (kept_takes p b x n c.requires.kept c.requires.held c.requires.fits)
+    subst (λ (y : WorkerState). IsKeptWorker p b y) (sym (c.clear_made.ensures ∙ taken_is p b x n literals c.add_number.new.taken.keys [] t refl l)) (kept_takes p b x n c.requires.kept c.requires.held c.requires.fits)
 
 pub returns-clause-ok : goal.returns-clause-ok
 returns-clause-ok c =

@@ -13,7 +13,7 @@ returns-in-Path-clause-evidence c =
     rw c.in-Reach.is
     (IfOk-weaker c.walk_evidence.result (λ e. e ≡ walk_evidence g ks) _
     (λ e is. subst (IsEvidence g P _) (sym is)
-    (walk_shows g P c.in-Reach.from c.in-Reach.to ks c.nodes.ensures.graph (rw c.in-Path.is at c.in_ok-places.ensures.known) (rw c.in-Path.is at c.in_ok-places.ensures.passes))) c.walk_evidence.ensures)
+    (walk_shows g P c.in-Reach.from c.in-Reach.to ks c.known.ensures.graph (rw c.in-Path.is at c.in_ok-places.ensures.known) (rw c.in-Path.is at c.in_ok-places.ensures.passes))) c.walk_evidence.ensures)
 
 pub least_cut-requires-clause-nodes : goal.least_cut-requires-clause-nodes
 least_cut-requires-clause-nodes c = rw c.in-Cut.is at c.in_ok-places.ensures.known

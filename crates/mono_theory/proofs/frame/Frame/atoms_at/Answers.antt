@@ -1,5 +1,5 @@
 use Rattle.std.proofs.Common.{arith}
-use Rattle.mono_theory.proofs.SpansStay.{seen_fits, seen_places}
+use Rattle.mono_bounds.proofs.SpansStay.{seen_fits, seen_places}
 use Rattle.mono_theory.proofs.frame.Frame.atoms_at.Goals as goal
 
 pub places-requires-clause-at : goal.places-requires-clause-at

@@ -1,7 +1,7 @@
 use Rattle.std.proofs.Common.{◌≤◌, length}
-use Rattle.mono_theory.proofs.BoundsStay.{by_own_vars}
+use Rattle.mono_bounds.proofs.BoundsStay.{by_own_vars}
 use Rattle.mono_theory.proofs.FramesStay.{IsFrame-take}
-use Rattle.mono_theory.proofs.SpansStay.{seen_cut}
+use Rattle.mono_bounds.proofs.SpansStay.{seen_cut}
 use Rattle.mono_theory.proofs.frame.Frame.undo_to.Goals as goal
 
 pub undo_to-requires-clause-kept : goal.undo_to-requires-clause-kept

@@ -2,8 +2,8 @@ use Rattle.std.proofs.Common.{◌≡◌, ◌<◌, ◌-◌, ℕ, List, ℤ, not, 
 use Rattle.std.specs.Prelude.{IsTrue}
 use Rattle.std.proofs.lemmas.List.{get_or_default}
 use Rattle.mono_base.specs.Literal.{is_lit}
-use Rattle.mono_theory.specs.Bound.{edge_vars}
-use Rattle.mono_theory.specs.Index.{ArePlacesOf}
+use Rattle.mono_bounds.specs.Bound.{edge_vars}
+use Rattle.mono_bounds.specs.Index.{ArePlacesOf}
 use Rattle.mono_theory.specs.Supports.{SideView}
 use Rattle.mono_theory.specs.Theories.{Facts, but_last, last_seen}
 use Rattle.mono_theory.proofs.FramesStay.{lit_by}

@@ -21,7 +21,7 @@ returns-clause-looked g c =
     let n = c.args.looked in
     let h = targets_in f n (omega (arith, c.requires.more)) (rw (← c.self.view_is) at c.requires.right) in
     let ks = c.edges_at.result.now in
-    let its = next_of f n c.args.lit ks c.requires.more c.requires.next c.seen.ensures.partial c.edges_at.ensures in
+    let its = next_of f n c.args.lit ks c.requires.more c.requires.next c.known.ensures.partial c.edges_at.ensures in
     let shrunk = possible_shrunk f n c.args.lit ks c.requires.more c.requires.next (λ k lt e. all_places f.graph _ ks _ k refl its.places lt e) in
     targets_cut f (n + 1) (omega (arith, c.requires.more)) (rows_shrunk n ks c.shrink.new.self c.shrink.ensures.nodes (rw c.graph.ensures.graph at c.shrink.ensures.rows) shrunk h)
 

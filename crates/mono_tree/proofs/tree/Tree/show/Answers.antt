@@ -16,7 +16,7 @@ returns-in-Tree-clause-evidence c =
     let ks = c.in-Tree.places in
     IfOk-weaker c.tree_evidence.result (λ e. e ≡ tree_evidence g ks.items) _
     (λ e is. subst (IsEvidence g P _) (sym is)
-    (tree_shows g P c.args.most ks.items c.nodes.ensures.graph (rw c.in-Tree.is at c.in_ok-places.ensures.known)
+    (tree_shows g P c.args.most ks.items c.known.ensures.graph (rw c.in-Tree.is at c.in_ok-places.ensures.known)
     (subst (λ (z : ℤ). Passes g P z (found.Tree ks)) kept (rw c.in-Tree.is at c.in_ok-places.ensures.passes)))) c.tree_evidence.ensures
 
 pub returns-in-Split-clause-evidence : goal.returns-in-Split-clause-evidence
@@ -37,5 +37,5 @@ returns-in-Least-clause-evidence c =
     let kept : to_z w64 (of_z w64 c.args.most) ≡ c.args.most = to_z-of_z w64 c.args.most c.ranges.most in
     let ks = c.in-Least.places in
     IfOk-weaker c.least_evidence.result (IsLeastEvidence g P ks.items) _
-    (λ e is. least_shows g P c.args.most ks.items e c.nodes.ensures.graph (rw c.in-Least.is at c.in_ok-places.ensures.known)
+    (λ e is. least_shows g P c.args.most ks.items e c.known.ensures.graph (rw c.in-Least.is at c.in_ok-places.ensures.known)
     (subst (λ (z : ℤ). Passes g P z (found.Least ks)) kept (rw c.in-Least.is at c.in_ok-places.ensures.passes)) is) (rw c.as_slice.ensures.value at c.least_evidence.ensures.evidence)

@@ -1,0 +1,5 @@
+pub mod Entries
+pub mod Index
+pub mod Bound
+pub mod SeenBounds
+pub mod DueNodes

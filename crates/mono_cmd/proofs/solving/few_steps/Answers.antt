@@ -1,6 +1,0 @@
-use Rattle.std.proofs.Common.{◌<◌, ◌^◌, List, length, sym, subst, arith}
-use Rattle.mono_steps.specs.declared.step.Step.{Step}
-use Rattle.mono_cmd.proofs.solving.few_steps.Goals as goal
-
-pub returns-clause-few : goal.returns-clause-few
-returns-clause-few c = subst (λ (steps : List Step). length steps < 2 ^ 63) (sym c.from_vec.ensures) (omega (arith, c.into_vec.result.small))

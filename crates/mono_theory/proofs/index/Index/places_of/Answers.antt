@@ -1,7 +1,0 @@
-use Rattle.mono_theory.proofs.index.Index.places_of.Goals as goal
-
-pub places_at-requires : goal.places_at-requires
-places_at-requires c = c.find.ensures.fits
-
-pub returns : goal.returns
-returns c = rw c.places_at.ensures.places c.find.ensures.places
