@@ -230,10 +230,10 @@ class Copy:
             self.src.append(name)
             self.at[f"{CRATE}::{name}::{row.name}"] = (plant, row)
             self.put(f"src/{name}.rt", f"//! Rows.\n\n{moved(needed_head(row))}\n\n{row.full_text()}")
-            for one in (*row.called, row):
-                for file, answers in one.answers(self.tree.root).items():
+            for met in (*row.called, row):
+                for file, answers in met.answers(self.tree.root).items():
                     own = answers.replace(f"Rattle.{row.crate}.proofs.{row.module}.", f"Rattle.{CRATE}.proofs.{name}.")
-                    self.put(f"proofs/{name}/{one.name}/{file}", moved(own))
+                    self.put(f"proofs/{name}/{met.name}/{file}", moved(own))
 
     def finish(self) -> None:
         """Writes what names the modules, and copies the crates below with what is proved of them."""
