@@ -64,6 +64,11 @@ def need(crate: str) -> int:
     return MOST if cost(crate) >= DEAR else USUAL
 
 
+def jobs_within(memory: int, first: int) -> int:
+    """How many jobs a proof may have, of which the first takes so much memory, and each further one 0.6 of it."""
+    return max(1, min(MOST_JOBS, 1 + int((memory / first - 1) / 0.6)))
+
+
 def listed() -> dict[str, list[str]]:
     """The crates that the program stands on, and it, each with the crates directly below it."""
     lines = (line.partition("#")[0].partition(":") for line in (TOP / "crates.txt").read_text().splitlines())
@@ -178,7 +183,7 @@ class Build:
             if not self.copies.idle or idle < 1 or (self.running and room < need(name)):
                 return
             jobs = max(idle // (len(ready) - place), 2 if place == 0 and self.waits_for(name) else 1)
-            self.start(name, max(1, min(MOST_JOBS, idle, jobs, 1 + int((room / need(name) - 1) / 0.6))))
+            self.start(name, min(idle, jobs, jobs_within(room, need(name))))
 
     def waits_for(self, name: str) -> bool:
         """Whether the chain above a library, and not the number of processors, says how long the rest takes."""
@@ -205,8 +210,11 @@ class Build:
             self.memory -= MOST * again
             return again
         self.done.append(name)
-        self.spent += time.monotonic() - began
-        self.planned += cost(name)
+        took = time.monotonic() - began
+        # A library that was there takes seconds, and tells nothing of the speed.
+        if took > cost(name) / 5:
+            self.spent += took
+            self.planned += cost(name)
         self.copies.share(name, copy)
         self.tell(name, began)
         return True
@@ -221,7 +229,8 @@ class Build:
         """Seconds that the rest may take, at the speed so far: its longest chain, or its share of each processor."""
         rest = [name for name in self.crates if name not in self.done]
         chain = max((self.above[name] for name in rest), default=0)
-        return max(chain, sum(map(cost, rest)) / len(self.copies.every)) * self.spent / max(self.planned, 1)
+        speed = self.spent / self.planned if self.planned else 1
+        return max(chain, sum(map(cost, rest)) / len(self.copies.every)) * speed
 
     def libraries(self) -> str | None:
         """Builds the libraries: the name of one that failed, or None."""
@@ -238,7 +247,10 @@ class Build:
         """Proves, compiles, links and runs the program in the checkout; without words it ends with its usage line."""
         say(f"{PROGRAM}, the program, comes last (about {self.left() / 60:.0f} min)")
         folder, null = TOP / "crates" / PROGRAM, subprocess.DEVNULL
-        child = subprocess.Popen(["rt", "run"], cwd=folder, stdin=null, stdout=self.log, stderr=self.log)
+        # `rt` itself gives a crate over so many libraries one job.
+        jobs = min(self.processors, jobs_within(self.memory, need(PROGRAM)))
+        words = ["rt", "run", "--jobs", str(jobs)]
+        child = subprocess.Popen(words, cwd=folder, stdin=null, stdout=self.log, stderr=self.log)
         self.running[child] = PROGRAM, folder, 1, time.monotonic()
         child.wait()
 
