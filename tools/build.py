@@ -64,7 +64,7 @@ def need(crate: str) -> int:
     return MOST if cost(crate) >= DEAR else USUAL
 
 
-def jobs_within(memory: int, first: int) -> int:
+def jobs_within(memory: float, first: int) -> int:
     """How many jobs a proof may have, of which the first takes so much memory, and each further one 0.6 of it."""
     return max(1, min(MOST_JOBS, 1 + int((memory / first - 1) / 0.6)))
 
