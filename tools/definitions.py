@@ -108,7 +108,7 @@ class Tree:
         """Whether other crates can name the module."""
         crate, part, name = module
         lib = self.root / "crates" / crate / part / "Lib.antt"
-        return not crate.endswith("_tests") and f"pub mod {name}\n" in lib.read_text()
+        return not crate.endswith("_rows") and f"pub mod {name}\n" in lib.read_text()
 
 
 def distances(names: set[Name], steps: dict[Name, set[Name]]) -> dict[Name, int]:
@@ -179,9 +179,14 @@ def without_parameters(head: str) -> str:
 def changes(name: Name, block: str) -> list[Change]:
     """Changes of a definition's meaning, one at a time, the grossest first."""
     found = _fields(name, block) if RECORD.match(block) else _cases(name, block)
-    own = without_remarks(block)
+    own = meaning(block)
     every = [*found, *_comparisons(name, block), *_exchanges(name, block)]
-    return sorted((one for one in every if without_remarks(one.block) != own), key=lambda one: one.rank)
+    return sorted((one for one in every if meaning(one.block) != own), key=lambda one: one.rank)
+
+
+def meaning(block: str) -> str:
+    """A definition without its remarks. That nothing is said can be written in two ways."""
+    return without_remarks(block).replace("Unit {0}", "Unit")
 
 
 def _fields(name: Name, block: str) -> Iterator[Change]:

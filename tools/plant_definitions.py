@@ -6,7 +6,7 @@ For each definition of a crate that a public contract cites, or that what it cit
 its first premise false; a case says nothing, or can't be met; `<` stands for `≤` and the other way about; two arguments
 of one type are exchanged. The grossest changes come first, and those of what contracts cite themselves.
 
-The rows that reach a definition, from `worked` modules and crates of tests, are copied over the changed one, many
+The rows that reach a definition, from `worked` modules and crates of rows, are copied over the changed one, many
 changes in one check, first a row of each, then two at a time: a change that a row refuses needs no more. With --proofs,
 each change that no row refuses is put into a copy of its own crate, and the crate is checked.
 

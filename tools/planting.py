@@ -133,7 +133,7 @@ def label(row: Row) -> str:
 
 
 def rows_of(tree: Tree) -> Iterator[Row]:
-    """The rows of a repository: functions of crates of tests, of `worked` modules, and of that name, that call at most
+    """The rows of a repository: functions of crates of rows, of `worked` modules, and of that name, that call at most
     other rows of their file."""
     for crate in tree.below:
         for path in sorted((tree.root / "crates" / crate / "src").glob("*.rt")):
@@ -144,7 +144,7 @@ def rows_of(tree: Tree) -> Iterator[Row]:
             calls = {found[2]: set(re.findall(r"\w+", found[3])) for found in ROW.finditer(text)}
             for name, row in rows.items():
                 below = called_by(name, calls)
-                if ("worked" in path.stem + name or crate.endswith("_tests")) and below <= rows.keys() - {name}:
+                if ("worked" in path.stem + name or crate.endswith("_rows")) and below <= rows.keys() - {name}:
                     yield replace(row, called=tuple(rows[other] for other in rows if other in below))
 
 
@@ -164,21 +164,24 @@ def nearest(tree: Tree, rows: list[Row], name: Name) -> list[tuple[int, Row]]:
 
 def rows_for(tree: Tree, near: list[tuple[int, Row]], change: Change, most: int) -> list[Row]:
     """So many of these rows, those that cite the changed definition itself with the clauses that matter."""
-    rows = (row if far else narrowed(row, change.sense, tree.root) for far, row in near[: 3 * most])
+    rows = (row if far else narrowed(row, change.sense, tree.root, change.name) for far, row in near[: 3 * most])
     return [row for row in rows if row][:most]
 
 
-def narrowed(row: Row, sense: int, root: Path) -> Row | None:
+def narrowed(row: Row, sense: int, root: Path, name: Name) -> Row | None:
     """The row with those of its clauses alone that a change in this sense may break, where each has a proof of its own.
 
-    A proof that something holds doesn't fit any more where a field of it is trivial: that is no refusal.
+    A proof that something holds doesn't fit any more where a field of it is trivial: that is no refusal. A clause in
+    which something follows from what is changed breaks as one that denies it does.
     """
     answers = "".join(row.answers(root).values())
     first, *clauses = re.split(r"(?m)^(?=    ensures |\{)", row.text)
     labels = [re.match(r"    ensures (\w+) \{", clause) for clause in clauses[:-1]]
     if not sense or not answers or "pub returns :" in answers or not all(labels):
         return row
-    kept = [clause for clause in clauses[:-1] if (DENIES.search(clause) is not None) == (sense > 0)]
+    words = [re.escape(word) for word, cited in imports(row.head, "ghost use").items() if cited == name]
+    premise = re.compile(rf"(?<![\w'-])(?:{'|'.join(words)})(?![\w'])[^→]*→") if words else DENIES
+    kept = [clause for clause in clauses[:-1] if bool(DENIES.search(clause) or premise.search(clause)) == (sense > 0)]
     dropped = frozenset(label[1] for label, clause in zip(labels, clauses) if label and clause not in kept)
     text = "".join([first, *kept, "    ensures nothing { Unit {0} }\n" if dropped else "", clauses[-1]])
     return replace(row, text=text, dropped=dropped) if kept else None
@@ -241,7 +244,7 @@ class Copy:
         self.put("proofs/Lib.antt", "".join(f"mod {name}\n" for name in sorted(self.mods["proofs"])))
         mods = "".join(f"/// Rows.\npub mod {name};\n" for name in self.src)
         self.put("src/lib.rt", f"//! Rows over changed definitions.\n#![tactic(auto)]\n\n{mods}")
-        crates = {crate for crate in self.needed if not crate.endswith("_tests")}
+        crates = {crate for crate in self.needed if not crate.endswith("_rows")}
         copy_crates(self.tree, self.folder.parent.parent, crates, CRATE)
 
     def check(self, command: list[str], seconds: float) -> str:

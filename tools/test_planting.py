@@ -16,7 +16,7 @@ from definitions import Tree, changes
 from planting import narrowed, rows_of
 
 FILES = {
-    "crates.txt": "low:\nrow_tests: low\n",
+    "crates.txt": "low:\nlow_rows: low\n",
     "crates/low/specs/Lib.antt": "pub mod Words\n",
     "crates/low/proofs/Lib.antt": "",
     "crates/low/specs/Words.antt": """-- Numbers.
@@ -39,9 +39,9 @@ pub fn one() -> u32
     1
 }
 """,
-    "crates/row_tests/specs/Lib.antt": "",
-    "crates/row_tests/proofs/Lib.antt": "",
-    "crates/row_tests/src/rows.rt": """//! Rows.
+    "crates/low_rows/specs/Lib.antt": "",
+    "crates/low_rows/proofs/Lib.antt": "",
+    "crates/low_rows/src/rows.rt": """//! Rows.
 
 ghost use Rattle.low.specs.Words.{IsSmall};
 
@@ -58,7 +58,7 @@ pub fn nine()
 """,
 }
 
-ANSWERS = """use Rattle.row_tests.proofs.rows.nine.Goals as goal
+ANSWERS = """use Rattle.low_rows.proofs.rows.nine.Goals as goal
 
 pub returns-clause-nine : goal.returns-clause-nine
 returns-clause-nine c = record { some = omega arith; low = omega arith }
@@ -160,6 +160,8 @@ class PlantingTest(unittest.TestCase):
         found = [change.block for change in changes(("low", "Words", "IsBoth"), block)]
         for other in ("Unit {0}", "⊥"):
             self.assertIn(f"abbrev pub IsBoth : ℕ → Type 0\nIsBoth n =\n    {other}\n\n-- next\n", found)
+        nothing = "abbrev pub IsBoth : ℕ → Type 0\nIsBoth n = Unit\n"
+        self.assertEqual([change.what for change in changes(("low", "Words", "IsBoth"), nothing)], ["IsBoth n is ⊥"])
         self.assertEqual(changes(("low", "Words", "Numbers"), "abbrev pub Numbers : Type 0\nNumbers = List ℕ\n"), [])
 
     def test_each_passes(self) -> None:
@@ -172,28 +174,29 @@ class PlantingTest(unittest.TestCase):
 
     def test_one_row_is_enough(self) -> None:
         self.assertEqual(self.run_tool("nine"), 0)
-        self.assertEqual({(line[0], line[3]) for line in self.lines()}, {("refused", "row_tests::rows::nine ten")})
+        self.assertEqual({(line[0], line[3]) for line in self.lines()}, {("refused", "low_rows::rows::nine ten")})
 
     def test_a_row_with_a_proof(self) -> None:
-        answers = self.root / "crates/row_tests/proofs/rows/nine/Answers.antt"
+        answers = self.root / "crates/low_rows/proofs/rows/nine/Answers.antt"
         answers.parent.mkdir(parents=True)
         answers.write_text(ANSWERS)
         row = next(row for row in rows_of(Tree(self.root)) if row.name == "nine")
+        name = ("low", "Words", "IsSmall")
         for sense, left, gone in ((1, "ten", "nine"), (-1, "nine", "ten")):
-            found = narrowed(row, sense, self.root)
+            found = narrowed(row, sense, self.root, name)
             assert found
             for text in (found.text, found.answers(self.root)["Answers.antt"]):
                 self.assertRegex(text, rf"\b{left}\b.*IsSmall|clause-{left} ")
                 self.assertNotRegex(text, rf"ensures {gone}\b|clause-{gone}\b")
-        self.assertEqual(narrowed(row, 0, self.root), row)
+        self.assertEqual(narrowed(row, 0, self.root, name), row)
         self.assertEqual(self.run_tool("nine"), 0)
-        self.assertEqual({(line[0], line[3]) for line in self.lines()}, {("answer", "row_tests::rows::nine")})
+        self.assertEqual({(line[0], line[3]) for line in self.lines()}, {("answer", "low_rows::rows::nine")})
         self.results.unlink()
         self.assertEqual(self.run_tool("refuses"), 0)
-        self.assertEqual({(line[0], line[3]) for line in self.lines()}, {("refused", "row_tests::rows::one ten")})
+        self.assertEqual({(line[0], line[3]) for line in self.lines()}, {("refused", "low_rows::rows::one ten")})
 
     def test_a_row_that_calls_another(self) -> None:
-        rows = self.root / "crates/row_tests/src/rows.rt"
+        rows = self.root / "crates/low_rows/src/rows.rt"
         more = "\n/// One is {0}.\npub fn {0}()\n    ensures {{ IsSmall 1 }}\n{{\n    {1}();\n}}\n"
         rows.write_text(rows.read_text() + more.format("small", "nine") + more.format("told", "tell"))
         found = {row.name: row for row in rows_of(Tree(self.root))}
@@ -204,21 +207,33 @@ class PlantingTest(unittest.TestCase):
         self.assertEqual(self.run_tool("refuses"), 0)
         self.assertEqual(self.verdicts(), ["refused"] * 4)
 
+    def test_what_follows_from_a_definition(self) -> None:
+        rows = self.root / "crates/low_rows/src/rows.rt"
+        rows.write_text(rows.read_text().replace("IsSmall 10 → ⊥", "(n : ℕ) → IsSmall n → n < 11"))
+        answers = self.root / "crates/low_rows/proofs/rows/nine/Answers.antt"
+        answers.parent.mkdir(parents=True)
+        answers.write_text(ANSWERS)
+        row = next(row for row in rows_of(Tree(self.root)) if row.name == "nine")
+        found = narrowed(row, 1, self.root, ("low", "Words", "IsSmall"))
+        assert found
+        self.assertIn("ensures ten", found.text)
+        self.assertNotIn("ensures nine", found.text)
+
     def test_a_proof_that_names_what_is_gone(self) -> None:
-        answers = self.root / "crates/row_tests/proofs/rows/nine/Answers.antt"
+        answers = self.root / "crates/low_rows/proofs/rows/nine/Answers.antt"
         answers.parent.mkdir(parents=True)
         answers.write_text(ANSWERS)
         self.assertEqual(self.run_tool("gone"), 0)
-        self.assertEqual({(line[0], line[3]) for line in self.lines()}, {("refused", "row_tests::rows::one ten")})
+        self.assertEqual({(line[0], line[3]) for line in self.lines()}, {("refused", "low_rows::rows::one ten")})
         self.results.unlink()
-        rows = self.root / "crates/row_tests/src/rows.rt"
+        rows = self.root / "crates/low_rows/src/rows.rt"
         rows.write_text(rows.read_text().replace("pub fn one()", "fn one()"))
         self.assertEqual(self.run_tool("gone"), 0)
-        self.assertEqual({(line[0], line[3]) for line in self.lines()}, {("unread", "row_tests::rows::nine")})
+        self.assertEqual({(line[0], line[3]) for line in self.lines()}, {("unread", "low_rows::rows::nine")})
 
     def test_a_search_that_finds_nothing(self) -> None:
         self.assertEqual(self.run_tool("lost"), 0)
-        self.assertEqual({(line[0], line[3]) for line in self.lines()}, {("answer", "row_tests::rows::one")})
+        self.assertEqual({(line[0], line[3]) for line in self.lines()}, {("answer", "low_rows::rows::one")})
 
     def test_what_breaks_off_is_no_refusal(self) -> None:
         for way in ("crashes", "silent", "unsure"):
@@ -257,7 +272,7 @@ class PlantingTest(unittest.TestCase):
         self.assertEqual({line[3] for line in self.lines()[4:]}, {"low::one"})
 
     def test_no_row(self) -> None:
-        (self.root / "crates/row_tests/src/rows.rt").write_text("//! None.\n")
+        (self.root / "crates/low_rows/src/rows.rt").write_text("//! None.\n")
         self.assertEqual(self.run_tool("holds"), 1)
         self.assertEqual((self.verdicts(), self.called()), (["no-row"] * 4, 0))
         self.assertEqual(self.run_tool("holds", "--proofs", crate_way="refuses"), 0)

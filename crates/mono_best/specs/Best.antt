@@ -1,10 +1,9 @@
 -- The best bound of an atom.
-use Rattle.std.specs.Prelude.{◌≡◌, ℕ, ◌+◌, ◌<◌, ◌≤◌, ◌-◌, ◌⊎◌, ℤ, pos, ◌≤ℤ◌, Bool, List, [], length, Option, Some, None, IsTrue}
+use Rattle.std.specs.Prelude.{◌≡◌, ℕ, ◌+◌, ◌<◌, ◌≤◌, ◌-◌, ◌⊎◌, ℤ, pos, ◌≤ℤ◌, Bool, List, Option, Some, None, IsTrue}
 use Rattle.mono_base.specs.declared.limits.TheConstants.{MAX_BOUND}
 use Rattle.mono_problem.specs.Instance.{Instance}
 use Rattle.mono_steps.specs.declared.step.Step.{Step}
 use Rattle.mono_search.specs.Outcomes.{HasModel}
-use Rattle.mono_search.specs.Signs.{AreSigns}
 use Rattle.mono_steps.specs.Trimmed.{IsTrimRefutation}
 use Rattle.mono_steps.specs.New.{IsProgress}
 use Rattle.mono_best.specs.Asking.{asking, predicate_of}
@@ -48,11 +47,6 @@ IsBestOutcome p n budget (outcome.Beyond model) = IsBeyond p n model
 IsBestOutcome p n budget (outcome.Unknown b steps) = IsOpen p n budget b steps
 
 -- ---- on the way. Bounds are told by their numbers: that of the weakest is 0
-
--- the literals that are true in the last model, if there is one
-abbrev pub AreSignsOf : Option (List Bool) → List ℤ → Type 0
-AreSignsOf None lits = lits ≡ []
-AreSignsOf (Some model) lits = AreSigns model (length model) lits
 
 -- a model of the problem that asks for the bound before the one of this number, if there is one before it
 abbrev pub IsMetBefore : Instance → ℕ → ℕ → Option (List Bool) → Type 0

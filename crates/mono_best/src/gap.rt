@@ -1,6 +1,6 @@
 //! What a leap has found, and between which bounds it goes on. Bounds are told by their numbers.
 
-ghost use Rattle.std.specs.Prelude.{◌≡◌, ◌<◌, ◌≤◌, ◌+◌, Some, IsTrue};
+ghost use Rattle.std.specs.Prelude.{◌≡◌, ◌<◌, ◌≤◌, ◌+◌, Some, None, IsTrue};
 
 use mono_base::Row;
 use mono_base::limits::MAX_BOUND;
@@ -55,13 +55,13 @@ fn doubled(step: u64) -> u64 {
 
 impl Gap {
     /// The gap between two numbers, before the first question.
-    pub(crate) fn new(found: Option<Found>, low: u64, high: u64) -> Gap
-        ensures found { result.found ≡ found }
+    pub(crate) fn new(low: u64, high: u64) -> Gap
+        ensures found { result.found ≡ None }
         ensures low { result.low ≡ low }
         ensures high { result.high ≡ high }
     {
         Gap {
-            found,
+            found: None,
             low,
             high,
             step: 1,

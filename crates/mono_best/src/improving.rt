@@ -25,7 +25,8 @@ use std::alloc::{AllocError, Global};
 /// The best bound with which the predicate of this number holds under values that satisfy the problem. The predicate is one
 /// on steps, a distance, a flow or a tree, and the problem has room for what a question adds.
 ///
-/// No search learns more clauses than the budget says, at least 1, and the one on which the budget is spent learns as many.
+/// The search on which the budget, at least 1, is spent learns as many clauses as the budget says. No clause bounds what the searches
+/// before it learn.
 pub fn best<T: Theory, F: Fn(&Problem) -> Result<Vec<T>, AllocError>>(
     alloc: Global,
     problem: &Problem,

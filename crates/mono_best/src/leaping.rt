@@ -8,9 +8,10 @@
 //! A bound that isn't met there shows nothing that is printed. Behind a leap the next one is asked for by the whole budget,
 //! and after each model once more.
 
-ghost use Rattle.std.specs.Prelude.{◌≡◌, ◌<◌, ◌≤◌, ◌+◌, ◌-◌, All, IfOk, IfSome, length};
+ghost use Rattle.std.specs.Prelude.{◌≡◌, ◌<◌, ◌≤◌, ◌+◌, ◌-◌, ℕ, All, IfOk, IfSome, length};
 ghost use Rattle.mono_base.specs.Literal.{IsLitWithin};
 ghost use Rattle.mono_theory.specs.Owners.{facts_of};
+ghost use Rattle.mono_problem.specs.Instance.{Instance};
 ghost use Rattle.mono_search.specs.Solving.{MakesTheories};
 ghost use Rattle.mono_best.specs.Asking.{HasBoundedAtom, HasRoomToAsk};
 ghost use Rattle.mono_best.specs.Best.{IsReply};
@@ -28,19 +29,9 @@ use std::alloc::{AllocError, Global};
 /// How many clauses a short search may learn.
 const SHORT: u64 = 200;
 
-/// The budget, or less.
-fn at_most(budget: u64, most: u64) -> u64
-    requires budget { 1 ≤ budget }
-    requires most { 1 ≤ most }
-    ensures { 1 ≤ result }
-{
-    if most < budget {
-        return most;
-    }
-    budget
-}
-
 /// Asks for the bound of a number, by a leap where it is the weakest. The searches decide first by these signs.
+///
+/// Where the short searches of a leap find no model, the whole budget is spent on the bound, unless it is no greater than theirs.
 pub(crate) fn leap<T: Theory, F: Fn(&Problem) -> Result<Vec<T>, AllocError>>(
     alloc: Global,
     problem: &Problem,
@@ -64,55 +55,85 @@ pub(crate) fn leap<T: Theory, F: Fn(&Problem) -> Result<Vec<T>, AllocError>>(
     if 0 < number {
         return question(alloc, problem, make, atom, number, signs, budget);
     }
-    let short = at_most(budget, SHORT);
-    match question(alloc, problem, make, atom, number, signs, short)? {
+    if budget <= SHORT {
+        return leapt(alloc, problem, make, atom, number, limit, signs, budget);
+    }
+    match leapt(alloc, problem, make, atom, number, limit, signs, SHORT)? {
         Reply::Refuted(steps) => Ok(Reply::Refuted(steps)),
         Reply::Met {
             model,
             number: last,
-        } => {
-            let found = Some(Found {
-                model,
-                number: last,
-            });
-            let gap = Gap::new(found, last + 1, limit + 1);
-            leapt(alloc, problem, make, atom, number, signs, budget, gap)
-        }
-        Reply::Spent(_) => {
-            let gap = Gap::new(None, number, limit + 1);
-            leapt(alloc, problem, make, atom, number, signs, budget, gap)
-        }
+        } => Ok(Reply::Met {
+            model,
+            number: last,
+        }),
+        Reply::Spent(_) => question(alloc, problem, make, atom, number, signs, budget),
     }
 }
 
-/// The last model of a leap over this gap, or what a question for the bound of the number comes to.
+/// The last model of a leap by searches of this budget, or what the first of them comes to, which asks for the bound of the number.
 fn leapt<T: Theory, F: Fn(&Problem) -> Result<Vec<T>, AllocError>>(
     alloc: Global,
     problem: &Problem,
     make: &F,
     atom: u32,
     number: u64,
+    limit: u64,
     signs: &[Lit],
     budget: u64,
-    gap: Gap,
 ) -> Result<Reply, AllocError>
     requires callable { F.IsAlwaysCallable make.now }
     requires makes { MakesTheories (F.post make.now) (λ ts. facts_of T.graph T.atoms T.seen ts.items) }
     requires atom { HasBoundedAtom problem.now atom }
     requires room { HasRoomToAsk problem.now }
     requires number { number ≤ MAX_BOUND + 1 }
+    requires limit { limit ≤ MAX_BOUND + 1 }
     requires signs { All (IsLitWithin (problem.now.vars + 1)) signs.now }
     requires budget { 1 ≤ budget }
-    requires gap { IsGap problem.now atom number gap }
     ensures { IfOk result (IsReply problem.now atom budget number) }
 {
-    let short = at_most(budget, SHORT);
-    match last_found(alloc, problem, make, atom, number, signs, short, gap)? {
-        Some(found) => Ok(Reply::Met {
+    match question(alloc, problem, make, atom, number, signs, budget)? {
+        Reply::Refuted(steps) => Ok(Reply::Refuted(steps)),
+        Reply::Met {
+            model,
+            number: last,
+        } => {
+            let near = signs_of(alloc, model.as_slice())?;
+            let gap = Gap::new(last + 1, limit + 1);
+            let found = last_found(
+                alloc,
+                problem,
+                make,
+                atom,
+                number,
+                near.as_slice(),
+                budget,
+                gap,
+            )?;
+            let first = Reply::Met {
+                model,
+                number: last,
+            };
+            Ok(met_or(found, first))
+        }
+        Reply::Spent(steps) => {
+            let gap = Gap::new(number, limit + 1);
+            let found = last_found(alloc, problem, make, atom, number, signs, budget, gap)?;
+            Ok(met_or(found, Reply::Spent(steps)))
+        }
+    }
+}
+
+/// The reply with the last model of a leap, or this one where it found none.
+fn met_or(last: Option<Found>, first: Reply) -> Reply
+    ensures { (p : Instance) (n budget k : ℕ) → IfSome last (IsFound p n k) → IsReply p n budget k first → IsReply p n budget k result }
+{
+    match last {
+        Some(found) => Reply::Met {
             model: found.model,
             number: found.number,
-        }),
-        None => question(alloc, problem, make, atom, number, signs, budget),
+        },
+        None => first,
     }
 }
 

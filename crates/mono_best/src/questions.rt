@@ -105,7 +105,7 @@ fn met(
     Ok(Reply::Met { model, number })
 }
 
-/// Asks for the bound of a number. The search decides first by these signs.
+/// Asks for the bound of a number. The search prefers these signs at first.
 pub(crate) fn question<T: Theory, F: Fn(&Problem) -> Result<Vec<T>, AllocError>>(
     alloc: Global,
     problem: &Problem,

@@ -44,6 +44,9 @@ pub fn bounds_of_each_kind()
     ensures no_negative_flow { IsBoundOf (kind.Flow 0 1 (pos 2)) (negsuc 0) → ⊥ }
     ensures no_greater_flow { IsBoundOf (kind.Flow 0 1 (pos 2)) (pos (MAX_BOUND + 2)) → ⊥ }
     ensures steps_least { IsBoundOf (kind.Steps 0 1 (pos 2)) (negsuc 0) }
+    ensures steps_greatest { IsBoundOf (kind.Steps 0 1 (pos 2)) (pos MAX_BOUND) }
+    ensures no_greater_steps { IsBoundOf (kind.Steps 0 1 (pos 2)) (pos (MAX_BOUND + 1)) → ⊥ }
+    ensures distance_least { IsBoundOf (kind.Distance 0 1 (pos 2)) (negsuc 0) }
     ensures distance_greatest { IsBoundOf (kind.Distance 0 1 (pos 2)) (pos MAX_BOUND) }
     ensures no_less_tree { IsBoundOf (kind.Tree (pos 2)) (negsuc 1) → ⊥ }
     ensures no_greater_tree { IsBoundOf (kind.Tree (pos 2)) (pos (MAX_BOUND + 1)) → ⊥ }
@@ -63,6 +66,8 @@ pub fn stronger_bounds()
     ensures third_distance { bound_at (kind.Distance 0 1 (pos 2)) 3 ≡ pos (MAX_BOUND - 3) }
     ensures third_tree { bound_at (kind.Tree (pos 2)) 3 ≡ pos (MAX_BOUND - 3) }
     ensures better_flow { IsBetter (kind.Flow 0 1 (pos 2)) (pos 8) (pos 7) }
+    ensures better_steps { IsBetter (kind.Steps 0 1 (pos 2)) (pos 6) (pos 7) }
+    ensures worse_steps { IsBetter (kind.Steps 0 1 (pos 2)) (pos 8) (pos 7) → ⊥ }
     ensures better_tree { IsBetter (kind.Tree (pos 2)) (pos 6) (pos 7) }
     ensures worse_tree { IsBetter (kind.Tree (pos 2)) (pos 8) (pos 7) → ⊥ }
     ensures as_good { IsBetter (kind.Flow 0 1 (pos 2)) (pos 7) (pos 7) → ⊥ }

@@ -42,11 +42,7 @@ fn set(part: &mut Part, place: u32, on: bool)
     ensures here { present part.new place ≡ on }
     ensures others { (k : ℕ) → k ≢ place → present part.new k ≡ present part.old k }
 {
-    if on {
-        part.put(place);
-    } else {
-        part.take(place);
-    }
+    part.set(place, on);
 }
 
 /// Puts some places into the part, or takes them out.

@@ -3,7 +3,7 @@
 //! Of each literal it is kept where the places of its variable stand. So a literal is looked up once, when it comes: none that
 //! goes, or that comes again, asks for a look-up.
 
-ghost use Rattle.std.specs.Prelude.{◌≡◌, ◌<◌, ◌≤◌, ◌++◌, ◌∷◌, ◌^◌, [], length, take, vec_len, vec_capacity, IfOk, IsTrue, if◌then◌else◌};
+ghost use Rattle.std.specs.Prelude.{◌≡◌, ◌<◌, ◌≤◌, ◌++◌, ◌∷◌, ◌^◌, [], length, take, IfOk, IsTrue, if◌then◌else◌};
 ghost use Rattle.mono_base.specs.Literal.{var_of};
 ghost use Rattle.mono_base.specs.Partial.{is_partial};
 ghost use Rattle.mono_bounds.specs.Bound.{assigned, IsBoundUnder};
@@ -65,15 +65,6 @@ fn advance(bounds: &mut Bounds, spans: &[Span], lits: &[Lit], kept: usize)
     }
 }
 
-/// Puts a span where there is room for it.
-fn push_within(spans: &mut Vec<Span>, span: Span)
-    requires { vec_len spans.old < vec_capacity spans.old }
-    ensures items { spans.new.items ≡ spans.old.items ++ span ∷ [] }
-    ensures room { vec_capacity spans.old ≤ vec_capacity spans.new }
-{
-    spans.push_reserved(span);
-}
-
 impl SeenBounds {
     /// The bounds of places with these variables under no literal, with room for so many literals.
     pub fn new(alloc: Global, vars: Vec<u32>, cells: usize) -> Result<SeenBounds, AllocError>
@@ -123,7 +114,7 @@ impl SeenBounds {
         ensures cells { self.old.cells ≤ self.new.cells }
     {
         self.bounds.assign_at(lit, span);
-        push_within(&mut self.spans, span);
+        self.spans.push_reserved(span);
     }
 
     /// The literals, which are these, are cut to the first `kept`.

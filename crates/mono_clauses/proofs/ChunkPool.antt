@@ -228,6 +228,14 @@ room_more watchers fewer slots chunks more w c room = by_case room
     by_case (inl each) = inl (omega (arith, each, w, c))
     by_case (inr cells) = inr (omega (arith, cells, w, c))
 
+-- two chunks more have room for two watchers more
+pub room_for_two : (watchers slots chunks more : ℕ) → more ≡ chunks + 2 → HasRoom watchers slots chunks → HasRoom (watchers + 2) slots more
+room_for_two watchers slots chunks more is room = by_case room
+  where
+    by_case : (watchers ≤ chunks) ⊎ (watchers + 7 * slots ≤ 8 * chunks) → (watchers + 2 ≤ more) ⊎ (watchers + 2 + 7 * slots ≤ 8 * more)
+    by_case (inl each) = inl (omega (arith, each, is))
+    by_case (inr cells) = inr (omega (arith, cells, is))
+
 -- a chunk more
 pub pool_more : (slots : ℕ) (links free_chunks heads : List ℕ) (lists : List (List ℕ)) (v : ℕ) → IsPool slots links free_chunks heads lists → 8 * (length links + 1) ≤ 4294967295 → IsPool slots (links ++ v ∷ []) (free_chunks ++ (8 * length links) ∷ []) heads lists
 pool_more slots links free_chunks heads lists v i few = record {

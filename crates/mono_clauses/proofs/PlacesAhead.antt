@@ -1,13 +1,12 @@
 -- Places ahead on the list that is visited.
-use Rattle.std.proofs.Common.{◌≡◌, ◌≢◌, ℕ, zero, suc, ◌+◌, ◌*◌, ◌%◌, ◌<◌, ◌≤◌, List, [], ◌∷◌, ◌++◌, length, set, arith, refl, sym, ◌∙◌, ap, subst, length-append, ◌⊎◌, inl, inr}
+use Rattle.std.proofs.Common.{◌≡◌, ◌≢◌, ℕ, zero, suc, ◌+◌, ◌*◌, ◌%◌, ◌<◌, ◌≤◌, List, [], ◌∷◌, ◌++◌, length, set, arith, refl, sym, ◌∙◌, ap, subst, ◌⊎◌, inl, inr}
 use Rattle.std.specs.Prelude.{ℤ, Option, Some, replicate}
 use Rattle.std.proofs.lemmas.List.{length-map}
 use Rattle.mono_base.specs.Literal.{slot}
 use Rattle.mono_clauses.proofs.WatchLists.{Facts, Shifted, chunk_shift, chunk_more}
-use Rattle.mono_clauses.proofs.ChunkPool.{room_more}
 use Rattle.mono_clauses.proofs.ChunkStacks.{one_same, sum_at, times-append}
 use Rattle.mono_clauses.specs.Lists.{times, list_at}
-use Rattle.mono_clauses.specs.Stacks.{below, IsPlace, IsStack, Rest, watcher_at, watchers_at, bottoms, IsPool, IsChunked, Higher, Fresh, Climbed, Enough, TwoMore, HasRoom, Put, Removed, Widened, same_stack}
+use Rattle.mono_clauses.specs.Stacks.{below, IsPlace, IsStack, Rest, watcher_at, watchers_at, bottoms, IsPool, IsChunked, Higher, Fresh, Climbed, Put, Removed, same_stack}
 use Rattle.mono_clauses.specs.Store.{watch_at}
 
 -- the first place ahead
@@ -76,51 +75,11 @@ chunk_eq {vars = vars} {links = links} {cells = cells} {free_chunks = free_chunk
     (subst (λ (ws : List (Option ℤ)). IsChunked vars links cells free_chunks heads ws list ahead') (sym d)
     (subst (λ (hs : List ℕ). IsChunked vars links cells free_chunks heads watched list hs) (sym e) i))))
 
--- there is room for two watchers more
-pub record Wide (vars : ℕ) (links cells free_chunks heads : List ℕ) (watched : List (Option ℤ)) (list : ℕ) (ahead : List ℕ) : Type 0 where
-  pub is : IsChunked vars links cells free_chunks heads watched list ahead
-  pub room : HasRoom (length watched + 2) (2 * vars + 2) (length links)
-
-pub chunk_widen : {vars : ℕ} {links cells free_chunks heads : List ℕ} {watched : List (Option ℤ)} {list : ℕ} {ahead : List ℕ} (most least : ℕ) (links' cells' free_chunks' : List ℕ) → IsChunked vars links cells free_chunks heads watched list ahead → Widened cells links free_chunks most least cells' links' free_chunks'
-    → most ≡ length watched + 2 → least ≡ length watched + 2 + 7 * (2 * vars + 2) → length links ≤ 536870896 → Wide vars links' cells' free_chunks' heads watched list ahead
-chunk_widen {vars = vars} {links = links} {cells = cells} {free_chunks = free_chunks} {heads = heads} {watched = watched} {list = list} {ahead = ahead} most least links' cells' free_chunks' i q m e few = by_case q.is
-  where
-    by_many : (most ≤ length links) ⊎ (least ≤ length cells) → HasRoom (length watched + 2) (2 * vars + 2) (length links)
-    by_many (inl each) = inl (omega (arith, each, m))
-    by_many (inr lt) = inr (omega (arith, lt, e, i.size))
-
-    by_room : (length watched ≤ length links) ⊎ (length watched + 7 * (2 * vars + 2) ≤ 8 * length links) → HasRoom (length watched + 2) (2 * vars + 2) (length links + 2)
-    by_room (inl each) = inl (omega (arith, each))
-    by_room (inr lt) = inr (omega (arith, lt))
-
-    by_case : Enough cells links free_chunks most least cells' links' free_chunks' ⊎ TwoMore cells links free_chunks most least cells' links' free_chunks' → Wide vars links' cells' free_chunks' heads watched list ahead
-    by_case (inl s) = record {
-      is = chunk_eq links' cells' free_chunks' watched ahead i s.same_links s.same_cells s.same_free refl refl;
-      room = room_more (length watched + 2) (length watched + 2) (2 * vars + 2) (length links) (length links') (omega arith) (omega (arith, ap (λ (ys : List ℕ). length ys) s.same_links)) (by_many s.many);
-    }
-    by_case (inr s) =
-        let once : length (links ++ 4294967295 ∷ []) ≡ length links + 1 = omega (arith, length-append links (4294967295 ∷ [])) in
-        let twice : length ((links ++ 4294967295 ∷ []) ++ 4294967295 ∷ []) ≡ length links + 2 = omega (arith, once, length-append (links ++ 4294967295 ∷ []) (4294967295 ∷ [])) in
-        record {
-          is = chunk_eq links' cells' free_chunks' watched ahead
-              (chunk_more 4294967295 (replicate 8 0) (chunk_more 4294967295 (replicate 8 0) i (omega (arith, few)) refl) (omega (arith, few, once)) refl) s.more_links s.more_cells s.more_free refl refl;
-          room = room_more (length watched + 2) (length watched + 2) (2 * vars + 2) (length links + 2) (length links') (omega arith) (omega (arith, ap (λ (ys : List ℕ). length ys) s.more_links, twice)) (by_room i.room);
-        }
-
-pub widened_length : (cells links free_chunks : List ℕ) (most least : ℕ) (cells' links' free_chunks' : List ℕ) → Widened cells links free_chunks most least cells' links' free_chunks' → length links' ≤ length links + 2
-widened_length cells links free_chunks most least cells' links' free_chunks' q = by_case q.is
-  where
-    by_case : Enough cells links free_chunks most least cells' links' free_chunks' ⊎ TwoMore cells links free_chunks most least cells' links' free_chunks' → length links' ≤ length links + 2
-    by_case (inl s) = omega (arith, ap (λ (ys : List ℕ). length ys) s.same_links)
-    by_case (inr s) = omega (arith, ap (λ (ys : List ℕ). length ys) s.more_links, length-append (links ++ 4294967295 ∷ []) (4294967295 ∷ []), length-append links (4294967295 ∷ []))
-
--- the chunks stay few
-pub widened_most : (cells links free_chunks : List ℕ) (most least : ℕ) (cells' links' free_chunks' : List ℕ) (n slots : ℕ) → Widened cells links free_chunks most least cells' links' free_chunks' → least ≡ n + 2 + 7 * slots → length cells ≡ 8 * length links → 8 * length links ≤ n + 7 * slots + 16 → 8 * length links' ≤ n + 2 + 7 * slots + 16
-widened_most cells links free_chunks most least cells' links' free_chunks' n slots q e size before = by_case q.is
-  where
-    by_case : Enough cells links free_chunks most least cells' links' free_chunks' ⊎ TwoMore cells links free_chunks most least cells' links' free_chunks' → 8 * length links' ≤ n + 2 + 7 * slots + 16
-    by_case (inl s) = omega (arith, ap (λ (ys : List ℕ). length ys) s.same_links, before)
-    by_case (inr s) = omega (arith, ap (λ (ys : List ℕ). length ys) s.more_links, length-append (links ++ 4294967295 ∷ []) (4294967295 ∷ []), length-append links (4294967295 ∷ []), s.fewer, e, size)
+-- a free chunk more
+pub chunk_added : {vars : ℕ} {links cells free_chunks heads : List ℕ} {watched : List (Option ℤ)} {list : ℕ} {ahead : List ℕ} (links' cells' free_chunks' : List ℕ) → IsChunked vars links cells free_chunks heads watched list ahead
+    → cells' ≡ cells ++ replicate 8 0 → links' ≡ links ++ 4294967295 ∷ [] → free_chunks' ≡ free_chunks ++ (8 * length links) ∷ [] → 8 * (length links + 1) ≤ 4294967295 → IsChunked vars links' cells' free_chunks' heads watched list ahead
+chunk_added {watched = watched} {ahead = ahead} links' cells' free_chunks' i more_cells more_links more_free few =
+    chunk_eq links' cells' free_chunks' watched ahead (chunk_more 4294967295 (replicate 8 0) i few refl) more_links more_cells more_free refl refl
 
 -- a watcher's number is short
 pub watched_few : {vars : ℕ} {links cells free_chunks heads : List ℕ} {watched : List (Option ℤ)} {list : ℕ} {ahead : List ℕ} → IsChunked vars links cells free_chunks heads watched list ahead → length watched ≤ 4294967295

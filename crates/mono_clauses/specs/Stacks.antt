@@ -3,7 +3,7 @@
 -- A place is the index of a cell. From the first cell of a chunk the chunk's link leads to the top place of the next chunk, which is full; from
 -- another cell the way leads to the cell before it. The greatest link ends a stack: like the top place of a full chunk it is one below a multiple of eight.
 use Rattle.std.proofs.Common.{◌≡◌, ◌≢◌, ℕ, suc, Bool, refl, sym, ap, subst, ◌∙◌, ◌+◌, ◌-◌, ◌*◌, ◌/◌, ◌%◌, ◌<◌, ◌≤◌, List, [], ◌∷◌, ◌++◌, length, get_or, set, map, ◌⊎◌}
-use Rattle.std.specs.Prelude.{ℤ, Option, Some, None, if◌then◌else◌, ◌==◌, replicate}
+use Rattle.std.specs.Prelude.{ℤ, Option, Some, None, if◌then◌else◌, ◌==◌}
 use Rattle.std.specs.Coded.{×_prop, le_prop}
 use Rattle.std.proofs.Math.Nat.{ℕ_set, lt_irrefl}
 use Rattle.mono_clauses.specs.Lists.{times, list_at, IsFree}
@@ -172,22 +172,3 @@ pub record IsLoose (vars : ℕ) (links cells free_chunks heads : List ℕ) (watc
   pub entries : (l : ℤ) → sum_of length lists + 1 ≡ busy (set watched w (Some l))
   pub free : IsFree (all_watchers cells lists) w
   pub there : (v : ℕ) → v ≢ w → IsThere (watch_at watched v) (all_watchers cells lists) v
-
--- there are as many chunks, or as many cells, as were asked for
-pub record Enough (cells links free_chunks : List ℕ) (most least : ℕ) (cells' links' free_chunks' : List ℕ) : Type 0 where
-  pub many : (most ≤ length links) ⊎ (least ≤ length cells)
-  pub same_cells : cells' ≡ cells
-  pub same_links : links' ≡ links
-  pub same_free : free_chunks' ≡ free_chunks
-
--- there were fewer, and two free chunks came
-pub record TwoMore (cells links free_chunks : List ℕ) (most least : ℕ) (cells' links' free_chunks' : List ℕ) : Type 0 where
-  pub few : length links < most
-  pub fewer : length cells < least
-  pub more_cells : cells' ≡ (cells ++ replicate 8 0) ++ replicate 8 0
-  pub more_links : links' ≡ (links ++ 4294967295 ∷ []) ++ 4294967295 ∷ []
-  pub more_free : free_chunks' ≡ (free_chunks ++ (8 * length links) ∷ []) ++ (8 * length (links ++ 4294967295 ∷ [])) ∷ []
-
--- two chunks more where the chunks and the cells were fewer than asked for
-pub record Widened (cells links free_chunks : List ℕ) (most least : ℕ) (cells' links' free_chunks' : List ℕ) : Type 0 where
-  pub is : Enough cells links free_chunks most least cells' links' free_chunks' ⊎ TwoMore cells links free_chunks most least cells' links' free_chunks'

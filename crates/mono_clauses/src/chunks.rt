@@ -5,9 +5,9 @@
 //! greatest link ends a stack; like the top place of a full chunk it is 7 modulo 8, so one test says that a push needs a
 //! chunk.
 
-ghost use Rattle.std.specs.Prelude.{◌≡◌, ◌≢◌, ℕ, ◌+◌, ◌*◌, ◌%◌, ◌<◌, ◌≤◌, ◌++◌, ◌∷◌, [], length, slice_index_or, replicate, OnOk, vec_len, vec_capacity};
+ghost use Rattle.std.specs.Prelude.{◌≡◌, ◌≢◌, ℕ, ℤ, ◌+◌, ◌*◌, ◌%◌, ◌<◌, ◌≤◌, List, ◌++◌, ◌∷◌, [], length, slice_index_or, replicate, Option, OnOk, vec_len, vec_capacity};
 ghost use Rattle.mono_clauses.specs.Lists.{times};
-ghost use Rattle.mono_clauses.specs.Stacks.{below, Climbed, Put, Removed, Widened};
+ghost use Rattle.mono_clauses.specs.Stacks.{below, Climbed, HasRoom, IsChunked, Put, Removed};
 
 use std::alloc::AllocError;
 
@@ -138,14 +138,20 @@ impl Chunks {
         self.free.push_reserved(place);
     }
 
-    /// Two chunks more where there are fewer than `most`, and fewer cells than `least`.
+    /// Room for two watchers more where there was room for all: two free chunks, unless there are `most` chunks, or `least` cells, already.
     pub fn widen(&mut self, most: usize, least: usize)
+        requires size { length self.old.cells.items ≡ 8 * length self.old.links.items }
         requires cells { vec_len self.old.cells + 16 ≤ vec_capacity self.old.cells }
         requires links { vec_len self.old.links + 2 ≤ vec_capacity self.old.links }
         requires free_chunks { vec_len self.old.free + 2 ≤ vec_capacity self.old.free }
         requires few { length self.old.links.items < 536870896 }
-        ensures is { Widened self.old.cells.items self.old.links.items self.old.free.items most least
-            self.new.cells.items self.new.links.items self.new.free.items }
+        ensures chunked { (vars list : ℕ) (heads ahead : List ℕ) (watched : List (Option ℤ))
+            → IsChunked vars self.old.links.items self.old.cells.items self.old.free.items heads watched list ahead
+            → IsChunked vars self.new.links.items self.new.cells.items self.new.free.items heads watched list ahead }
+        ensures room { (watchers slots : ℕ) → most ≡ watchers + 2 → least ≡ most + 7 * slots
+            → HasRoom watchers slots (length self.old.links.items) → HasRoom (watchers + 2) slots (length self.new.links.items) }
+        ensures two { length self.new.links.items ≤ length self.old.links.items + 2 }
+        ensures few { 8 * length self.old.links.items ≤ least + 16 → 8 * length self.new.links.items ≤ least + 16 }
         ensures capacity { vec_capacity self.old.free ≤ vec_capacity self.new.free }
     {
         if self.links.len() >= most {

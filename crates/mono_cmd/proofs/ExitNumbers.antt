@@ -1,5 +1,6 @@
--- Numbers with which no process exits, for rows that are worked out.
-use Rattle.std.proofs.Common.{◌≡◌, ◌⊎◌, ℕ, List, Option, None, ap, arith, refl, subst, ◌∙◌, inl, inr}
+-- Numbers with which no process exits, or not after so many failed writes, for rows that are worked out.
+use Rattle.std.proofs.Common.{◌≡◌, ◌⊎◌, ℕ, List, Option, None, ap, arith, refl, subst, sym, ◌∙◌, inl, inr}
+use Rattle.mono_io.specs.Faults.{counted}
 use Rattle.mono_io.specs.Shelf.{ShelfView}
 use Rattle.mono_cmd.specs.declared.status.Status.{Status}
 use Rattle.mono_cmd.specs.declared.status.Status.TheVariants as status
@@ -56,3 +57,35 @@ not_3 old new h =
 
 pub not_8 : (found : Option Command) (old new : Machine) → HasRun found old new 8 → ⊥
 not_8 found old new h = no_status h.status h.number
+
+-- ---- how often a write failed
+
+write_fault_alone : (s : Status) → 5 ≡ code_of s → s ≡ status.WriteFault
+write_fault_alone status.Satisfiable is = absurd (let number : 5 ≡ 10 = is in omega (arith, number))
+write_fault_alone status.Unsatisfiable is = absurd (let number : 5 ≡ 20 = is in omega (arith, number))
+write_fault_alone status.Unknown is = absurd (let number : 5 ≡ 0 = is in omega (arith, number))
+write_fault_alone status.Accepted is = absurd (let number : 5 ≡ 0 = is in omega (arith, number))
+write_fault_alone status.Printed is = absurd (let number : 5 ≡ 0 = is in omega (arith, number))
+write_fault_alone status.Rejected is = absurd (let number : 5 ≡ 1 = is in omega (arith, number))
+write_fault_alone status.Words is = absurd (let number : 5 ≡ 2 = is in omega (arith, number))
+write_fault_alone status.Refused is = absurd (let number : 5 ≡ 3 = is in omega (arith, number))
+write_fault_alone status.ReadFault is = absurd (let number : 5 ≡ 4 = is in omega (arith, number))
+write_fault_alone status.WriteFault is = refl
+write_fault_alone status.Memory is = absurd (let number : 5 ≡ 6 = is in omega (arith, number))
+write_fault_alone status.TooLong is = absurd (let number : 5 ≡ 7 = is in omega (arith, number))
+
+not_write_fault : (s : Status) → 2 ≡ code_of s → s ≡ status.WriteFault → ⊥
+not_write_fault s is same = let number : 2 ≡ 5 = is ∙ ap code_of same in omega (arith, number)
+
+-- a write fault, though no write failed
+pub not_5 : (found : Option Command) (old new : Machine) → old.faults ≡ 0 → new.faults ≡ 0 → HasRun found old new 5 → ⊥
+not_5 found old new before now h =
+    let raised : new.faults ≡ counted old.faults = h.write_fault (write_fault_alone h.status h.number) in
+    let number : 0 ≡ 1 = sym now ∙ (raised ∙ ap counted before) in
+    omega (arith, number)
+
+-- no write fault, though a write failed
+pub not_2 : (found : Option Command) (old new : Machine) → old.faults ≡ 0 → new.faults ≡ 1 → HasRun found old new 2 → ⊥
+not_2 found old new before now h =
+    let same : new.faults ≡ old.faults = h.no_write_fault (not_write_fault h.status h.number) in
+    omega (arith, same, before, now)

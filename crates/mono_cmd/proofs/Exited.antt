@@ -1,5 +1,5 @@
 -- What a process exits with, once its words are listed or no memory was found for them.
-use Rattle.std.proofs.Common.{◌≡◌, ◌≢◌, ℕ, List, [], map, Option, Some, None, IfSome, refl, ap, sym, subst, inl, inr}
+use Rattle.std.proofs.Common.{◌≡◌, ◌≢◌, ℕ, List, map, Option, Some, None, IfSome, IsSome, refl, sym, subst, inl, inr}
 use Rattle.std.specs.Prelude.{option_and_then}
 use Rattle.mono_io.specs.Faults.{counted}
 use Rattle.mono_io.specs.FileShelf.{FileState, shown_by}
@@ -22,9 +22,9 @@ exited_by_run told found old new s code given number is_run write_fault no_write
   exits = inr (record { status = s; number = number; run = is_run; write_fault = write_fault; no_write_fault = no_write_fault });
 }
 
-pub exited_without_words : (told : Option (Option (List (List ℕ)))) (old : Machine) (code : ℕ) → code ≡ code_of Memory → HasExited told old old code
-exited_without_words None old code number = record { command = None; given = tt; exits = inl (number, refl) }
-exited_without_words (Some words) old code number = record { command = option_and_then command_of words; given = refl; exits = inl (number, refl) }
+pub exited_without_words : (told : Option (Option (List (List ℕ)))) (old : Machine) (code : ℕ) → code ≡ code_of Memory → IfSome told (λ words. IsSome words) → HasExited told old old code
+exited_without_words None old code number text = record { command = None; given = tt; exits = inl (number, refl, tt) }
+exited_without_words (Some words) old code number text = record { command = option_and_then command_of words; given = refl; exits = inl (number, refl, text) }
 
 -- a shelf over files and a sink over a writer that were just made are the machine before the run
 pub exited_over : (told : Option (Option (List (List ℕ)))) (shelf made_shelf : FileState) (out made_out : WriterState) (new : Machine) (code : ℕ)
@@ -40,12 +40,3 @@ exited_over told shelf made_shelf out made_out new code same_shelf same_out exit
 pub same_command : {X : Type 0} (bytes : X → List ℕ) (told : Option (Option (List (List ℕ)))) (list slice : List X) → slice ≡ list
     → IfSome told (λ given. command_of (map bytes list) ≡ option_and_then command_of given) → IfSome told (λ given. command_of (map bytes slice) ≡ option_and_then command_of given)
 same_command bytes told list slice same is = subst (λ xs. IfSome told (λ given. command_of (map bytes xs) ≡ option_and_then command_of given)) (sym same) is
-
-pub given_command : (told : Option (Option (List (List ℕ)))) (words : List (List ℕ)) → IfSome told (λ given. given ≡ Some words)
-    → IfSome told (λ given. command_of words ≡ option_and_then command_of given)
-given_command None words is = tt
-given_command (Some given) words is = ap (λ (o : Option (List (List ℕ))). option_and_then command_of o) (sym is)
-
-pub given_no_text : (told : Option (Option (List (List ℕ)))) → IfSome told (λ given. given ≡ None) → IfSome told (λ given. command_of [] ≡ option_and_then command_of given)
-given_no_text None is = tt
-given_no_text (Some given) is = ap (λ (o : Option (List (List ℕ))). option_and_then command_of o) (sym is)

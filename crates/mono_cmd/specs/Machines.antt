@@ -1,5 +1,5 @@
 -- What a process exits with, by what the machine under it gave and holds.
-use Rattle.std.specs.Prelude.{◌≡◌, ◌≢◌, ◌⊎◌, ℕ, false, List, Option, None, IfSome, option_and_then}
+use Rattle.std.specs.Prelude.{◌≡◌, ◌≢◌, ◌⊎◌, ℕ, false, List, Option, None, IfSome, IsSome, option_and_then}
 use Rattle.mono_io.specs.Faults.{counted}
 use Rattle.mono_io.specs.FileShelf.{FileState}
 use Rattle.mono_io.specs.Shelf.{ShelfView, Texts}
@@ -40,8 +40,8 @@ pub record HasRun (command : Option Command) (old new : Machine) (code : ℕ) : 
   pub no_write_fault : status ≢ WriteFault → new.faults ≡ old.faults
 
 -- The process exits with the number of a run of the command that the words are, where they are told: words that aren't text are none.
--- Or no memory was found for the words, and nothing was opened or written.
+-- Or no memory was found for the words, which are text where they are told, and nothing was opened or written.
 pub record HasExited (told : Option (Option (List (List ℕ)))) (old new : Machine) (code : ℕ) : Type 0 where
   pub command : Option Command
   pub given : IfSome told (λ words. command ≡ option_and_then command_of words)
-  pub exits : ((code ≡ code_of Memory) × (new ≡ old)) ⊎ HasRun command old new code
+  pub exits : ((code ≡ code_of Memory) × (new ≡ old) × IfSome told (λ words. IsSome words)) ⊎ HasRun command old new code

@@ -1,6 +1,6 @@
 //! The whole process: the words, the files and the output of a machine in, the number to exit with out.
 
-ghost use Rattle.std.specs.Prelude.{◌≡◌, IfOk, IfSome, map, option_and_then, string_bytes};
+ghost use Rattle.std.specs.Prelude.{◌≡◌, IfOk, IfSome, IsSome, OnErr, map, option_and_then, string_bytes};
 ghost use Rattle.std.specs.Process.{exit_status};
 ghost use Rattle.mono_io.specs.FileShelf.{shown_by};
 ghost use Rattle.mono_cmd.specs.Commands.{command_of};
@@ -35,7 +35,7 @@ impl<A: FileAccess, O: Write + Drop> Model for MachineRun<A, O> {
 /// Runs the program over what a machine gives. Words that aren't text are no command, and neither are none.
 ///
 /// The number is that of the status to which the run of exactly these words comes, or that of want of memory where none was found
-/// for the words; nothing was opened or written then. What `run` promises over files that are told and an output that is told,
+/// for the words, which are text then; nothing was opened or written. What `run` promises over files and an output that are told,
 /// this call promises of what the files and the output tell.
 pub fn run_over<W: Words, A: FileAccess, O: Write + Drop>(
     alloc: Global,
@@ -64,9 +64,10 @@ fn code_of<W: Words, S: Shelf, K: Sink>(alloc: Global, words: &W, shelf: &mut S,
     }
 }
 
-/// The words, or none where one of them isn't text: either is the same command.
+/// The words, or none where one of them isn't text: either is the same command. Only words that are text may find no memory.
 fn list_of<W: Words>(alloc: Global, words: &W) -> Result<Vec<String>, AllocError>
-    ensures { IfOk result (λ list. IfSome (W.told words.now) (λ given. command_of (map string_bytes list.items) ≡ option_and_then command_of given)) }
+    ensures ok { IfOk result (λ list. IfSome (W.told words.now) (λ given. command_of (map string_bytes list.items) ≡ option_and_then command_of given)) }
+    ensures err { OnErr result (IfSome (W.told words.now) (λ given. IsSome given)) }
 {
     match words.list(alloc) {
         Ok(list) => Ok(list),

@@ -1,6 +1,6 @@
 //! The words behind the program's name, as a machine gives them.
 
-ghost use Rattle.std.specs.Prelude.{◌≡◌, Some, None, IfSome, IfOk, IsErrOf, map, string_bytes};
+ghost use Rattle.std.specs.Prelude.{◌≡◌, Some, None, IfSome, IfOk, IsErrOf, IsSome, map, string_bytes};
 
 use std::alloc::Global;
 use std::rt::Env;
@@ -22,10 +22,11 @@ pub trait Words {
     /// The words, where that is told: each of them, or that one isn't text.
     ghost told: { Self → Option (Option (List (List ℕ))) };
 
-    /// All of them, in their order.
+    /// All of them, in their order. Where they are told, memory is wanting only for words that are text.
     fn list(&self, alloc: Global) -> Result<Vec<String>, WordsRefusal>
         ensures words { IfOk result (λ words. IfSome (told self.now) (λ given. given ≡ Some (map string_bytes words.items))) }
-        ensures not_text { IsErrOf result WordsRefusal.NotText → IfSome (told self.now) (λ given. given ≡ None) };
+        ensures not_text { IsErrOf result WordsRefusal.NotText → IfSome (told self.now) (λ given. given ≡ None) }
+        ensures memory { IsErrOf result WordsRefusal.Memory → IfSome (told self.now) (λ given. IsSome given) };
 }
 
 /// The words of the process. What they are, it doesn't tell.

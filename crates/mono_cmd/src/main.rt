@@ -37,19 +37,35 @@ pub mod text;
 /// The words of a command line.
 pub mod words;
 /// Rows that were worked by hand, as the definitions compute them.
+#[cfg(test)]
 pub mod worked;
 /// What `solve` may answer, worked by hand.
+#[cfg(test)]
 pub mod worked_answers;
 /// Bounds, and why they can't be asked for, worked by hand.
+#[cfg(test)]
 pub mod worked_bounds;
 /// Assumptions, and what is found under them, worked by hand.
+#[cfg(test)]
 pub mod worked_cores;
+/// What is promised of a whole run, worked by hand.
+#[cfg(test)]
+pub mod worked_counted;
 /// Verdicts, refusals and what a process exits with, worked by hand.
+#[cfg(test)]
 pub mod worked_judged;
+/// What a run comes to, worked by hand.
+#[cfg(test)]
+pub mod worked_orders;
 /// What is written with a status, worked by hand.
+#[cfg(test)]
 pub mod worked_runs;
 /// What `team` answers and writes, worked by hand.
+#[cfg(test)]
 pub mod worked_teams;
+/// What is written and behind what, and what answers are, worked by hand.
+#[cfg(test)]
+pub mod worked_written;
 
 use exit::{Exit, run_over};
 use given::SystemWords;

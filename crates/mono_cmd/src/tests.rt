@@ -15,6 +15,7 @@ mod faults;
 mod generated;
 mod input;
 mod lemmas;
+mod limits;
 mod memory;
 mod models;
 mod process;

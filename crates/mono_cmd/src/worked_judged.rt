@@ -1,11 +1,12 @@
 //! Worked rows: whose verdict is written, what a refusal names, and of which words a process exits.
 
-ghost use Rattle.std.specs.Prelude.{◌≡◌, ℕ, ℤ, pos, List, [], ◌∷◌, Some, None, codes};
+ghost use Rattle.std.specs.Prelude.{◌≡◌, ℕ, ℤ, pos, List, [], ◌∷◌, Option, Some, None, codes};
 ghost use Rattle.mono_problem.specs.Assuming.{HasRoom};
 ghost use Rattle.mono_problem.specs.Instance.{Instance};
 ghost use Rattle.mono_gnf.specs.Stands.{Stands};
 ghost use Rattle.mono_best.specs.Asking.{HasBoundedAtom};
 ghost use Rattle.mono_core.specs.Worked.{one_clause};
+ghost use Rattle.mono_cmd.specs.declared.command.Command.{Command};
 ghost use Rattle.mono_cmd.specs.declared.command.Command.TheVariants as command;
 ghost use Rattle.mono_cmd.specs.Machines.{HasExited, Machine, untouched};
 ghost use Rattle.mono_cmd.specs.Refusals.{IsRefusal, IsUnaskable, IsUnaskedBy};
@@ -35,6 +36,7 @@ pub fn worked_refused()
     ensures fault { IsRefusal (Some (command.Print (codes "f"))) (codes "x") (codes "refused 1 UnknownWord\n") }
     ensures other_line { IsRefusal (Some (command.Print (codes "f"))) (codes "x") (codes "refused 2 UnknownWord\n") → ⊥ }
     ensures nothing_asked { (text written : List ℕ) → IsUnaskable (Some (command.Print (codes "f"))) text written → ⊥ }
+    ensures of_a_problem { (found : Option Command) (text written : List ℕ) → IsUnaskable found text written → (p : Instance) × Stands text p }
     ensures no_room { (text : List ℕ) (p : Instance) (lits : List ℤ) → Stands text p → (HasRoom p lits → ⊥)
         → IsRefusal (Some (command.Core (codes "f") lits)) text (codes "refused 0 TooMany\n") }
     ensures no_room_to_judge { (text : List ℕ) (p : Instance) (lits : List ℤ) → Stands text p → (HasRoom p lits → ⊥)

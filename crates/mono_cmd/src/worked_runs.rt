@@ -64,6 +64,7 @@ pub fn worked_lines()
 pub fn worked_written()
     ensures generated { (p : Instance) → Stands (generated kind.Wall 2 7) p → SolvesGenerated (Some (command.Gen kind.Wall 2 7 true)) p }
     ensures generated_for_none { (p : Instance) → SolvesGenerated (Some (command.Print (codes "f"))) p → ⊥ }
+    ensures problem_of_the_generated { (p : Instance) → SolvesGenerated (Some (command.Gen kind.Wall 2 7 true)) p → Stands (generated kind.Wall 2 7) p }
 
     ensures best { (b : ℤ) (model : List Bool) (steps : List Step) → IsBest (weighed []) 1 b model steps → IsOptimum (weighed []) 1 b
         → IsVerdict (asking (weighed []) 1 (beyond (predicate_of (weighed []) 1) b)) (best_text (outcome.Best b model steps)) verdict.Refutation
@@ -73,7 +74,8 @@ pub fn worked_written()
     ensures line_before_an_open_bound { (rest : List ℕ) → IsBestBy status.Unknown (weighed []) 1 (codes "c x\n" ++ rest) → ⊥ }
     ensures line_before_a_board { (rest : List ℕ) → IsTeamTextBy status.Unknown two_clauses 2 1 (codes "c x\n" ++ rest) → ⊥ }
 
-    ensures judged { (p : Instance) (given : List ℕ) → IsVerdict p given (verdict.Progress 3) → IsJudgmentBy status.Accepted p given (codes "accepted progress 3\n") }
+    ensures judged { (p : Instance) (given : List ℕ) → IsVerdict p given (verdict.Progress 3)
+        → IsJudgmentBy status.Accepted p given (codes "accepted progress 3\n") }
     ensures judged_rejected { (p : Instance) (given : List ℕ) → IsJudgmentBy status.Rejected p given (codes "accepted progress 3\n") → ⊥ }
     ensures line_before_a_verdict { (p : Instance) (given rest : List ℕ) → IsJudgmentBy status.Rejected p given (codes "c x\n" ++ rest) → ⊥ }
 
@@ -82,7 +84,7 @@ pub fn worked_written()
     ensures written_untold { (run : RunView) → run.before ≡ None → Wrote run [] → ⊥ }
 {}
 
-/// What a command reads, how it may end, and the number of its status.
+/// What a command reads, how it may end, the number of its status, and how often a write failed.
 pub fn worked_exits()
     ensures no_file_read { EachReached (IsHeld None) None (command.Gen kind.Grid 2 7 false) }
     ensures printed { IsCarriedOut (command.Print (codes "f")) status.Printed }
@@ -92,4 +94,6 @@ pub fn worked_exits()
 
     ensures other_number { (old new : Machine) → HasRun None old new 3 → ⊥ }
     ensures no_number { (old new : Machine) → HasRun None old new 8 → ⊥ }
+    ensures write_fault_without_a_failure { (old new : Machine) → old.faults ≡ 0 → new.faults ≡ 0 → HasRun None old new 5 → ⊥ }
+    ensures failure_without_a_write_fault { (old new : Machine) → old.faults ≡ 0 → new.faults ≡ 1 → HasRun None old new 2 → ⊥ }
 {}

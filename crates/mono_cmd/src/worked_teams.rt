@@ -24,7 +24,8 @@ pub fn worked_team_answers()
 
 /// What is written is the text of such an answer, and nothing before it.
 pub fn worked_team_texts()
-    ensures model { (values : List Bool) → IsTeamAnswer two_clauses 2 1 (answer.Model values) → IsVerdict two_clauses (answer_text (answer.Model values)) verdict.Model
+    ensures model { (values : List Bool) → IsTeamAnswer two_clauses 2 1 (answer.Model values)
+        → IsVerdict two_clauses (answer_text (answer.Model values)) verdict.Model
         → IsTeamTextBy status.Satisfiable two_clauses 2 1 (answer_text (answer.Model values)) }
     ensures line_before_a_model { (rest : List ℕ) → IsTeamTextBy status.Satisfiable two_clauses 2 1 (codes "c x\n" ++ rest) → ⊥ }
     ensures refutation { (steps : List Step) → IsTeamAnswer both_signs 2 1 (answer.Refutation steps)

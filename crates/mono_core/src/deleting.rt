@@ -1,7 +1,8 @@
 //! Assumptions deleted one by one.
 //!
 //! What is left after each deletion is what the last refutation names. Each assumption is tried by a short search first, so
-//! that a hard one doesn't stand before easy ones; those that are left are tried by the whole budget.
+//! that a hard one doesn't stand before easy ones; those that are left are tried by the whole budget. A budget that is no greater
+//! than that of a short search is spent on each but once.
 
 ghost use Rattle.std.specs.Prelude.{◌≡◌, ◌<◌, ◌≤◌, ℕ, false, length, slice_set, IfOk, OnOk};
 ghost use Rattle.mono_theory.specs.Owners.{facts_of};
@@ -58,7 +59,7 @@ pub fn core<T: Theory, F: Fn(&Problem) -> Result<Vec<T>, AllocError>>(
     }
 }
 
-/// Deletes assumptions as long as one can be done without. Those on which a small budget is spent are tried again at the end, since
+/// Deletes assumptions as long as one can be done without. Those on which a short search is spent are tried again at the end, since
 /// others may have been dropped since then, and one of them with it.
 fn delete_each<T: Theory, F: Fn(&Problem) -> Result<Vec<T>, AllocError>>(
     alloc: Global,
@@ -79,23 +80,14 @@ fn delete_each<T: Theory, F: Fn(&Problem) -> Result<Vec<T>, AllocError>>(
     let refuted = shrunk(alloc, problem, assumed, all, steps)?;
     let model = Vec::new(alloc);
     let mut deletion = Deletion { refuted, model };
-    let short = at_most(budget, SHORT);
-    let mut soon = tried_each(alloc, problem, make, assumed, short, &mut deletion)?;
+    if budget <= SHORT {
+        let found = tried_each(alloc, problem, make, assumed, budget, &mut deletion)?;
+        return with_needs(alloc, problem, assumed, deletion.refuted, found);
+    }
+    let mut soon = tried_each(alloc, problem, make, assumed, SHORT, &mut deletion)?;
     soon.reverse();
     let found = tried_again(alloc, problem, make, assumed, budget, &mut deletion, soon)?;
     with_needs(alloc, problem, assumed, deletion.refuted, found)
-}
-
-/// The budget, or less.
-fn at_most(budget: u64, most: u64) -> u64
-    requires budget { 1 ≤ budget }
-    requires most { 1 ≤ most }
-    ensures { 1 ≤ result }
-{
-    if most < budget {
-        return most;
-    }
-    budget
 }
 
 /// Tries to do without each of the assumptions, the last one first.
@@ -256,7 +248,8 @@ fn with_needs(
 ) -> Result<CoreOutcome, AllocError>
     requires refuted { IsRefuted problem.now assumed.now refuted.kept.items refuted.steps }
     requires all { length found.items ≡ length assumed.now }
-    ensures { (budget : ℕ) → AreFound problem.now budget assumed.now refuted.kept.items found.items → IfOk result (IsCoreOutcome problem.now budget assumed.now) }
+    ensures { (budget : ℕ) → AreFound problem.now budget assumed.now refuted.kept.items found.items
+        → IfOk result (IsCoreOutcome problem.now budget assumed.now) }
 {
     let Refuted { kept, steps } = refuted;
     let lits = picked(alloc, kept.as_slice(), assumed)?;

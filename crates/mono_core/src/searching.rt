@@ -14,7 +14,7 @@ use mono_search::{Solved, signs_of, solve_preferring};
 use mono_theory::Theory;
 use std::alloc::{AllocError, Global};
 
-/// What a search comes to under the assumptions. Its first decisions have the signs of the values.
+/// What a search comes to under the assumptions. It prefers the signs of the values at first.
 pub(crate) fn solve_under<T: Theory, F: Fn(&Problem) -> Result<Vec<T>, AllocError>>(
     alloc: Global,
     problem: &Problem,

@@ -5,7 +5,7 @@ ghost use Rattle.mono_steps.specs.declared.step.Step.{Step};
 ghost use Rattle.mono_steps.specs.WorkedLemmas.{minus, chain};
 ghost use Rattle.mono_search.specs.Worked.{both_signs};
 ghost use Rattle.mono_core.specs.Cores.{AreNeeds, IsCore, IsNeed, IsCoreOutcome, IsLeftAt, IsTried, others_of};
-ghost use Rattle.mono_core.specs.Dropped.{is_over};
+ghost use Rattle.mono_core.specs.Dropped.{are_over, is_over, steps_without};
 ghost use Rattle.mono_core.specs.Minimal.{IsMinimal, IsModelNeed};
 ghost use Rattle.mono_core.specs.Worked.{one_clause};
 ghost use Rattle.mono_core.specs.declared.outcome.CoreOutcome.TheVariants as outcome;
@@ -54,6 +54,14 @@ pub fn variables_that_are_left()
     ensures first { is_over 2 (pos 1 ∷ minus 2 ∷ []) ≡ true }
     ensures beyond { is_over 2 (pos 1 ∷ minus 3 ∷ []) ≡ false }
     ensures no_literal { is_over 2 (pos 0 ∷ []) ≡ false }
+    ensures each_step { are_over 2 (chain (pos 1 ∷ []) [] ∷ chain (minus 2 ∷ []) [] ∷ []) ≡ true }
+    ensures first_step_beyond { are_over 2 (chain (pos 3 ∷ []) [] ∷ chain (pos 1 ∷ []) [] ∷ []) ≡ false }
+{}
+
+/// A clause of the problem keeps its number, and the steps are numbered behind the assumptions that stay.
+pub fn steps_behind_fewer_assumptions()
+    ensures { steps_without 1 (false ∷ true ∷ []) (chain (pos 1 ∷ []) (1 ∷ 3 ∷ []) ∷ chain [] (4 ∷ 3 ∷ []) ∷ [])
+        ≡ chain (pos 1 ∷ []) (1 ∷ 2 ∷ []) ∷ chain [] (3 ∷ 2 ∷ []) ∷ [] }
 {}
 
 /// What was tried has all others that are kept, and the whole budget was spent on it.

@@ -4,7 +4,7 @@
 //! walks lead to x, no further back than to the rank of y, are put before the others from the rank of y to that of x. If y is
 //! among them, the edge closes a cycle. Where edges go, nothing is to be done: an order of a part is one of each smaller part.
 
-ghost use Rattle.std.specs.Prelude.{◌≡◌, ◌<◌, ◌≤◌, ◌+◌, ℕ, Bool, List, ◌++◌, ◌∷◌, [], true, false, IfOk, IsTrue, length, slice_index, vec_len, vec_capacity};
+ghost use Rattle.std.specs.Prelude.{◌≡◌, ◌<◌, ◌≤◌, ◌+◌, ℕ, Bool, List, [], true, false, IfOk, IsTrue, length, slice_index, vec_capacity};
 ghost use Rattle.std.specs.List.{range_with_len};
 ghost use Rattle.mono_graph.specs.Digraph.{Digraph, IsPartOf, edge_at, has, present};
 ghost use Rattle.mono_graph.specs.Cycles.{is_cycle, is_order};
@@ -73,25 +73,17 @@ fn close(
     // The edges of a graph lead between its nodes.
     graph.known();
     cycle.clear();
-    add(cycle, closing);
+    cycle.push_reserved(closing);
     behind.walk_on(graph, part, graph.edge(closing).to, cycle);
-    add(cycle, place);
-}
-
-/// Adds a place where there is room.
-fn add(places: &mut Vec<u32>, place: u32)
-    requires { vec_len places.old < vec_capacity places.old }
-    ensures items { places.new.items ≡ places.old.items ++ place ∷ [] }
-    ensures capacity { vec_capacity places.old ≤ vec_capacity places.new }
-{
-    places.push_reserved(place);
+    cycle.push_reserved(place);
 }
 
 impl KeptOrder {
-    /// An order of this many nodes, at most [`MAX_NODES`], where no edge is present.
+    /// An order of this many nodes, at most [`MAX_NODES`], where no edge is present, and no cycle.
     pub fn new(alloc: Global, nodes: u32) -> Result<Self, AllocError>
         requires { nodes ≤ MAX_NODES }
         ensures size { IfOk result (λ kept. length kept.order ≡ nodes) }
+        ensures no_cycle { IfOk result (λ kept. kept.cycle ≡ []) }
         ensures order { IfOk result (λ kept. (g : Digraph) (P : List Bool) → g.nodes ≡ nodes → ((k : ℕ) → present P k ≡ false)
             → IsTrue (is_order g P kept.order)) }
     {
@@ -105,7 +97,7 @@ impl KeptOrder {
     }
 
     /// The edge at a place, from 0, has come into the part. Whether there is still an order, which is kept then. Otherwise
-    /// the edge closes a cycle, and the order stays.
+    /// the edge closes a cycle, and the order stays. The cycle that an edge closed last stays until another edge closes one.
     ///
     /// An edge that agrees with the order costs nothing; any other one costs the nodes between its ends in the order, and
     /// the edges that enter those from which walks lead to where it begins.
@@ -119,6 +111,7 @@ impl KeptOrder {
             → IsTrue (is_order graph.now part.now self.new.order) }
         ensures cycle { result ≡ false → IsTrue (is_cycle graph.now part.now self.new.cycle) }
         ensures stays { result ≡ false → self.new.order ≡ self.old.order }
+        ensures cycle_stays { IsTrue result → self.new.cycle ≡ self.old.cycle }
     {
         // The edges of a graph lead between its nodes.
         graph.known();
@@ -130,7 +123,7 @@ impl KeptOrder {
         }
         if edge.from == edge.to {
             self.cycle.clear();
-            add(&mut self.cycle, place);
+            self.cycle.push_reserved(place);
             return false;
         }
         self.behind.begin(graph, part, edge.from);

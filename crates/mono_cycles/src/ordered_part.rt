@@ -1,6 +1,6 @@
 //! A part of a graph with an order of its nodes, to which edges come while they close no cycle, and from which they go.
 
-ghost use Rattle.std.specs.Prelude.{◌≡◌, ◌<◌, ◌≤◌, ◌==◌, ◌||◌, ◌&&◌, ℕ, Bool, List, true, false, not, IfOk, IsTrue, length};
+ghost use Rattle.std.specs.Prelude.{◌≡◌, ◌<◌, ◌≤◌, ◌==◌, ◌||◌, ◌&&◌, ℕ, Bool, List, [], true, false, not, IfOk, IsTrue, length};
 ghost use Rattle.mono_graph.specs.Digraph.{Digraph, IsPartOf, present};
 ghost use Rattle.mono_graph.specs.Cycles.{is_cycle, is_order};
 ghost use Rattle.mono_cycles.specs.Kept.{IsGrownBy};
@@ -28,12 +28,13 @@ impl Model for OrderedPart {
 }
 
 impl OrderedPart {
-    /// No edge, in graphs with so many nodes, at most [`MAX_NODES`], and edges.
+    /// No edge and no cycle, in graphs with so many nodes, at most [`MAX_NODES`], and edges.
     pub fn new(alloc: Global, nodes: u32, edges: u32) -> Result<Self, AllocError>
         requires { nodes ≤ MAX_NODES }
         ensures size { IfOk result (λ o. length o.order ≡ nodes) }
         ensures part_size { IfOk result (λ o. length o.part ≡ edges) }
         ensures none { IfOk result (λ o. (k : ℕ) → present o.part k ≡ false) }
+        ensures no_cycle { IfOk result (λ o. o.cycle ≡ []) }
         ensures order { IfOk result (λ o. (g : Digraph) → g.nodes ≡ nodes → IsTrue (is_order g o.part o.order)) }
     {
         Ok(OrderedPart {
@@ -55,6 +56,7 @@ impl OrderedPart {
         ensures order { IsTrue result → IsTrue (is_order graph.now self.old.part self.old.order) → IsTrue (is_order graph.now self.new.part self.new.order) }
         ensures cycle { result ≡ false → (Q : List Bool) → IsGrownBy self.old.part Q place → IsTrue (is_cycle graph.now Q self.new.cycle) }
         ensures stays { result ≡ false → self.new.order ≡ self.old.order }
+        ensures cycle_stays { IsTrue result → self.new.cycle ≡ self.old.cycle }
         ensures part_stays { result ≡ false → (k : ℕ) → present self.new.part k ≡ present self.old.part k }
     {
         self.part.put(place);
@@ -71,6 +73,7 @@ impl OrderedPart {
         ensures part_size { length self.new.part ≡ length self.old.part }
         ensures part { (k : ℕ) → present self.new.part k ≡ (not (k == place) && present self.old.part k) }
         ensures stays { self.new.order ≡ self.old.order }
+        ensures cycle_stays { self.new.cycle ≡ self.old.cycle }
         ensures order { (g : Digraph) → IsTrue (is_order g self.old.part self.old.order) → IsTrue (is_order g self.new.part self.new.order) }
     {
         self.part.take(place);

@@ -61,6 +61,8 @@ pub fn assign_changes_no_label(
     requires owned { IsSome (atom_of theory.old.atoms atom) }
     requires node { node < theory.old.graph.nodes }
     ensures seen { facts_in theory.new ≡ seeing (facts_in theory.old) lit }
+    ensures read { result.0 ≡ ⟦<DistanceTheory as HasLabels>⟧.labels_of theory.old atom node }
+    ensures read_again { result.1 ≡ ⟦<DistanceTheory as HasLabels>⟧.labels_of theory.new atom node }
     ensures stay { result.1 ≡ result.0 }
 {
     let before = theory.labels(atom, node);
@@ -84,6 +86,8 @@ pub fn explain_changes_no_label(
     requires owned { IsSome (atom_of theory.old.atoms atom) }
     requires node { node < theory.old.graph.nodes }
     ensures same { facts_in theory.new ≡ facts_in theory.old }
+    ensures read { IfOk result (λ labels. labels.0 ≡ ⟦<DistanceTheory as HasLabels>⟧.labels_of theory.old atom node) }
+    ensures read_again { IfOk result (λ labels. labels.1 ≡ ⟦<DistanceTheory as HasLabels>⟧.labels_of theory.new atom node) }
     ensures stay { IfOk result (λ labels. labels.1 ≡ labels.0) }
 {
     let before = theory.labels(atom, node);
@@ -104,6 +108,7 @@ pub fn force_decides_labels(
     requires node { node < theory.old.graph.nodes }
     ensures same { facts_in theory.new ≡ facts_in theory.old }
     ensures answer { IfOk result (λ read. ForceIs theory.old.graph theory.old.atoms theory.old.seen read.0) }
+    ensures read { IfOk result (λ read. read.1 ≡ ⟦<DistanceTheory as HasLabels>⟧.labels_of theory.new atom node) }
     ensures under { IfOk result (λ read. read.0 ≡ Force.Quiet → MatchOption (atom_of theory.old.atoms atom) ⊥ (λ x. node ≡ last_node x.predicate
         → Decides theory.old.graph (under theory.old.graph theory.old.seen) x.predicate (is_some read.1.under))) }
     ensures over { IfOk result (λ read. read.0 ≡ Force.Quiet → MatchOption (atom_of theory.old.atoms atom) ⊥ (λ x. node ≡ last_node x.predicate
@@ -126,6 +131,7 @@ pub fn propagate_decides_labels(
     requires node { node < theory.old.graph.nodes }
     ensures same { facts_in theory.new ≡ facts_in theory.old }
     ensures finding { IfOk result (λ read. FindingIs theory.old.graph theory.old.atoms theory.old.seen read.0) }
+    ensures read { IfOk result (λ read. read.1 ≡ ⟦<DistanceTheory as HasLabels>⟧.labels_of theory.new atom node) }
     ensures under { IfOk result (λ read. read.0 ≡ Finding.Quiet → MatchOption (atom_of theory.old.atoms atom) ⊥ (λ x. node ≡ last_node x.predicate
         → Decides theory.old.graph (under theory.old.graph theory.old.seen) x.predicate (is_some read.1.under))) }
     ensures over { IfOk result (λ read. read.0 ≡ Finding.Quiet → MatchOption (atom_of theory.old.atoms atom) ⊥ (λ x. node ≡ last_node x.predicate

@@ -42,10 +42,6 @@ pub record IsCostRow (nodes latest : ℕ) (t : Costs) : Type 0 where
   pub sized : length t.labels ≡ nodes
   pub stamps : All (λ c. c.stamp ≤ latest) t.changes
 
--- each row has the least costs from its source after each number of steps up to n
-pub record AreAllLeast (g : Digraph) (parts : ℕ → List Bool) (n : ℕ) (sources : List ℕ) (rows : List Costs) : Type 0 where
-  pub each : (i : ℕ) → i < length rows → AreLeastAlong g parts n (slice_index_or sources i 0) (costs_at rows i)
-
 -- edges have come, and the row has grown by them
 pub record IsGrownCosts (g : Digraph) (Q : List Bool) (ks : List ℕ) (stamp : ℕ) (old new : Costs) : Type 0 where
   pub later : IsLater stamp old new

@@ -31,7 +31,6 @@ pub record AreAllReached (g : Digraph) (parts : ℕ → List Bool) (n : ℕ) (ro
 pub record IsGrownRow (g : Digraph) (Q : List Bool) (ks : List ℕ) (stamp : ℕ) (old new : Reached) : Type 0 where
   pub nodes : new.nodes ≡ old.nodes
   pub source : new.source ≡ old.source
-  pub stamps : All (λ a. a.stamp ≤ stamp) new.arrivals
   pub earlier : (m : ℕ) → m < stamp → within m new.arrivals ≡ within m old.arrivals
   pub along : (parts : ℕ → List Bool) (n : ℕ) → AreReachedAlong g parts n old.source old.arrivals → GrowsAfter parts n stamp Q ks
       → AreReachedAlong g parts stamp old.source new.arrivals

@@ -35,6 +35,10 @@ last_first (suc (suc n)) = both
 abbrev pub change : ℕ → ℕ → ℕ → ℕ → ℕ → ℕ → Change
 change v k previous old l stamp = record { node = v; place = k; before = 0; previous = previous; old = old; label = l; stamp = stamp }
 
+-- by an edge that leaves the node of this change before it, counted from 1
+abbrev pub change_from : ℕ → ℕ → ℕ → ℕ → Change
+change_from before v k l = record { node = v; place = k; before = before; previous = 0; old = 10; label = l; stamp = 1 }
+
 -- what walks over two parallel edges cost, the cheaper of which weighs 1, by these changes
 abbrev pub lowered_by : List Change → Costs
 lowered_by cs = record { limit = limit.Weight (pos 9); cap = 10; labels = 0 ∷ 1 ∷ []; changes = cs }

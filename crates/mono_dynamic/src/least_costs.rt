@@ -90,7 +90,8 @@ impl LeastCosts {
     pub fn walk_to(&self, alloc: Global, node: u32, kept: u32) -> Result<Vec<u32>, AllocError>
         requires node { node < length self.now.labels }
         ensures { IfOk result (λ walk. label_of (labels_after kept self.now) node < self.now.cap
-            → (g : Digraph) (parts : ℕ → List Bool) (n u : ℕ) → kept ≤ n → AreLeastAlong g parts n u self.now → IsTrue (is_walk g (parts kept) u node walk.items)
+            → (g : Digraph) (parts : ℕ → List Bool) (n u : ℕ) → kept ≤ n → AreLeastAlong g parts n u self.now
+            → IsTrue (is_walk g (parts kept) u node walk.items)
             × (cost_along self.now.limit g walk.items ≡ label_of (labels_after kept self.now) node)) }
     {
         let given = self.relaxation.table.given_after(node, kept);

@@ -296,7 +296,7 @@ impl Kind for Flow {
         predicate: Predicate,
         kept: Option<&Evidence>,
     ) -> Result<Option<Evidence>, AllocError> {
-        let _ = graph.nodes();
+        graph.known();
         let Predicate::Flow { source, sink, .. } = predicate else {
             unreachable!()
         };

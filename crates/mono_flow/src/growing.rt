@@ -46,7 +46,7 @@ fn join_end(
     ensures has { IfOk result (λ _. IsTrue (has set.new.items (edge_at graph.now place).to)) }
 {
     // The edges of a graph lead between its nodes.
-    let _ = graph.nodes();
+    graph.known();
     let node = graph.edge(place).to;
     if marks[node as usize] {
         return Ok(());
@@ -115,7 +115,7 @@ fn is_still_open(graph: &Graph, part: &Part, marks: &[bool], place: u32) -> bool
     ensures { result ≡ is_open graph.now part.now marks.now place }
 {
     // The edges of a graph lead between its nodes.
-    let _ = graph.nodes();
+    graph.known();
     !part.has(place) && !marks[graph.edge(place).to as usize]
 }
 

@@ -62,6 +62,7 @@ pub fn assign_keeps_flows(
     requires place { place < length theory.old.graph.edges }
     ensures seen { facts_in theory.new ≡ seeing (facts_in theory.old) lit }
     ensures read { result.0 ≡ ⟦<FlowTheory as HasFlows>⟧.flows_of theory.old atom place }
+    ensures read_again { result.1 ≡ ⟦<FlowTheory as HasFlows>⟧.flows_of theory.new atom place }
     ensures under { result.1.under ≡ result.0.under }
     ensures over { (result.1.over ≡ result.0.over) ⊎ GivesToLost theory.old.graph lit (λ k. (⟦<FlowTheory as HasFlows>⟧.flows_of theory.old atom k).over) }
 {
@@ -85,6 +86,8 @@ pub fn undo_keeps_flows(
     requires owned { IsSome (atom_of theory.old.atoms atom) }
     requires place { place < length theory.old.graph.edges }
     ensures seen { facts_in theory.new ≡ cut_to kept (facts_in theory.old) }
+    ensures read { result.0 ≡ ⟦<FlowTheory as HasFlows>⟧.flows_of theory.old atom place }
+    ensures read_again { result.1 ≡ ⟦<FlowTheory as HasFlows>⟧.flows_of theory.new atom place }
     ensures over { result.1.over ≡ result.0.over }
 {
     let before = theory.flows(atom, place);
@@ -108,6 +111,8 @@ pub fn explain_changes_no_flow(
     requires owned { IsSome (atom_of theory.old.atoms atom) }
     requires place { place < length theory.old.graph.edges }
     ensures same { facts_in theory.new ≡ facts_in theory.old }
+    ensures read { IfOk result (λ flows. flows.0 ≡ ⟦<FlowTheory as HasFlows>⟧.flows_of theory.old atom place) }
+    ensures read_again { IfOk result (λ flows. flows.1 ≡ ⟦<FlowTheory as HasFlows>⟧.flows_of theory.new atom place) }
     ensures stay { IfOk result (λ flows. flows.1 ≡ flows.0) }
 {
     let before = theory.flows(atom, place);

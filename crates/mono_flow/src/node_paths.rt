@@ -21,7 +21,7 @@ const FIRST_CREDIT: u32 = 32;
 
 /// A side of a node that a search reached: where paths enter it, or where they leave it.
 #[derive(Clone, Copy)]
-struct Side {
+struct NodeSide {
     node: u32,
     leaves: bool,
     /// The edge by which it was reached, in its direction to where paths enter, against it to where they leave, or none.
@@ -43,7 +43,7 @@ pub(crate) struct NodePaths {
     entered: Vec<bool>,
     left: Vec<bool>,
     /// The sides reached, in order.
-    sides: Vec<Side>,
+    sides: Vec<NodeSide>,
     /// How often such flows may still be looked for in vain.
     credit: u32,
     /// Whether the graph's edges carry 1 at most, once that was looked at.
@@ -51,7 +51,7 @@ pub(crate) struct NodePaths {
 }
 
 /// The side at a place, if there is one.
-fn side_at(sides: &[Side], place: usize) -> Option<Side> {
+fn side_at(sides: &[NodeSide], place: usize) -> Option<NodeSide> {
     match sides.get(place) {
         Some(side) => Some(*side),
         None => None,
@@ -59,7 +59,7 @@ fn side_at(sides: &[Side], place: usize) -> Option<Side> {
 }
 
 /// Takes the marks of the sides back.
-fn unmark_sides(entered: &mut Vec<bool>, left: &mut Vec<bool>, sides: &[Side]) {
+fn unmark_sides(entered: &mut Vec<bool>, left: &mut Vec<bool>, sides: &[NodeSide]) {
     for side in sides {
         set_mark(entered, side.node, false);
         set_mark(left, side.node, false);
@@ -67,7 +67,7 @@ fn unmark_sides(entered: &mut Vec<bool>, left: &mut Vec<bool>, sides: &[Side]) {
 }
 
 /// The edges of the way to the last side that it takes against their direction leave the paths.
-fn drop_edges(graph: &Graph, entering: &mut Vec<u32>, leaving: &mut Vec<u32>, sides: &[Side]) {
+fn drop_edges(graph: &Graph, entering: &mut Vec<u32>, leaving: &mut Vec<u32>, sides: &[NodeSide]) {
     let mut at = sides.len().saturating_sub(1);
     for _step in 0..sides.len() {
         let Some(side) = side_at(sides, at) else {
@@ -229,7 +229,7 @@ impl NodePaths {
         if !leaves && is_marked(&self.entered, node) {
             return Ok(());
         }
-        self.sides.push(Side {
+        self.sides.push(NodeSide {
             node,
             leaves,
             edge,

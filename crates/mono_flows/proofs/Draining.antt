@@ -26,6 +26,7 @@ drained_none fs = record {
   distinct = refl;
   known = All-nil (λ (a : Amount). a.edge < length fs);
   small = λ v le. All-nil (λ (a : Amount). a.amount ≤ v);
+  carrying = All-nil (λ (a : Amount). 0 < a.amount);
 }
 
 -- an entry that is 0 already
@@ -40,6 +41,7 @@ drained_zero {now = now} {done = done} k zero h = record {
   distinct = h.distinct;
   known = h.known;
   small = h.small;
+  carrying = h.carrying;
 }
 
 -- an entry is listed and set to 0
@@ -69,6 +71,7 @@ drained_some {old = old} {now = now} {done = done} {xs = xs} a low len is some h
       distinct = subst (λ (ks : List ℕ). IsTrue (is_distinct ks)) (sym (edges_push xs a)) (distinct_new (edges_of xs) a.edge h.distinct new);
       known = All-push (λ (b : Amount). b.edge < length old) xs a h.known (omega (arith, low, len));
       small = λ v le. All-push (λ (b : Amount). b.amount ≤ v) xs a (h.small v le) (let top = le a.edge in omega (arith, top, is, old-here));
+      carrying = All-push (λ (b : Amount). 0 < b.amount) xs a h.carrying some;
     }
 
 -- where each edge that carries something is among them, all carry nothing then, and the list says what they carried

@@ -28,6 +28,11 @@ abbrev pub IsSmall : FlowOrCut → Type 0
 IsSmall (found.Flow amounts) = All (λ a. a.amount ≤ MAX_WITNESS_VALUE) amounts.items
 IsSmall (found.Cut set) = Unit
 
+-- each edge that a flow lists carries something
+abbrev pub IsCarrying : FlowOrCut → Type 0
+IsCarrying (found.Flow amounts) = All (λ a. 0 < a.amount) amounts.items
+IsCarrying (found.Cut set) = Unit
+
 -- a cut lists each node once; that a flow lists each edge once is a part of its test
 abbrev pub IsDistinct : FlowOrCut → Type 0
 IsDistinct (found.Flow amounts) = Unit
@@ -53,6 +58,7 @@ pub record IsAnswer (n : Network) (goal v : ℕ) (answer : FlowOrCut) : Type 0 w
   pub passes : Passes n.graph.now n.part.now n.source n.sink (pos goal) answer
   pub known : IsKnown n.graph.now answer
   pub small : IsSmall answer
+  pub carrying : IsCarrying answer
   pub distinct : IsDistinct answer
   pub exact : IsExact n.graph.now n.source (pos goal) answer
   pub value : HasValue n.graph.now n.part.now n.source v answer

@@ -14,3 +14,4 @@ pub record AreDrained (old new edges : List ℕ) (listed : List Amount) : Type 0
   pub distinct : IsTrue (is_distinct (edges_of listed))
   pub known : All (λ a. a.edge < length old) listed
   pub small : (v : ℕ) → ((k : ℕ) → amount_of old k ≤ v) → All (λ a. a.amount ≤ v) listed
+  pub carrying : All (λ a. 0 < a.amount) listed

@@ -25,11 +25,12 @@ pub record IsFlow (n : Network) (flow : Flow) : Type 0 where
   pub touched : (k : ℕ) → 0 < amount_of flow.amounts.items k → IsTrue (has flow.touched.items k)
   pub flowing : IsFlowing n.graph.now n.part.now n.source n.sink (amount_of flow.amounts.items) flow.value
 
--- amounts of different edges of the graph, which are small
+-- amounts of different edges of the graph, which are small and not 0
 pub record IsListing (n : Network) (amounts : List Amount) : Type 0 where
   pub distinct : IsTrue (is_distinct (edges_of amounts))
   pub known : All (λ a. a.edge < length n.graph.now.edges) amounts
   pub small : All (λ a. a.amount ≤ MAX_WITNESS_VALUE) amounts
+  pub carrying : All (λ a. 0 < a.amount) amounts
 
 -- a flow between two nodes, of at most the goal, which is so small that no sum overflows
 pub record IsFlowTowards (n : Network) (goal : ℕ) (f : Flow) : Type 0 where

@@ -15,7 +15,7 @@ ghost use Rattle.mono_flows.specs.Flowing.{IsFlow, IsFlowing, IsFlowTowards, IsL
 ghost use Rattle.mono_flows.specs.Levels.{AreLevels};
 ghost use Rattle.mono_flows.specs.Rooms.{HasRoomFor, IsClearRoom};
 ghost use Rattle.mono_flows.specs.Sums.{AreZero};
-ghost use Rattle.mono_flows.specs.Answers.{Passes, IsAnswer, IsKnown, IsSmall, IsDistinct, IsExact, HasValue, IsFlowOfValue};
+ghost use Rattle.mono_flows.specs.Answers.{Passes, IsAnswer, IsKnown, IsSmall, IsCarrying, IsDistinct, IsExact, HasValue, IsFlowOfValue};
 
 use crate::blocking_flow::add_blocking_flow;
 use crate::edge_room::EdgeRoom;
@@ -78,7 +78,8 @@ impl FlowFinder {
     /// A flow in the part from the source to the sink with a value of at least `least`, or a cut that shows that there
     /// is none. `least` is from 0 to 2^53 + 1.
     ///
-    /// The flow has exactly the value `least`, and the cut lists each node once. Their order isn't promised.
+    /// The flow has exactly the value `least`, each edge that it lists carries something, and the cut lists each node once. Their
+    /// order isn't promised.
     pub fn find_flow(
         &mut self,
         alloc: Global,
@@ -98,6 +99,7 @@ impl FlowFinder {
         ensures passes { IfOk result (Passes graph.now part.now source sink least) }
         ensures known { IfOk result (IsKnown graph.now) }
         ensures small { IfOk result IsSmall }
+        ensures carrying { IfOk result IsCarrying }
         ensures distinct { IfOk result IsDistinct }
         ensures exact { IfOk result (IsExact graph.now source least) }
         ensures finder { self.new ≡ self.old }
@@ -134,6 +136,7 @@ impl FlowFinder {
         ensures passes { IfOk result (λ found. Passes graph.now part.now source sink least found.answer) }
         ensures known { IfOk result (λ found. IsKnown graph.now found.answer) }
         ensures small { IfOk result (λ found. IsSmall found.answer) }
+        ensures carrying { IfOk result (λ found. IsCarrying found.answer) }
         ensures distinct { IfOk result (λ found. IsDistinct found.answer) }
         ensures exact { IfOk result (λ found. IsExact graph.now source least found.answer) }
         ensures value { IfOk result (λ found. HasValue graph.now part.now source found.value found.answer) }
@@ -332,6 +335,7 @@ pub fn find_flow(
     ensures passes { IfOk result (Passes graph.now part.now source sink least) }
     ensures known { IfOk result (IsKnown graph.now) }
     ensures small { IfOk result IsSmall }
+    ensures carrying { IfOk result IsCarrying }
     ensures distinct { IfOk result IsDistinct }
     ensures exact { IfOk result (IsExact graph.now source least) }
 {

@@ -14,7 +14,7 @@ pub(crate) fn visited_nodes(alloc: Global, visits: &[Visit]) -> Result<Vec<u32>,
     visits.iter().map(|visit| visit.node).collect(alloc)
 }
 
-/// Lists what the touched edges carry, each once, and lets them carry nothing from then on.
+/// Lists what the touched edges carry, where that is something, each once, and lets them carry nothing from then on.
 pub(crate) fn drain(
     alloc: Global,
     amounts: &mut Vec<u64>,

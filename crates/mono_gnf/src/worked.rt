@@ -89,6 +89,24 @@ pub fn worked_counts()
         → statement_fault before (says.Atom 5 1 kind.Acyclic) ≡ None }
 {}
 
+/// Every other fault of a line comes before the counts. Graph 7 is new, graph 5 has 2 nodes.
+pub fn worked_counts_come_last()
+    ensures no_nodes { (before : List Statement) → length (graphs before) ≡ MAX_GRAPHS → nodes_named (graphs before) 7 ≡ None
+        → statement_fault before (says.Graph 7 0) ≡ Some fault.NodeOutOfRange }
+    ensures identity { (before : List Statement) → length (graphs before) ≡ MAX_GRAPHS → nodes_named (graphs before) 5 ≡ Some 2
+        → statement_fault before (says.Graph 5 1) ≡ Some fault.DuplicateGraph }
+    ensures edges_graph { (before : List Statement) → length (edges before) ≡ MAX_EDGES → nodes_named (graphs before) 7 ≡ None
+        → statement_fault before (says.Edge 7 0 1 1 0) ≡ Some fault.UnknownGraph }
+    ensures edges_node { (before : List Statement) → length (edges before) ≡ MAX_EDGES → nodes_named (graphs before) 5 ≡ Some 2
+        → statement_fault before (says.Edge 5 0 2 1 0) ≡ Some fault.NodeOutOfRange }
+    ensures edges_variable { (before : List Statement) → length (edges before) ≡ MAX_EDGES → nodes_named (graphs before) 5 ≡ Some 2
+        → statement_fault before (says.Edge 5 0 1 0 0) ≡ Some fault.BadVariable }
+    ensures predicates_graph { (before : List Statement) → length (atoms before) ≡ MAX_ATOMS → nodes_named (graphs before) 7 ≡ None
+        → statement_fault before (says.Atom 7 1 kind.Acyclic) ≡ Some fault.UnknownGraph }
+    ensures predicates_ends { (before : List Statement) → length (atoms before) ≡ MAX_ATOMS → nodes_named (graphs before) 5 ≡ Some 2
+        → statement_fault before (says.Atom 5 1 (kind.Flow 0 0 (pos 1))) ≡ Some fault.SameEnds }
+{}
+
 /// How many clauses and literals there may be, those of the line itself among them.
 pub fn worked_number_counts()
     ensures clauses { (zs : List ℤ) → length (clauses_of zs) ≡ MAX_CLAUSES → number_fault zs (codes "0" ∷ []) ≡ Some fault.TooMany }

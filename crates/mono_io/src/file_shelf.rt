@@ -69,6 +69,8 @@ impl<A: FileAccess> FileShelf<A> {
     pub fn into_access(self) -> A
         ensures opens { A.opens result ≡ self.begun }
         ensures contents { A.contents result ≡ self.contents }
+        ensures opened { A.opened result ≡ self.opened }
+        ensures rest { A.rest result ≡ self.rest }
         ensures refusals { A.refusals result ≡ self.refusals }
     {
         self.access

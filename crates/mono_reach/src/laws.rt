@@ -6,7 +6,7 @@ ghost use Rattle.mono_base.specs.Partial.{is_open_in};
 ghost use Rattle.mono_problem.specs.Quiet.{over, under};
 ghost use Rattle.mono_theory.specs.EitherSides.{IsEitherKept};
 ghost use Rattle.mono_theory.specs.Evidences.{Decides};
-ghost use Rattle.mono_theory.specs.Supports.{facts_in};
+ghost use Rattle.mono_theory.specs.Supports.{atom_at, facts_in};
 ghost use Rattle.mono_theory.specs.Theories.{FindingIs, ForceIs, ForcesBy, atom_of, concerns_of, seeing};
 ghost use Rattle.mono_reach.specs.Marks.{last_node};
 ghost use Rattle.mono_reach.specs.Readings.{ReachView, marks_at};
@@ -46,6 +46,10 @@ pub fn assign_changes_no_mark(
     requires owned { IsSome (atom_of theory.old.atoms atom) }
     requires node { node < theory.old.graph.nodes }
     ensures seen { facts_in theory.new ≡ seeing (facts_in theory.old) lit }
+    ensures read { (place : ℕ) → place < length theory.old.atoms → (atom_at theory.old.atoms place).number ≡ atom
+        → result.0 ≡ ⟦<ReachTheory as HasMarks>⟧.marks_of theory.old place node }
+    ensures read_again { (place : ℕ) → place < length theory.new.atoms → (atom_at theory.new.atoms place).number ≡ atom
+        → result.1 ≡ ⟦<ReachTheory as HasMarks>⟧.marks_of theory.new place node }
     ensures stay { result.1 ≡ result.0 }
 {
     let before = theory.marks(atom, node);
@@ -69,6 +73,10 @@ pub fn explain_changes_no_mark(
     requires owned { IsSome (atom_of theory.old.atoms atom) }
     requires node { node < theory.old.graph.nodes }
     ensures same { facts_in theory.new ≡ facts_in theory.old }
+    ensures read { IfOk result (λ marks. (place : ℕ) → place < length theory.old.atoms → (atom_at theory.old.atoms place).number ≡ atom
+        → marks.0 ≡ ⟦<ReachTheory as HasMarks>⟧.marks_of theory.old place node) }
+    ensures read_again { IfOk result (λ marks. (place : ℕ) → place < length theory.new.atoms → (atom_at theory.new.atoms place).number ≡ atom
+        → marks.1 ≡ ⟦<ReachTheory as HasMarks>⟧.marks_of theory.new place node) }
     ensures stay { IfOk result (λ marks. marks.1 ≡ marks.0) }
 {
     let before = theory.marks(atom, node);
@@ -88,6 +96,8 @@ pub fn force_decides_marks(
     requires node { node < theory.old.graph.nodes }
     ensures same { facts_in theory.new ≡ facts_in theory.old }
     ensures answer { IfOk result (λ read. ForceIs theory.old.graph theory.old.atoms theory.old.seen read.0) }
+    ensures read { IfOk result (λ read. (place : ℕ) → place < length theory.new.atoms → (atom_at theory.new.atoms place).number ≡ atom
+        → read.1 ≡ ⟦<ReachTheory as HasMarks>⟧.marks_of theory.new place node) }
     ensures under { IfOk result (λ read. read.0 ≡ Force.Quiet → MatchOption (atom_of theory.old.atoms atom) ⊥ (λ x. node ≡ last_node x.predicate
         → Decides theory.old.graph (under theory.old.graph theory.old.seen) x.predicate read.1.under)) }
     ensures over { IfOk result (λ read. read.0 ≡ Force.Quiet → MatchOption (atom_of theory.old.atoms atom) ⊥ (λ x. node ≡ last_node x.predicate
@@ -109,6 +119,8 @@ pub fn propagate_decides_marks(
     requires node { node < theory.old.graph.nodes }
     ensures same { facts_in theory.new ≡ facts_in theory.old }
     ensures finding { IfOk result (λ read. FindingIs theory.old.graph theory.old.atoms theory.old.seen read.0) }
+    ensures read { IfOk result (λ read. (place : ℕ) → place < length theory.new.atoms → (atom_at theory.new.atoms place).number ≡ atom
+        → read.1 ≡ ⟦<ReachTheory as HasMarks>⟧.marks_of theory.new place node) }
     ensures under { IfOk result (λ read. read.0 ≡ Finding.Quiet → MatchOption (atom_of theory.old.atoms atom) ⊥ (λ x. node ≡ last_node x.predicate
         → Decides theory.old.graph (under theory.old.graph theory.old.seen) x.predicate read.1.under)) }
     ensures over { IfOk result (λ read. read.0 ≡ Finding.Quiet → MatchOption (atom_of theory.old.atoms atom) ⊥ (λ x. node ≡ last_node x.predicate

@@ -106,13 +106,15 @@ decided_moved b t u s steps o r l v q next var e sound = subst (λ (w : TrailVie
       more = omega (arith, length-append t.lits (l ∷ []));
     }
 
-pub decided_by_sign : (b : TheoriesView) (t u : TrailView) (s : StoreView) (steps : List Step) (o r : OrderView) (l : ℤ) (v : ℕ) (sign : Bool) → IsNext o r t.lits v → (IsTrue (value_in r.phases v) → IsTrue sign) → l ≡ literal_of sign v → u ≡ joined t l Decided
+pub decided_by_sign : (b : TheoriesView) (t u : TrailView) (s : StoreView) (steps : List Step) (o r : OrderView) (l : ℤ) (v : ℕ) (sign : Bool) → IsNext o r t.lits v → (IsTrue (value_in r.phases v) → IsTrue sign)
+    → (IsTrue sign → value_in r.phases v ≡ false → 0 < length b.facts) → l ≡ literal_of sign v → u ≡ joined t l Decided
     → DecidesBySign (state b t s steps o) (state b u s steps r)
-decided_by_sign b t u s steps o r l v sign next is lit e = record {
+decided_by_sign b t u s steps o r l v sign next is theory lit e = record {
   var = v;
   sign = sign;
   is_open = next.is_open;
   saved_sign = λ on. is (subst (λ (ps : List Bool). IsTrue (value_in ps v)) (sym next.phases) on);
+  by_theory = λ on off. theory on (subst (λ (ps : List Bool). value_in ps v ≡ false) (sym next.phases) off);
   decided = e ∙ ap (λ (m : ℤ). joined t m Decided) lit;
   phases = next.phases;
 }

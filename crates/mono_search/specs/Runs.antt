@@ -111,12 +111,14 @@ PropagatedAs v w (propagated.Conflict n) = IsInConflictAfter v w n
 
 -- ---- a decision
 
--- a literal of an open variable is decided: the variable itself, where the sign saved for it is true
+-- a literal of an open variable is decided: the variable itself, where the sign saved for it is true. Where that isn't, it is so only
+-- where there are theories, which may want or prefer it
 pub record DecidesBySign (v w : StateView) : Type 0 where
   pub var : ℕ
   pub sign : Bool
   pub is_open : IsTrue (is_open_in v.trail.lits (pos var))
   pub saved_sign : IsTrue (value_in v.order.phases var) → IsTrue sign
+  pub by_theory : IsTrue sign → value_in v.order.phases var ≡ false → 0 < length v.theories.facts
   pub decided : w.trail ≡ joined v.trail (literal_of sign var) Decided
   pub phases : w.order.phases ≡ v.order.phases
 

@@ -6,8 +6,8 @@ use Rattle.mono_steps.specs.Journals.{chain_count}
 use Rattle.mono_search.specs.Restarts.{Counted, CountedAfter}
 use Rattle.mono_search.specs.State.{StateView, IsJournal, IsReady}
 
--- the problem, the steps of the journal, whether it may be run, and the sign by which each variable is decided next unless its
--- theory prefers true, variable 1 first
+-- the problem, the steps of the journal, whether it may be run, and the sign by which each variable is decided next, variable 1 first,
+-- unless a theory wants or prefers it to be true
 pub record SearchView : Type 0 where
   pub problem : Instance
   pub steps : List Step

@@ -1,6 +1,6 @@
 //! What one of a list of theories forces, and what theories prefer.
 
-ghost use Rattle.std.specs.Prelude.{◌≡◌, ◌<◌, All, IfOk, IfSome, MatchOption, length};
+ghost use Rattle.std.specs.Prelude.{◌≡◌, ◌<◌, All, IfOk, IfSome, IsTrue, MatchOption, OnSome, length};
 ghost use Rattle.mono_theory.specs.Owners.{fact_of, facts_of};
 ghost use Rattle.mono_search.specs.TheoryLists.{IsQuietTheory, OthersAreQuiet, AreOwners, IsShort, IsAnswer, ForcesIt, GivesIt, AnyGives};
 
@@ -89,7 +89,9 @@ fn counted_from(last: bool, at: usize, count: usize) -> usize
 
 /// The variable of an edge that one of the theories would have decided true next: the first theory that wants one, or the last
 /// one.
-pub(crate) fn any_wanted<T: Theory>(theories: &[T], last_first: bool) -> Option<u32> {
+pub(crate) fn any_wanted<T: Theory>(theories: &[T], last_first: bool) -> Option<u32>
+    ensures { OnSome result (0 < length theories.now) }
+{
     for at in 0..theories.len() {
         let place = counted_from(last_first, at, theories.len());
         if let Some(var) = theories[place].wanted() {
@@ -102,6 +104,7 @@ pub(crate) fn any_wanted<T: Theory>(theories: &[T], last_first: bool) -> Option<
 /// Whether one of the theories at these places prefers the variable to be true.
 pub(crate) fn any_prefers<T: Theory>(theories: &[T], places: &[usize], var: u32) -> bool
     requires { All (λ i. i < length theories.now) places.now }
+    ensures { IsTrue result → 0 < length theories.now }
 {
     for place in places {
         if theories[*place].prefers(var) {

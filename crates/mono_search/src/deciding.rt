@@ -1,6 +1,6 @@
 //! Decisions, and the model when there is nothing left to decide.
 
-ghost use Rattle.std.specs.Prelude.{◌≡◌, ◌↔◌, ℕ, pos, length, false, IfOk, IfSome, IsTrue};
+ghost use Rattle.std.specs.Prelude.{◌≡◌, ◌↔◌, ◌<◌, ℕ, pos, length, false, IfOk, IfSome, OnSome, IsTrue};
 ghost use Rattle.mono_base.specs.Literal.{value_in};
 ghost use Rattle.mono_base.specs.Partial.{is_open_in, is_true_in};
 ghost use Rattle.mono_trail.specs.Moves.{IsVar};
@@ -57,7 +57,8 @@ impl<'p, T: Theory> State<'p, T> {
 
     /// An open variable that a theory would have decided true next, where the search follows that first.
     fn wanted(&self) -> Option<u32>
-        ensures { IfSome result (λ v. IsVar self.now.trail.vars v × IsTrue (is_open_in self.now.trail.lits (pos v))) }
+        ensures open { IfSome result (λ v. IsVar self.now.trail.vars v × IsTrue (is_open_in self.now.trail.lits (pos v))) }
+        ensures theories { OnSome result (0 < length self.now.theories.facts) }
     {
         let last_first = self.memory.leads()?;
         let var = self.theories.wanted(last_first)?;
@@ -69,6 +70,7 @@ impl<'p, T: Theory> State<'p, T> {
         requires quiet { IsQuietState self.old }
         requires var { IsVar self.old.trail.vars var }
         requires open { IsTrue (is_open_in self.old.trail.lits (pos var)) }
+        requires theories { 0 < length self.old.theories.facts }
         ensures problem { self.new.theories.problem ≡ self.old.theories.problem }
         ensures steps { self.new.steps ≡ self.old.steps }
         ensures decided { HasAdvanced self.old self.new }
@@ -104,7 +106,8 @@ impl<'p, T: Theory> State<'p, T> {
     fn sign_of(&self, var: u32) -> bool
         requires ordered { IsVar (length self.now.order.waits) var }
         requires known { IsVar self.now.theories.problem.vars var }
-        ensures { IsTrue (value_in self.now.order.phases var) → IsTrue result }
+        ensures saved { IsTrue (value_in self.now.order.phases var) → IsTrue result }
+        ensures by_theory { IsTrue result → value_in self.now.order.phases var ≡ false → 0 < length self.now.theories.facts }
     {
         self.order.phase(var) || self.is_preferred(var)
     }
@@ -112,6 +115,7 @@ impl<'p, T: Theory> State<'p, T> {
     /// Whether a theory prefers the variable to be true, and the search follows that now.
     fn is_preferred(&self, var: u32) -> bool
         requires { IsVar self.now.theories.problem.vars var }
+        ensures { IsTrue result → 0 < length self.now.theories.facts }
     {
         let main = follows_theories(self.journal.steps().len());
         self.memory.follows(main) && self.theories.prefers(var)

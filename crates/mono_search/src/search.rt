@@ -113,8 +113,9 @@ impl<'p, T: Theory> Search<'p, T> {
         self.state.journal()
     }
 
-    /// The next decisions of these variables have the literals' signs, unless a theory prefers true, until a variable gets a
-    /// value again or the search begins anew. Of two signs of one variable the later one counts. All else stays.
+    /// The literals' signs are saved, of two signs of one variable the later one. The next decision of a variable has the sign
+    /// that is saved for it; but where there are theories, one of them may prefer true. A sign stays saved until its variable
+    /// gets a value again or the search begins anew. All else stays.
     pub fn prefer(&mut self, lits: &[Lit])
         requires live { IsTrue self.old.live }
         requires within { All (IsLitWithin self.old.problem.vars) lits.now }

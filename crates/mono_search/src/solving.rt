@@ -40,7 +40,8 @@ pub fn solve<T: Theory, F: Fn(&Problem) -> Result<Vec<T>, AllocError>>(
     Ok(solved)
 }
 
-/// Solves the problem so by a search whose first decisions have the literals' signs.
+/// Solves the problem so, by a search that prefers the literals' signs at first. No answer rests on them, and no clause says what
+/// comes of them.
 pub fn solve_preferring<T: Theory, F: Fn(&Problem) -> Result<Vec<T>, AllocError>>(
     alloc: Global,
     problem: &Problem,

@@ -4,7 +4,7 @@
 //! theory as a plain record of its graph, its atoms and the literals that it has seen, so a call changes the whole list of
 //! theories by one `map`. Together they explain the literals that were forced without a lemma.
 
-ghost use Rattle.std.specs.Prelude.{◌≡◌, ◌+◌, ◌<◌, ◌≤◌, length, All, IfOk, IfSome, IsTrue};
+ghost use Rattle.std.specs.Prelude.{◌≡◌, ◌+◌, ◌<◌, ◌≤◌, length, All, IfOk, IfSome, OnSome, IsTrue};
 ghost use Rattle.mono_base.specs.Literal.{IsLitWithin};
 ghost use Rattle.mono_base.specs.Partial.{is_partial};
 ghost use Rattle.mono_theory.specs.Owners.{facts_of};
@@ -154,16 +154,19 @@ impl<'p, T: Theory> Theories<'p, T> {
         self.handed = kept;
     }
 
-    /// Whether a theory that the variable concerns prefers it to be true. The answer is free.
+    /// Whether a theory that the variable concerns prefers it to be true. The answer is free where there are theories.
     pub fn prefers(&self, var: u32) -> bool
         requires { IsVar self.now.problem.vars var }
+        ensures { IsTrue result → 0 < length self.now.facts }
     {
         any_prefers(self.theories.as_slice(), self.concerned.list(var), var)
     }
 
     /// The variable of an edge that a theory would have decided true next, if there is one: the first theory's, or the last one's.
-    /// The answer is free.
-    pub fn wanted(&self, last_first: bool) -> Option<u32> {
+    /// The answer is free where there are theories.
+    pub fn wanted(&self, last_first: bool) -> Option<u32>
+        ensures { OnSome result (0 < length self.now.facts) }
+    {
         any_wanted(self.theories.as_slice(), last_first)
     }
 

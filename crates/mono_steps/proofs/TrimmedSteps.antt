@@ -74,6 +74,7 @@ trimmed_is p needed old new r h e short =
     record {
       needed = needed;
       as_many = h.as_many;
+      last = h.last;
       closed = λ j k s on at named. h.closed j k s (omega arith) on at named;
       is = e;
       trim = subst (λ (ss : List Step). IsTrimRefutation p ss) (sym e) trim;

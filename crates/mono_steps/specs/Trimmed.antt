@@ -30,11 +30,12 @@ pub record IsTrimRefutation (p : Instance) (steps : List Step) : Type 0 where
   pub named : (k : ℕ) → k + 1 < length steps → IsNamedLater (length p.clauses) steps k
   pub short : length steps < 2 ^ 63
 
--- the new steps are some of the old ones, in order and renumbered, and with each of them those that it names. They are a
--- refutation of nothing else
+-- the new steps are some of the old ones, in order and renumbered: the last one, and with each of them those that it names.
+-- They are a refutation of nothing else
 pub record IsTrimmed (p : Instance) (old new : List Step) : Type 0 where
   pub needed : List Bool
   pub as_many : length needed ≡ length old
+  pub last : IsTrue (slice_index_or needed (length old - 1) false)
   pub closed : (j k : ℕ) (s : Step) → IsTrue (slice_index_or needed j false) → slice_get old j ≡ Some s → IsTrue (names_step (length p.clauses) s k)
       → IsTrue (slice_index_or needed k false)
   pub is : new ≡ trimmed_steps (length p.clauses) needed old

@@ -4,7 +4,7 @@
 //! atoms' own variables, and the list has room for one literal of each variable. So a literal comes without memory. It is
 //! looked up once: where its edges and its atoms stand is kept.
 
-ghost use Rattle.std.specs.Prelude.{◌≡◌, ◌<◌, ◌≤◌, ◌+◌, ◌++◌, ◌∷◌, ◌^◌, [], ℕ, pos, map, not, false, take, length, Some, IfOk, IfSome, IsSome, IsTrue, int_lt, slice_index_or, vec_len, vec_capacity};
+ghost use Rattle.std.specs.Prelude.{◌≡◌, ◌<◌, ◌≤◌, ◌+◌, ◌++◌, ◌∷◌, ◌^◌, [], ℕ, pos, map, not, false, take, length, Some, IfOk, IfSome, IsSome, IsTrue, int_lt, slice_index_or, vec_capacity};
 ghost use Rattle.std.specs.List.Sorted.{IsStrictlyIncreasing};
 ghost use Rattle.mono_base.specs.Literal.{var_of};
 ghost use Rattle.mono_base.specs.Partial.{is_true_in, is_false_in, is_open_in, is_partial};
@@ -153,15 +153,6 @@ fn tables_of(alloc: Global, graph: &Graph, atoms: &[Atom]) -> Result<Tables, All
     })
 }
 
-/// Puts a literal where there is room for it.
-fn push_within(lits: &mut Vec<Lit>, lit: Lit)
-    requires { vec_len lits.old < vec_capacity lits.old }
-    ensures items { lits.new.items ≡ lits.old.items ++ lit ∷ [] }
-    ensures room { vec_capacity lits.old ≤ vec_capacity lits.new }
-{
-    lits.push_reserved(lit);
-}
-
 impl Frame {
     ghost use Rattle.mono_problem.specs.WellFormed.{IsOver};
     ghost use Rattle.mono_theory.specs.Questions.{IsAnswer, predicate_in};
@@ -273,7 +264,7 @@ impl Frame {
         let atoms = self.own.bounds().find(var);
         self.edges.assign(lit, edges);
         self.own.assign(lit, atoms);
-        push_within(&mut self.lits, lit);
+        self.lits.push_reserved(lit);
     }
 
     /// The list is cut to its first `kept` literals. It takes no memory, and work in proportion to what goes.

@@ -97,7 +97,8 @@ fn settle_row(
     ensures renewed { IsOneChanged (IsRenewedRow graph.now part.now number) rows.old.rows rows.new.rows row }
     ensures settled { OnOk result (is_settled (targets_at rows.new.rows row) ≡ true) }
     ensures due { (targets : List WalkTarget) → AreAsked rows.old.rows atoms.now.keys targets
-        → PutsDue (length atoms.now.keys) (lacks_by rows.old.rows atoms.now.keys targets) (lacks_by rows.new.rows atoms.now.keys targets) due.old.listed due.new.listed }
+        → PutsDue (length atoms.now.keys) (lacks_by rows.old.rows atoms.now.keys targets) (lacks_by rows.new.rows atoms.now.keys targets)
+        due.old.listed due.new.listed }
 {
     if rows.is_settled(row) {
         return Ok(());
@@ -128,7 +129,8 @@ fn settle_rows(
     ensures renewed { AreEach (IsRenewedRow graph.now part.now number) rows.old.rows rows.new.rows }
     ensures settled { OnOk result (AreSettledRows rows.new.rows) }
     ensures due { (targets : List WalkTarget) → AreAsked rows.old.rows atoms.now.keys targets
-        → PutsDue (length atoms.now.keys) (lacks_by rows.old.rows atoms.now.keys targets) (lacks_by rows.new.rows atoms.now.keys targets) due.old.listed due.new.listed }
+        → PutsDue (length atoms.now.keys) (lacks_by rows.old.rows atoms.now.keys targets) (lacks_by rows.new.rows atoms.now.keys targets)
+        due.old.listed due.new.listed }
 {
     for row in 0..rows.count() {
         settle_row(rows, atoms, alloc, row, graph, part, number, due)?;

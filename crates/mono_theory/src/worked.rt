@@ -41,7 +41,8 @@ pub fn lemmas_that_are_unit()
     ensures without_it { IsUnitLemma (parallel 1 1) reaches (minus 3 ∷ pos 1 ∷ []) (minus 2) (walk_along 1) → ⊥ }
     ensures no_atom { IsUnitLemma (parallel 1 1) [] (minus 3 ∷ []) (minus 1) (walk_along 1) → ⊥ }
     ensures not_shown { IsUnitLemma (parallel 1 1) reaches (minus 3 ∷ []) (minus 1) (of_1 (minus 1 ∷ pos 3 ∷ []) (by.Path (2 ∷ []))) → ⊥ }
-    ensures another_variable { IsUnitLemma (parallel 1 1) reaches (minus 3 ∷ minus 9 ∷ []) (minus 1) (of_1 (minus 1 ∷ pos 3 ∷ pos 9 ∷ []) (by.Path (1 ∷ []))) → ⊥ }
+    ensures another_variable { IsUnitLemma (parallel 1 1) reaches (minus 3 ∷ minus 9 ∷ []) (minus 1)
+        (of_1 (minus 1 ∷ pos 3 ∷ pos 9 ∷ []) (by.Path (1 ∷ []))) → ⊥ }
 {}
 
 /// An open edge breaks an atom where it is among the edges of evidence that is right with it, and that shows what the variable of

@@ -244,9 +244,7 @@ impl Trail {
     }
 
     /// Hands out a table by place on which nothing is marked, for a conflict analysis, which gives it back so that the
-    /// next one finds it.
-    ///
-    /// It has a place for each literal of the trail, unless an earlier one was never given back: then it may be shorter.
+    /// next one finds it. It may be shorter than the trail: so it is where an earlier one was never given back.
     pub fn take_seen(&mut self, alloc: Global) -> Vec<bool>
         ensures table { IsUnseen result.items }
         ensures same { self.new ≡ self.old }

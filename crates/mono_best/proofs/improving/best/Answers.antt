@@ -2,7 +2,6 @@ use Rattle.std.proofs.Common.{◌≡◌, ◌+◌, ◌-◌, ◌≤◌, ◌∙◌,
 use Rattle.mono_base.specs.declared.limits.TheConstants.{MAX_BOUND}
 use Rattle.mono_base.specs.Literal.{IsLitWithin}
 use Rattle.mono_search.specs.Outcomes.{HasModel}
-use Rattle.mono_search.specs.Signs.{AreSigns}
 use Rattle.mono_best.specs.Asking.{asking, predicate_of}
 use Rattle.mono_best.specs.Bounds.{bound_at}
 use Rattle.mono_best.specs.Best.{IsReply}
@@ -36,5 +35,4 @@ loop-signs-preserved g c =
     let model : HasModel (asking p n (bound_at (predicate_of p n) (last + 1 - 1))) c.in-Met.model = subst (λ (j : ℕ). HasModel (asking p n (bound_at (predicate_of p n) j)) c.in-Met.model) before h.2 in
     let len : length c.as_slice-in-Met.result.now ≡ p.vars + 1 = ap (λ (xs : List Bool). length xs) c.as_slice-in-Met.ensures ∙ h.2.len in
     let within = subst (λ (v : ℕ). All (IsLitWithin v) c.in_ok-signs-in-Met.signs.items) len c.in_ok-signs-in-Met.ensures.within in
-    let signs = subst (λ (m : List Bool). AreSigns m (length m) c.in_ok-signs-in-Met.signs.items) c.as_slice-in-Met.ensures c.in_ok-signs-in-Met.ensures.signs in
-    (few, (omega arith, few, model), within, signs)
+    (few, (omega arith, few, model), within)

@@ -62,6 +62,9 @@ returns-clause-other_line c = by_case
 pub returns-clause-nothing_asked : goal.returns-clause-nothing_asked
 returns-clause-nothing_asked c = λ text written h. h.unasked
 
+pub returns-clause-of_a_problem : goal.returns-clause-of_a_problem
+returns-clause-of_a_problem c = λ found text written h. (h.problem, h.stands)
+
 pub returns-clause-no_room : goal.returns-clause-no_room
 returns-clause-no_room c = λ text p lits stands none. inr (record { problem = p; stands = stands; unasked = (none, text_0) })
 

@@ -1,12 +1,18 @@
-use Rattle.std.proofs.Common.{◌≡◌, ℕ, List, [], ◌++◌, length, length-append, Option, Some, None, codes, refl, ap, sym, arith, ◌∙◌, inl, inr}
+use Rattle.std.proofs.Common.{◌≡◌, ℕ, true, List, [], ◌++◌, length, length-append, Option, Some, None, codes, refl, ap, sym, subst, arith, ◌∙◌, inl, inr}
 use Rattle.std.specs.Fmt.{digits}
 use Rattle.std.specs.Prelude.{slice_index}
+use Rattle.mono_problem.specs.Instance.{Instance}
+use Rattle.mono_gnf.specs.Stands.{Stands}
 use Rattle.mono_check.specs.declared.verdict.Verdict.{Verdict}
 use Rattle.mono_check.specs.declared.verdict.Verdict.TheVariants as verdict
 use Rattle.mono_cmd.specs.Endings.{verdict_status, verdict_text}
 use Rattle.mono_best.specs.Worked.{weighed}
+use Rattle.mono_cmd.specs.declared.command.Command.{Command}
+use Rattle.mono_cmd.specs.declared.command.Command.TheVariants as command
 use Rattle.mono_cmd.specs.declared.status.Status.TheVariants as status
-use Rattle.mono_cmd.specs.Runs.{IsBestBy}
+use Rattle.mono_cmd.specs.Runs.{IsBestBy, SolvesGenerated}
+use Rattle.mono_gen.specs.Generated.{generated}
+use Rattle.mono_gen.specs.declared.kind.GenKind.{GenKind}
 use Rattle.mono_gen.specs.declared.kind.GenKind.TheVariants as kind
 use Rattle.mono_cmd.proofs.worked_runs.worked_written.Goals as goal
 
@@ -15,6 +21,19 @@ returns-clause-generated c = λ p stands. record { kind = kind.Wall; size = 2; s
 
 pub returns-clause-generated_for_none : goal.returns-clause-generated_for_none
 returns-clause-generated_for_none c = λ p h. let e = h.is in cc
+
+-- the input that a command generates
+abbrev generated_by : Option Command → List ℕ
+generated_by (Some (command.Gen k size seed solve)) = generated k size seed
+generated_by found = []
+
+its_problem : (k : GenKind) (size seed : ℕ) (p : Instance) → SolvesGenerated (Some (command.Gen k size seed true)) p → Stands (generated k size seed) p
+its_problem k size seed p h =
+    let same : generated k size seed ≡ generated h.kind h.size h.seed = ap generated_by h.is in
+    subst (λ (text : List ℕ). Stands text p) (sym same) h.stands
+
+pub returns-clause-problem_of_the_generated : goal.returns-clause-problem_of_the_generated
+returns-clause-problem_of_the_generated c = its_problem kind.Wall 2 7
 
 pub returns-clause-best : goal.returns-clause-best
 returns-clause-best c = λ b model steps best optimum accepted. inl (b, model, steps, best, optimum, refl, accepted)

@@ -51,6 +51,7 @@ returns-clause-refutation c = (
   record {
     needed = true ∷ [];
     as_many = refl;
+    last = refl;
     closed = λ j k s on is names. absurd (names_none j k s is names);
     is = refl;
     trim = record { refutes = refl; named = λ k lt. absurd (omega (arith, lt)); short = omega arith };

@@ -9,7 +9,8 @@ use Rattle.mono_theory.specs.Supports.{atom_at}
 use Rattle.mono_theory.proofs.WalksTold.{lacking_decides}
 use Rattle.mono_distance.specs.Readings.{above, IsBelowEachWalk}
 use Rattle.mono_distance.specs.SureLabels.{limit_of}
-use Rattle.mono_distance.proofs.KnownLabels.{limit_is, none_below, over_at_last, over_elsewhere, rows_decided, rows_below, to_is_last}
+use Rattle.mono_distance.proofs.KnownLabels.{limit_is, over_at_last, over_elsewhere, rows_decided, rows_below, to_is_last}
+use Rattle.mono_distance.proofs.WitnessLabels.{none_below}
 use Rattle.mono_distance.proofs.node_labels.over_by_rows.Goals as goal
 
 pub returns-then-node-asked-clause-value : goal.returns-then-node-asked-clause-value

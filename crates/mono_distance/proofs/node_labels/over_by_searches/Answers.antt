@@ -7,7 +7,7 @@ use Rattle.mono_theory.specs.Sound.{IsWitnessIn, evidence_at}
 use Rattle.mono_theory.specs.Stages.{stage_at}
 use Rattle.mono_theory.specs.Supports.{atom_at}
 use Rattle.mono_distance.specs.Readings.{over_of}
-use Rattle.mono_distance.proofs.KnownLabels.{known_read, below_read, over_decides, over_read}
+use Rattle.mono_distance.proofs.ReadLabels.{known_read, below_read, over_decides, over_read}
 use Rattle.mono_distance.proofs.node_labels.over_by_searches.Goals as goal
 
 pub shown_witness-witness-requires : goal.shown_witness-witness-requires

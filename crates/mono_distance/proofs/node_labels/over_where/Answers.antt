@@ -1,4 +1,4 @@
-use Rattle.mono_distance.proofs.KnownLabels.{others_are_above}
+use Rattle.mono_distance.proofs.WitnessLabels.{others_are_above}
 use Rattle.mono_distance.proofs.node_labels.over_where.Goals as goal
 
 pub returns-then-cut_off : goal.returns-then-cut_off

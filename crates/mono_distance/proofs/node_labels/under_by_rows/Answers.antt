@@ -1,7 +1,7 @@
 use Rattle.std.proofs.Common.{arith}
 use Rattle.mono_theory.specs.Supports.{atom_at}
 use Rattle.mono_theory.proofs.SureRowsStay.{row_held}
-use Rattle.mono_distance.proofs.KnownLabels.{rows_reach, rows_read}
+use Rattle.mono_distance.proofs.ReadLabels.{rows_reach, rows_read}
 use Rattle.mono_distance.proofs.SureLabels.{node_held}
 use Rattle.mono_distance.proofs.node_labels.under_by_rows.Goals as goal
 

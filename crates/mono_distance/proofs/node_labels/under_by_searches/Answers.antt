@@ -1,5 +1,5 @@
 use Rattle.std.proofs.Common.{false, arith}
-use Rattle.mono_distance.proofs.KnownLabels.{searches_reach}
+use Rattle.mono_distance.proofs.ReadLabels.{searches_reach}
 use Rattle.mono_distance.proofs.node_labels.under_by_searches.Goals as goal
 
 pub returns-in-Some-clause-reached : goal.returns-in-Some-clause-reached

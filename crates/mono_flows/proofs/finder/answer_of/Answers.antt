@@ -17,6 +17,7 @@ returns-in_ok-from_slice-in-None c =
           (flow_passes c.args.carried.now c.args.goal c.requires.flow c.requires.listed.distinct (omega (arith, whole)));
       known = subst (λ (xs : List Amount). All (λ (a : Amount). a.edge < length n.graph.now.edges) xs) same c.requires.listed.known;
       small = subst (λ (xs : List Amount). All (λ (a : Amount). a.amount ≤ MAX_WITNESS_VALUE) xs) same c.requires.listed.small;
+      carrying = subst (λ (xs : List Amount). All (λ (a : Amount). 0 < a.amount) xs) same c.requires.listed.carrying;
       distinct = tt;
       exact = subst (λ (xs : List Amount). value_of n.graph.now n.source (amount_at xs) ≡ pos c.args.goal) same (value ∙ ap (λ (v : ℕ). pos v) whole);
       value = subst (λ (xs : List Amount). value_of n.graph.now n.source (amount_at xs) ≡ pos c.args.value) same value;

@@ -29,6 +29,7 @@ returns c =
             c.known.ensures.graph.ends n.source_in_graph flowing refl lt blocked;
         known = subst (λ (us : List ℕ). All (λ u. u < n.graph.now.nodes) us) (sym listed) (visited_known n.graph.now.nodes search.visits.items c.requires.ended.search.inside);
         small = tt;
+        carrying = tt;
         distinct = subst (λ (us : List ℕ). IsTrue (is_distinct us)) (sym listed) (visited_distinct n.graph.now search.marks.items search.visits.items marks);
         exact = tt;
         value = blocked_weight n.graph.now n.part.now n.source n.sink _ c.args.flow.now.value search.marks.items nodes same

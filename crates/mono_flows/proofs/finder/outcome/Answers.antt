@@ -17,6 +17,7 @@ listing {n = n} {xs = xs} towards drained = record {
   distinct = drained.distinct;
   known = subst (λ (m : ℕ). All (λ (a : Amount). a.edge < m) xs) towards.flow.len drained.known;
   small = drained.small MAX_WITNESS_VALUE (λ k. let at = towards.flow.flowing.small k in omega (arith, at, towards.most, towards.small));
+  carrying = drained.carrying;
 }
 
 pub answer_of-requires-clause-flow : goal.answer_of-requires-clause-flow

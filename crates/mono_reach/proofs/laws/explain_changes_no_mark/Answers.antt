@@ -8,3 +8,9 @@ returns-clause-stay c =
     let kept = c.in_ok-explain.ensures in
     read_same s r c.args.atom c.args.node c.marks-before.result c.marks-after.result kept.atoms c.requires.owned c.marks-before.ensures.value c.marks-after.ensures.value
     (λ p. marks_same s r p c.args.node kept.atoms kept.surely kept.possibly)
+
+pub returns-clause-read : goal.returns-clause-read
+returns-clause-read c = c.marks-before.ensures.value
+
+pub returns-clause-read_again : goal.returns-clause-read_again
+returns-clause-read_again c = c.marks-after.ensures.value

@@ -8,3 +8,6 @@ returns-clause-over c = λ quiet.
     let now = c.in_ok-finding.ensures in
     over_decides s r c.args.atom c.args.node c.marks-marks.result.over now.graph now.atoms now.seen
     (c.marks-marks.ensures.decided_over (both_decided s r now.graph now.atoms now.seen (now.surely quiet) (now.possibly quiet)))
+
+pub returns-clause-read : goal.returns-clause-read
+returns-clause-read c = c.marks-marks.ensures.value

@@ -1,7 +1,7 @@
 use Rattle.std.proofs.Common.{◌≡◌, ◌+◌, ◌*◌, ◌∙◌, ap, sym, refl, subst, List, [], ◌∷◌, ◌++◌, ℕ, length, arith, None, length-append, Bool, false}
 use Rattle.std.specs.Prelude.{ℤ, pos, Option}
 use Rattle.std.proofs.lemmas.Result.{err_from_is_err_and}
-use Rattle.mono_clauses.proofs.PlacesAhead.{chunk_eq, chunk_widen, widened_length, widened_most}
+use Rattle.mono_clauses.proofs.PlacesAhead.{chunk_eq}
 use Rattle.mono_clauses.proofs.WatchLists.{chunk_close, chunk_grow}
 use Rattle.mono_clauses.proofs.ChunkStacks.{rest_is}
 use Rattle.mono_clauses.proofs.Watched.{length_watched, watched_more}
@@ -28,6 +28,11 @@ returns-in_err-reserve_watchers-clause-err c =
     ∙ ap (λ (ws : List (Option ℤ)). let v : WatchesView = record { vars = c.self.inside.vars; watched = ws; ahead = watchers_at c.self.inside.chunks.cells.items c.self.inside.rest.places } in v) w
     ∙ c.self.view_is)
 
+pub widen-requires-clause-size : goal.widen-requires-clause-size
+widen-requires-clause-size c =
+    let e = c.reserve_watchers.ensures in
+    omega (arith, c.self.invariant.0.size, ap (λ (xs : List ℕ). length xs) e.cells, ap (λ (xs : List ℕ). length xs) e.links)
+
 more : (bs bs₁ bs₂ : List Bool) (ls ls₁ ls₂ : List ℤ) → length bs ≡ length ls → bs₁ ≡ bs ++ false ∷ [] → ls₁ ≡ ls ++ pos 1 ∷ [] → bs₂ ≡ bs₁ ++ false ∷ [] → ls₂ ≡ ls₁ ++ pos 1 ∷ [] → watched_of bs₂ ls₂ ≡ (watched_of bs ls ++ None ∷ []) ++ None ∷ []
 more bs bs₁ bs₂ ls ls₁ ls₂ e a b f g =
     let l : length (bs ++ false ∷ []) ≡ length (ls ++ pos 1 ∷ []) = omega (arith, e, length-append bs (false ∷ []), length-append ls (pos 1 ∷ [])) in
@@ -47,13 +52,13 @@ invariant_of-self-2 c =
     let l : length c.reserve_watchers.new.busy.items ≡ length c.reserve_watchers.new.lits.items = ap (λ (xs : List Bool). length xs) e.busy ∙ c.self.invariant.2 ∙ sym (ap (λ (xs : List ℤ). length xs) e.lits) in
     let base = chunk_eq c.reserve_watchers.new.chunks.links.items c.reserve_watchers.new.chunks.cells.items c.reserve_watchers.new.chunks.free.items (watched_of c.reserve_watchers.new.busy.items c.reserve_watchers.new.lits.items) [] (chunk_close c.self.inside.list c.self.invariant.0) e.links e.cells e.free_chunks w refl in
     let most : c.len-watchers.result + 2 ≡ length (watched_of c.reserve_watchers.new.busy.items c.reserve_watchers.new.lits.items) + 2 = omega (arith, length_watched c.reserve_watchers.new.busy.items c.reserve_watchers.new.lits.items l) in
-    let least : c.len-watchers.result + 2 + 7 * (2 * c.self.inside.vars + 2) ≡ length (watched_of c.reserve_watchers.new.busy.items c.reserve_watchers.new.lits.items) + 2 + 7 * (2 * c.self.inside.vars + 2) = omega (arith, most) in
-    let wide = chunk_widen _ _ c.widen.new.self.links.items c.widen.new.self.cells.items c.widen.new.self.free.items base c.widen.ensures.is most least (omega (arith, ap (λ (xs : List ℕ). length xs) e.links, c.if-len-ge536870896.false)) in
-    let grown = chunk_grow wide.is wide.room in
+    let chunked = c.widen.ensures.chunked c.self.inside.vars c.self.inside.list c.self.inside.heads.items [] (watched_of c.reserve_watchers.new.busy.items c.reserve_watchers.new.lits.items) base in
+    let wide = c.widen.ensures.room (length (watched_of c.reserve_watchers.new.busy.items c.reserve_watchers.new.lits.items)) (2 * c.self.inside.vars + 2) most (omega arith) base.room in
+    let grown = chunk_grow chunked wide in
     let watched = more _ _ _ _ _ _ l c.add_idle.ensures.busy c.add_idle.ensures.lits c.add_idle-2.ensures.busy c.add_idle-2.ensures.lits in
     let room = c.in_ok-reserve_watchers.ensures.room in
-    let longer = widened_length _ _ _ _ _ _ _ _ c.widen.ensures.is in
-    let fewer = widened_most _ _ _ _ _ _ _ _ (length c.reserve_watchers.new.lits.items) (2 * c.self.inside.vars + 2) c.widen.ensures.is (omega arith) base.size (omega (arith, c.self.invariant.3, ap (λ (xs : List ℕ). length xs) e.links, ap (λ (xs : List ℤ). length xs) e.lits)) in
+    let longer = c.widen.ensures.two in
+    let fewer = c.widen.ensures.few (omega (arith, c.self.invariant.3, ap (λ (xs : List ℕ). length xs) e.links, ap (λ (xs : List ℤ). length xs) e.lits)) in
     let more_lits : length c.add_idle-2.new.lits.items ≡ length c.reserve_watchers.new.lits.items + 2 = omega (arith, ap (λ (xs : List ℤ). length xs) c.add_idle-2.ensures.lits, ap (λ (xs : List ℤ). length xs) c.add_idle.ensures.lits, length-append c.add_idle.new.lits.items (pos 1 ∷ []), length-append c.reserve_watchers.new.lits.items (pos 1 ∷ [])) in
     (chunk_eq _ _ _ _ _ grown refl refl refl watched (rest_is _ _ c.self-2-1.given.0 [] refl), omega (arith, longer, room.4, c.widen.ensures.capacity), as_many _ _ _ _ _ _ l c.add_idle.ensures.busy c.add_idle.ensures.lits c.add_idle-2.ensures.busy c.add_idle-2.ensures.lits, omega (arith, fewer, more_lits))
 

@@ -118,3 +118,6 @@ returns-in-None-clause-order c =
     λ ok P h grown. subst (λ (ks : List ℕ). IsTrue (is_order g c.args.part.now ks)) (sym order-taken)
     (order_mended g P c.args.part.now o.order.items o.ranks.items s.nodes.items s.marks.items c.args.place e.from e.to c.index-low.result.now c.index-high.result.now c.arrange.new.order c.arrange.new.ranks mended
     (subst (λ (ks : List ℕ). IsTrue (is_order g P ks)) (sym view) h) grown order-is c.arrange.ensures.ranks)
+
+pub returns-in-None-clause-cycle_stays : goal.returns-in-None-clause-cycle_stays
+returns-in-None-clause-cycle_stays c = λ ok. ap (λ (v : Kept). v.cycle) c.self.view_is

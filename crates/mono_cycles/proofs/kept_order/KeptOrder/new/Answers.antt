@@ -29,5 +29,8 @@ invariant_of-result c =
 pub returns-clause-size : goal.returns-clause-size
 returns-clause-size c = ap (λ (ks : List ℕ). length ks) c.in_ok-numbers.ensures ∙ length-range_with_len 0 c.args.nodes
 
+pub returns-clause-no_cycle : goal.returns-clause-no_cycle
+returns-clause-no_cycle c = c.in_ok-with_capacity-2.ensures.items
+
 pub returns-clause-order : goal.returns-clause-order
 returns-clause-order c = λ g P size none. subst (λ (ks : List ℕ). IsTrue (is_order g P ks)) (sym c.in_ok-numbers.ensures) (order_first g P c.args.nodes size none)

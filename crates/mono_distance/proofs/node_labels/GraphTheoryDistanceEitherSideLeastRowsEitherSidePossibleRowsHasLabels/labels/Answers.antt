@@ -17,7 +17,7 @@ use Rattle.mono_distance.specs.Distances.{is_distance}
 use Rattle.mono_distance.specs.Readings.{IsBelowEachWalk, IsReached, over_known, under_in}
 use Rattle.mono_distance.specs.SureLabels.{AreSureLabels, shows_last, last_node, limit_of}
 use Rattle.mono_distance.proofs.DistanceEvidence.{has_bound}
-use Rattle.mono_distance.proofs.KnownLabels.{reading_is, under_decides}
+use Rattle.mono_distance.proofs.ReadLabels.{reading_is, under_decides}
 use Rattle.mono_distance.proofs.node_labels.GraphTheoryDistanceEitherSideLeastRowsEitherSidePossibleRowsHasLabels.labels.Goals as goal
 
 pub returns-clause-value : goal.returns-clause-value

@@ -12,5 +12,6 @@ returns-clause-decided g c =
 pub returns-clause-signed : goal.returns-clause-signed
 returns-clause-signed g c =
     let open_now = rw (← c.self.view_is) at c.requires.open in
+    let some = rw (← c.self.view_is) at c.requires.theories in
     let next = next_stays c.self.inside.order c.self.inside.trail.lits c.args.var open_now in
-    rw (← c.self.view_is) (decided_by_sign c.self.inside.theories c.self.inside.trail c.decide.new.self c.self.inside.store c.self.inside.journal c.self.inside.order c.self.inside.order c.of-lit.result c.args.var true next (λ on. refl) c.of-lit.ensures.value c.decide.ensures)
+    rw (← c.self.view_is) (decided_by_sign c.self.inside.theories c.self.inside.trail c.decide.new.self c.self.inside.store c.self.inside.journal c.self.inside.order c.self.inside.order c.of-lit.result c.args.var true next (λ on. refl) (λ on off. some) c.of-lit.ensures.value c.decide.ensures)

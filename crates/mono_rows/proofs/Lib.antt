@@ -1,0 +1,16 @@
+mod FoundRows
+mod GraphRows
+mod ProblemRows
+mod TrailRows
+mod ClauseRows
+mod GrowthRows
+mod LearnRows
+mod PointRows
+mod ReasonRows
+mod InstanceRows
+mod TrimmedRows
+mod VerdictRows
+mod SettledRows
+mod LearntRows
+mod LubyRows
+mod ModelRows

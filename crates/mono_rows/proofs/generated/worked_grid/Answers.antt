@@ -1,0 +1,9 @@
+use Rattle.std.proofs.Common.{refl}
+use Rattle.std.specs.Fmt.{digits}
+use Rattle.mono_gen.specs.Joined.{joined}
+use Rattle.mono_gen.specs.Draws.{after, draw}
+use Rattle.mono_rows.proofs.generated.worked_grid.Goals as goal
+
+pub returns : goal.returns
+unfolding joined after draw digits
+returns c = record { grid = refl }

@@ -1,0 +1,12 @@
+pub mod SmallTrail
+pub mod TwoClauses
+pub mod TwoGraphs
+pub mod SecondGraph
+pub mod SmallCycles
+pub mod Loops
+pub mod Refutations
+pub mod Cyclic
+pub mod AskedLemmas
+pub mod SmallConflict
+pub mod PrintedLemmas
+pub mod FedCheckers

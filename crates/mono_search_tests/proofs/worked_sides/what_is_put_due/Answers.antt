@@ -1,5 +1,0 @@
-use Rattle.std.proofs.Common.{◌≡◌, true, false, refl}
-use Rattle.mono_search_tests.proofs.worked_sides.what_is_put_due.Goals as goal
-
-pub returns-clause-another_goes : goal.returns-clause-another_goes
-returns-clause-another_goes c = λ h. let e : true ≡ false = h.stay 0 refl in cc

@@ -1,8 +1,0 @@
-use Rattle.mono_tests.proofs.PointRows.{not_8_alone, not_8_and_9}
-use Rattle.mono_tests.proofs.learn.conflict_teaches_nothing_else.Goals as goal
-
-pub returns-clause-one_literal : goal.returns-clause-one_literal
-returns-clause-one_literal c = not_8_alone
-
-pub returns-clause-before_the_first_point : goal.returns-clause-before_the_first_point
-returns-clause-before_the_first_point c = not_8_and_9

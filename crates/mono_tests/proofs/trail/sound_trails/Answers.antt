@@ -1,8 +1,0 @@
-use Rattle.mono_tests.proofs.TrailRows.{whole_is_sound, full_is_sound}
-use Rattle.mono_tests.proofs.trail.sound_trails.Goals as goal
-
-pub returns-clause-whole : goal.returns-clause-whole
-returns-clause-whole c = whole_is_sound
-
-pub returns-clause-full : goal.returns-clause-full
-returns-clause-full c = full_is_sound
