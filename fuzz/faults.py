@@ -2,7 +2,8 @@
 """Refuses requests for memory, and calls on files, one a run: faults.py [--kind KIND] [--only N]
 
 A small library (faults/refuse.c) stands in front of the C library's. Each form of the program is run over inputs with
-each kind of predicate and answers with each word of a lemma. Each run either ends as the undisturbed one does, or as
+each kind of predicate and answers with each word of a lemma, and `solve` over inputs that make theories share searches,
+mend flows and try walks that pass each node once. Each run either ends as the undisturbed one does, or as
 the call that was refused asks: without memory with 6 and nothing written, where a file couldn't be opened or read with
 4 and `read fault`, and where a write failed with 5 and a prefix of the text. Of each form at least one call of each
 kind has to be refused (`gen` alone opens and reads nothing), and what undisturbed runs say of inputs and of answers is
@@ -98,6 +99,7 @@ def commands() -> list[list[str]]:
         ["solve", routes],
         ["solve", circle],
         ["solve", routes, "--conflicts", "1"],
+        *(["solve", str(HERE / "faults" / f"{name}.gnf")] for name in ("shared", "escape", "mended")),
         ["migrate", routes, refutation, "2"],
         ["migrate", circle, str(SCHEDULE / "circle.answer"), "1"],
         ["core", wishes, "6", "-1", "-2", "-5"],
