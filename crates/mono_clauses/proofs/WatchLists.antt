@@ -9,7 +9,7 @@ use Rattle.mono_clauses.proofs.ChunkStacks.{one_same, one_other, tells, stack_se
 use Rattle.mono_clauses.proofs.Times.{times_same, none_more, joins_other}
 use Rattle.mono_base.proofs.Sparse.{slot_injective}
 use Rattle.mono_clauses.specs.Lists.{times, list_at, IsFree}
-use Rattle.mono_clauses.specs.Stacks.{below, IsStack, watcher_at, watchers_at, all_watchers, sum_of, bottoms, one, busy, HasRoom, IsPool, IsThere, IsBeingVisited, IsChunked, IsLoose, Higher, Fresh, Climbed, Put, Removed}
+use Rattle.mono_clauses.specs.Stacks.{below, IsStack, watcher_at, watchers_at, all_watchers, sum_of, bottoms, one, busy, HasRoom, IsPool, IsThere, IsBeingVisited, IsChunked, Higher, Fresh, Climbed, Put, Removed}
 use Rattle.mono_clauses.specs.Store.{watch_at}
 use Rattle.mono_clauses.specs.Watching.{is_watching}
 
@@ -114,6 +114,16 @@ climbed_stack slots links free_chunks heads lists top links' free_chunks' x h xs
         let bottom : x % 8 ≡ 0 = (i.are_free x (let o = one_same x x refl in omega (arith, split, o))).0 in
         let same : 8 * (x / 8) ≡ x = omega (arith, bottom) in
         subst (λ (ls : List ℕ). IsStack ls h xs) (sym f.linked) (stack_set links h xs (x / 8) top p (ap (λ (y : ℕ). times y xs) same ∙ e))
+
+-- a watcher is in no stack, and comes onto one next
+pub record IsLoose (vars : ℕ) (links cells free_chunks heads : List ℕ) (watched : List (Option ℤ)) (w : ℕ) (lists : List (List ℕ)) : Type 0 where
+  pub pool : IsPool (2 * vars + 2) links free_chunks heads lists
+  pub size : length cells ≡ 8 * length links
+  pub room : HasRoom (length watched) (2 * vars + 2) (length links)
+  pub within : w < length watched
+  pub entries : (l : ℤ) → sum_of length lists + 1 ≡ busy (set watched w (Some l))
+  pub free : IsFree (all_watchers cells lists) w
+  pub there : (v : ℕ) → v ≢ w → IsThere (watch_at watched v) (all_watchers cells lists) v
 
 -- the loose watcher comes onto the stack of a literal
 pub loose_joins : {vars : ℕ} {links cells free_chunks heads : List ℕ} {watched : List (Option ℤ)} {w : ℕ} {lists : List (List ℕ)} (c : ℕ) (l : ℤ) (links' cells' free_chunks' heads' : List ℕ) (list : ℕ) (ahead : List ℕ) → IsLoose vars links cells free_chunks heads watched w lists → c ≡ slot l → c < 2 * vars + 2

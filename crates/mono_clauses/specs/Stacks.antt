@@ -6,7 +6,7 @@ use Rattle.std.proofs.Common.{◌≡◌, ◌≢◌, ℕ, suc, Bool, refl, sym, a
 use Rattle.std.specs.Prelude.{ℤ, Option, Some, None, if◌then◌else◌, ◌==◌}
 use Rattle.std.specs.Coded.{×_prop, le_prop}
 use Rattle.std.proofs.Math.Nat.{ℕ_set, lt_irrefl}
-use Rattle.mono_clauses.specs.Lists.{times, list_at, IsFree}
+use Rattle.mono_clauses.specs.Lists.{times, list_at}
 use Rattle.mono_clauses.specs.Store.{watch_at}
 use Rattle.mono_clauses.specs.Watching.{is_watching}
 
@@ -162,13 +162,3 @@ pub record Removed (cells links free_chunks heads : List ℕ) (slot place : ℕ)
   pub moved : cells' ≡ set cells place (watcher_at cells (get_or heads slot 4294967295))
   pub headed : heads' ≡ set heads slot (below links (get_or heads slot 4294967295))
   pub are_free : free_chunks' ≡ freed free_chunks (get_or heads slot 4294967295)
-
--- a watcher is in no stack, and comes onto one next
-pub record IsLoose (vars : ℕ) (links cells free_chunks heads : List ℕ) (watched : List (Option ℤ)) (w : ℕ) (lists : List (List ℕ)) : Type 0 where
-  pub pool : IsPool (2 * vars + 2) links free_chunks heads lists
-  pub size : length cells ≡ 8 * length links
-  pub room : HasRoom (length watched) (2 * vars + 2) (length links)
-  pub within : w < length watched
-  pub entries : (l : ℤ) → sum_of length lists + 1 ≡ busy (set watched w (Some l))
-  pub free : IsFree (all_watchers cells lists) w
-  pub there : (v : ℕ) → v ≢ w → IsThere (watch_at watched v) (all_watchers cells lists) v

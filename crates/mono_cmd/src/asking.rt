@@ -57,7 +57,7 @@ pub(crate) fn best_ending(alloc: Global, problem: &Problem, atom: u32) -> Result
     Ok(Ending::Bounded(outcome))
 }
 
-/// What is found of the bound of a predicate, with the budget of `solve` for each search.
+/// What is found of the bound of a predicate, with the budget of `solve`.
 fn best_of(alloc: Global, problem: &Problem, atom: u32) -> Result<BestOutcome, AllocError>
     requires problem { IsInstance problem.now }
     requires atom { HasBoundedAtom problem.now atom }

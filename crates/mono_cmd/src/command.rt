@@ -4,7 +4,7 @@ use mono_answer::Version;
 use mono_base::{Lit, Name, Row};
 use mono_gen::GenKind;
 
-/// The budget of `solve` where no other one is given, and of each search of `core`, of `best` and of `gen` with `--solve`.
+/// The budget of `solve` where no other one is given, of `gen` with `--solve`, and of what `core` and `best` tell as spent.
 pub const DEFAULT_BUDGET: u64 = 100_000;
 
 /// Bytes of an answer that is migrated: 2^30. It is kept whole until its text is made.

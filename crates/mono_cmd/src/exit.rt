@@ -35,8 +35,8 @@ impl<A: FileAccess, O: Write + Drop> Model for MachineRun<A, O> {
 /// Runs the program over what a machine gives. Words that aren't text are no command, and neither are none.
 ///
 /// The number is that of the status to which the run of exactly these words comes, or that of want of memory where none was found
-/// for the words, which are text then; nothing was opened or written. What `run` promises over files and an output that are told,
-/// this call promises of what the files and the output tell.
+/// for the words, which are text where they are told; nothing was opened or written. What `run` promises over files and an output
+/// that are told, this call promises of what the files and the output tell.
 pub fn run_over<W: Words, A: FileAccess, O: Write + Drop>(
     alloc: Global,
     words: &W,
@@ -64,7 +64,8 @@ fn code_of<W: Words, S: Shelf, K: Sink>(alloc: Global, words: &W, shelf: &mut S,
     }
 }
 
-/// The words, or none where one of them isn't text: either is the same command. Only words that are text may find no memory.
+/// The words, or none where one of them isn't text: either is the same command. Where they are told, only words that are text may
+/// find no memory.
 fn list_of<W: Words>(alloc: Global, words: &W) -> Result<Vec<String>, AllocError>
     ensures ok { IfOk result (λ list. IfSome (W.told words.now) (λ given. command_of (map string_bytes list.items) ≡ option_and_then command_of given)) }
     ensures err { OnErr result (IfSome (W.told words.now) (λ given. IsSome given)) }

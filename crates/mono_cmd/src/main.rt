@@ -51,6 +51,12 @@ pub mod worked_cores;
 /// What is promised of a whole run, worked by hand.
 #[cfg(test)]
 pub mod worked_counted;
+/// The file of a command that reads FILE alone, worked by hand.
+#[cfg(test)]
+pub mod worked_ends;
+/// Ends of ranges, and what a refusal and a number to exit with show, worked by hand.
+#[cfg(test)]
+pub mod worked_families;
 /// Verdicts, refusals and what a process exits with, worked by hand.
 #[cfg(test)]
 pub mod worked_judged;
@@ -60,6 +66,9 @@ pub mod worked_orders;
 /// What is written with a status, worked by hand.
 #[cfg(test)]
 pub mod worked_runs;
+/// Want of memory, answers that are looked for and found, and the bytes of a text, worked by hand.
+#[cfg(test)]
+pub mod worked_stages;
 /// What `team` answers and writes, worked by hand.
 #[cfg(test)]
 pub mod worked_teams;

@@ -4,7 +4,7 @@
 //! judged; the text is written.
 //! The first refusal in this order decides. All text is made before the first write, so with want of memory nothing was written.
 //!
-//! Each step answers what the next one needs, or the ending of the run: `?` ends it there. So a form is a few lines.
+//! Each step answers what the next one needs, or the ending of the run: `?` ends it there. So a command is a few lines.
 
 ghost use Rattle.std.specs.Prelude.{◌≡◌, ◌≢◌, ◌≤◌, ◌<◌, ◌⊎◌, List, ℕ, Some, All, MatchResult, map, string_bytes};
 ghost use Rattle.mono_base.specs.declared.limits.TheConstants.{MAX_VARS};
@@ -42,10 +42,10 @@ use std::alloc::{AllocError, Global};
 
 /// Runs the program: reads the files that the words name from the shelf, and writes the answer to the sink.
 ///
-/// - `Words` comes exactly where the words are no command.
-/// - `Refused` comes exactly where FILE was read whole and has a first fault, whose line and name are written; and, with line 0,
-///   where there is no room for the assumptions of `core` and `check-with`, or where `best` and `ask` can't ask for a bound of
-///   the predicate.
+/// - `Words` comes exactly where the words are no command, a failing write aside.
+/// - `Refused` comes, a failing write and want of memory aside, exactly where FILE was read whole and has a first fault, whose
+///   line and name are written; and, with line 0, where there is no room for the assumptions of `core` and `check-with`, or
+///   where `best` and `ask` can't ask for a bound of the predicate.
 /// - With `solve`, `Satisfiable` comes only with the text of a satisfying model, `Unsatisfiable` only with that of a justified
 ///   refutation, `Unknown` only with that of justified progress: exactly as many nonempty learned clauses as the budget, each
 ///   new, and only where the budget is below 3^V, V being the number of variables. So it is of `team`, whose `Unknown` comes

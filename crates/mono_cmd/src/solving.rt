@@ -41,7 +41,7 @@ fn answer_of(solved: Solved) -> Answer
     }
 }
 
-/// What is found of a problem under assumptions, with the budget of `solve` for each search.
+/// What is found of a problem under assumptions, with the budget of `solve`.
 pub fn core_of(alloc: Global, problem: &Problem, lits: &[Lit]) -> Result<CoreOutcome, AllocError>
     requires problem { IsInstance problem.now }
     requires literals { All (IsLitWithin MAX_VARS) lits.now }

@@ -88,8 +88,11 @@ pub fn worked_written()
 pub fn worked_exits()
     ensures no_file_read { EachReached (IsHeld None) None (command.Gen kind.Grid 2 7 false) }
     ensures printed { IsCarriedOut (command.Print (codes "f")) status.Printed }
+    ensures print_refused { IsCarriedOut (command.Print (codes "f")) status.Refused }
     ensures print_finds_nothing { IsCarriedOut (command.Print (codes "f")) status.Satisfiable → ⊥ }
-    ensures migrated { IsCarriedOut (command.Migrate (codes "f") (codes "a") version.Two) status.Rejected }
+    ensures migrated { IsCarriedOut (command.Migrate (codes "f") (codes "a") version.Two) status.Printed }
+    ensures migration_rejected { IsCarriedOut (command.Migrate (codes "f") (codes "a") version.Two) status.Rejected }
+    ensures migration_refused { IsCarriedOut (command.Migrate (codes "f") (codes "a") version.Two) status.Refused }
     ensures migration_finds_nothing { IsCarriedOut (command.Migrate (codes "f") (codes "a") version.Two) status.Satisfiable → ⊥ }
 
     ensures other_number { (old new : Machine) → HasRun None old new 3 → ⊥ }

@@ -1,13 +1,14 @@
 //! Worked rows: what is written and behind what, which files are come to, what answers are, and within which numbers words stay.
 
-ghost use Rattle.std.specs.Prelude.{◌≡◌, ◌≤◌, ◌++◌, ℕ, ℤ, pos, Bool, List, [], ◌∷◌, length, Some, None, All, codes};
-ghost use Rattle.mono_base.specs.declared.limits.TheConstants.{MAX_ANSWER_BYTES, MAX_INPUT_BYTES, MAX_VARS};
+ghost use Rattle.std.specs.Prelude.{◌≡◌, ◌≤◌, ◌+◌, ◌⊎◌, ◌++◌, ℕ, ℤ, pos, Bool, List, [], ◌∷◌, length, Some, None, All, codes};
+ghost use Rattle.mono_base.specs.declared.limits.TheConstants.{MAX_ANSWER_BYTES, MAX_BOUND, MAX_INPUT_BYTES, MAX_VARS};
 ghost use Rattle.mono_base.specs.Literal.{IsLitWithin};
 ghost use Rattle.mono_problem.specs.Assuming.{assuming, HasRoom};
 ghost use Rattle.mono_problem.specs.Instance.{Instance, edges_total};
 ghost use Rattle.mono_gnf.specs.Faults.{first_fault};
 ghost use Rattle.mono_gnf.specs.Stands.{Stands};
 ghost use Rattle.mono_gen.specs.declared.kind.GenKind.{GenKind};
+ghost use Rattle.mono_steps.specs.Journals.{chain_count};
 ghost use Rattle.mono_steps.specs.New.{IsProgress};
 ghost use Rattle.mono_steps.specs.Trimmed.{IsTrimmed};
 ghost use Rattle.mono_steps.specs.declared.step.Step.{Step};
@@ -21,8 +22,10 @@ ghost use Rattle.mono_check.specs.declared.verdict.Verdict.TheVariants as verdic
 ghost use Rattle.mono_core.specs.Cores.{IsCoreOutcome};
 ghost use Rattle.mono_core.specs.Worked.{one_clause};
 ghost use Rattle.mono_core.specs.declared.outcome.CoreOutcome.{CoreOutcome};
-ghost use Rattle.mono_best.specs.Asking.{asking};
-ghost use Rattle.mono_best.specs.Best.{IsBestOutcome};
+ghost use Rattle.mono_best.specs.Asking.{asking, predicate_of};
+ghost use Rattle.mono_best.specs.Best.{IsBest, IsBestOutcome, IsBeyond, IsOpen};
+ghost use Rattle.mono_best.specs.Bounds.{beyond, weakest};
+ghost use Rattle.mono_best.specs.Optimum.{IsNeverMet, IsOptimum};
 ghost use Rattle.mono_best.specs.Worked.{weighed};
 ghost use Rattle.mono_best.specs.declared.outcome.BestOutcome.{BestOutcome};
 ghost use Rattle.mono_best.specs.declared.outcome.BestOutcome.TheVariants as bounded;
@@ -40,9 +43,9 @@ ghost use Rattle.mono_cmd.specs.Commands.{IsWithinRange, command_of, files_of};
 ghost use Rattle.mono_cmd.specs.CoreTexts.{outcome_text};
 ghost use Rattle.mono_cmd.specs.Endings.{progress_text, status_of, verdict_text};
 ghost use Rattle.mono_cmd.specs.Refusals.{IsUnaskedBy};
-ghost use Rattle.mono_cmd.specs.Runs.{AreAlike, CheckWithWrote, CheckWrote, EachReached, HasNoFault, HasNoFaultWith, IsHeld, IsJudgmentBy, IsSummaryBy, Writes, summary_of};
+ghost use Rattle.mono_cmd.specs.Runs.{AreAlike, CheckWithWrote, CheckWrote, EachReached, HasNoFault, HasNoFaultWith, IsBestBy, IsHeld, IsJudgmentBy, IsSummaryBy, Writes, summary_of};
 ghost use Rattle.mono_cmd.specs.Solved.{IsAnswer, IsBounding, IsNarrowing, IsSolution, IsSummary, best_verdict, judged_bound, judged_under, outcome_verdict, verdict_of};
-ghost use Rattle.mono_cmd.specs.Teams.{IsTeamAnswer, IsTeamSolution, IsTeamed};
+ghost use Rattle.mono_cmd.specs.Teams.{IsTeamAnswer, IsTeamSolution, IsTeamTextBy, IsTeamed};
 ghost use Rattle.mono_cmd.specs.Worked.{empty_problem, one_file, two_files};
 
 /// The six lines of a summary, by the status, and the text of progress behind them.
@@ -130,6 +133,37 @@ pub fn worked_turns()
         → IsTeamAnswer p workers rounds a × IsVerdict p (answer_text a) (verdict_of a) }
     ensures teamed { (p : Instance) (workers rounds : ℕ) (e : EndingOf) → IsTeamed p workers rounds e
         → (a : Answer) × (e ≡ ending.Solved a) × IsTeamSolution p workers rounds a }
+{}
+
+/// With each status what `best` writes is the text of one outcome and no other, that outcome is right, and `check` accepts the text of
+/// the problem that asks for the bound past the best one, for the greatest flow, for the weakest bound, or for the bound on which the
+/// budget was spent.
+pub fn worked_bound_parts()
+    ensures best_or_beyond { (p : Instance) (n : ℕ) (text : List ℕ) → IsBestBy status.Satisfiable p n text
+        → ((b : ℤ) × (model : List Bool) × (steps : List Step) × IsBest p n b model steps × IsOptimum p n b
+        × (text ≡ best_text (bounded.Best b model steps)) × IsVerdict (asking p n (beyond (predicate_of p n) b)) text verdict.Refutation)
+        ⊎ ((model : List Bool) × IsBeyond p n model
+        × (text ≡ best_text (bounded.Beyond model)) × IsVerdict (asking p n (pos (MAX_BOUND + 1))) text verdict.Model) }
+    ensures never { (p : Instance) (n : ℕ) (text : List ℕ) → IsBestBy status.Unsatisfiable p n text
+        → (steps : List Step) × IsNeverMet p n
+        × (text ≡ best_text (bounded.Never steps)) × IsVerdict (asking p n (weakest (predicate_of p n))) text verdict.Refutation }
+    ensures spent { (p : Instance) (n : ℕ) (text : List ℕ) → IsBestBy status.Unknown p n text
+        → (b : ℤ) × (steps : List Step) × IsOpen p n DEFAULT_BUDGET b steps
+        × (text ≡ best_text (bounded.Unknown b steps)) × IsVerdict (asking p n b) text (verdict.Progress DEFAULT_BUDGET) }
+{}
+
+/// With each status what `team` writes is the text of one answer and no other, so many workers and rounds come to that answer, and
+/// `check` accepts the text as what it is.
+pub fn worked_team_parts()
+    ensures model { (p : Instance) (workers rounds : ℕ) (text : List ℕ) → IsTeamTextBy status.Satisfiable p workers rounds text
+        → (values : List Bool) × IsTeamAnswer p workers rounds (answer.Model values)
+        × (text ≡ answer_text (answer.Model values)) × IsVerdict p text verdict.Model }
+    ensures refutation { (p : Instance) (workers rounds : ℕ) (text : List ℕ) → IsTeamTextBy status.Unsatisfiable p workers rounds text
+        → (steps : List Step) × IsTeamAnswer p workers rounds (answer.Refutation steps)
+        × (text ≡ answer_text (answer.Refutation steps)) × IsVerdict p text verdict.Refutation }
+    ensures board { (p : Instance) (workers rounds : ℕ) (text : List ℕ) → IsTeamTextBy status.Unknown p workers rounds text
+        → (board : List Step) × IsBoardOfRounds p workers rounds board
+        × (text ≡ answer_text (answer.Progress board)) × IsVerdict p text (verdict.Progress (chain_count board)) }
 {}
 
 /// Numbers within range, and words behind the last one.

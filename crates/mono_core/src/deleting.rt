@@ -38,7 +38,7 @@ struct Deletion {
 /// stays: a model under the others, or the work that was spent in vain without it; or the progress made under all of them.
 ///
 /// Where each need is a model, the set is minimal (`laws::cores_with_models_are_minimal`).
-/// Each search may learn as many clauses as the budget says.
+/// A search that is told as spent learned as many clauses as the budget says.
 pub fn core<T: Theory, F: Fn(&Problem) -> Result<Vec<T>, AllocError>>(
     alloc: Global,
     problem: &Problem,

@@ -1,4 +1,4 @@
-//! What follows from the definitions alone, of what a theory of distances knows of nodes.
+//! What follows from definitions, and from calls, of what a theory of distances knows of nodes.
 
 ghost use Rattle.std.specs.Prelude.{◌≡◌, ◌<◌, ◌≤◌, ℕ, ℤ, length, take, Some, IfOk, IsSome, IsTrue, MatchOption};
 ghost use Rattle.std.specs.Option.{is_some};

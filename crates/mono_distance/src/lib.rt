@@ -7,7 +7,7 @@ mod distance;
 mod label_table;
 /// Labels along the surely present edges.
 mod least_rows;
-/// What follows from the definitions alone.
+/// What follows from definitions, and from calls.
 pub mod laws;
 /// Labels counted from a walk's last node.
 mod nearest;

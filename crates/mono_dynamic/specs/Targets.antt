@@ -17,7 +17,7 @@ pub record Targets : Type 0 where
   pub since : Option ℕ
   pub lost : Option ℕ
 
--- it is known that no walk leads to the target within its bound
+-- it is known that no walk leads to the target within its limit
 abbrev pub is_lacking : Targets → WalkTarget → Bool
 is_lacking r t = is_some r.since && not (has_target r.ways t)
 

@@ -31,11 +31,11 @@ no_target = record { node = 0; limit = limit.Free }
 abbrev pub IsTarget : List WalkTarget → WalkTarget → Type 0
 IsTarget ts t = (i : ℕ) × (i < length ts) × (slice_index_or ts i no_target ≡ t)
 
--- a walk to the target within its bound is kept
+-- a walk to the target within its limit is kept
 abbrev pub has_target : Ways → WalkTarget → Bool
 has_target w t = is_reached w.tree.arrivals t.node && admits t.limit (label_of w.labels t.node)
 
--- walks to the target can be asked for here: it is a node, what it measures is what is measured, and its bound matters
+-- walks to the target can be asked for here: it is a node, what it measures is what is measured, and its limit matters
 pub record IsTargetOf (w : Ways) (t : WalkTarget) : Type 0 where
   pub known : t.node < w.tree.nodes
   pub alike : measure_of t.limit ≡ measure_of w.limit
@@ -45,13 +45,13 @@ pub record IsTargetOf (w : Ways) (t : WalkTarget) : Type 0 where
 pub record IsPriced (g : Digraph) (w : Ways) : Type 0 where
   pub each : (k : ℕ) → RestsOn w.tree.arrivals k → label_of w.labels (edge_at g k).from + cost_of w.limit (edge_at g k) ≤ label_of w.labels (edge_at g k).to
 
--- The tree is one in the part. Of these targets it has exactly those to which a walk in the part leads within the bound.
+-- The tree is one in the part. Of these targets it has exactly those to which a walk in the part leads within its limit.
 pub record AreReachedWays (g : Digraph) (P : List Bool) (targets : List WalkTarget) (w : Ways) : Type 0 where
   pub tree : IsTree g P w.tree.source w.tree.arrivals
   pub priced : IsPriced g w
   pub exact : All (λ t. IsTrue (has_target w t) ↔ ((ks : List ℕ) × IsTrue (is_path g P w.tree.source t.node t.limit ks))) targets
 
--- The tree is one in the part. Of these targets it has exactly those to which a walk in the part leads within the bound, and
+-- The tree is one in the part. Of these targets it has exactly those to which a walk in the part leads within its limit, and
 -- it has nothing that isn't on the way to one of them.
 pub record AreWaysTo (g : Digraph) (P : List Bool) (targets : List WalkTarget) (w : Ways) : Type 0 where
   pub tree : IsTree g P w.tree.source w.tree.arrivals

@@ -119,7 +119,7 @@ impl ReachedTargets {
         Ok(())
     }
 
-    /// Whether it is known that no walk leads to the target within its bound.
+    /// Whether it is known that no walk leads to the target within its limit.
     pub fn is_lacking(&self, target: WalkTarget) -> bool
         requires { target.node < self.now.ways.tree.nodes }
         ensures { result ≡ is_lacking self.now target }

@@ -278,7 +278,7 @@ impl SearchTree {
         Ok(())
     }
 
-    /// Whether the tree has a walk to the target within its bound.
+    /// Whether the tree has a walk to the target within its limit.
     pub fn has(&self, target: WalkTarget) -> bool
         requires { target.node < self.now.tree.nodes }
         ensures { result ≡ has_target self.now target }

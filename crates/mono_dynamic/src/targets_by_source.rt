@@ -156,7 +156,7 @@ impl TargetsBySource {
         Ok(())
     }
 
-    /// Whether it is known that no walk leads from a row's source to the target within its bound.
+    /// Whether it is known that no walk leads from a row's source to the target within its limit.
     pub fn is_lacking(&self, row: usize, target: WalkTarget) -> bool
         requires row { row < length self.now.rows }
         requires node { target.node < self.now.nodes }

@@ -83,7 +83,7 @@ pub fn edges_of_ways()
     ensures of_source { RestsOn (at_source 0 ∷ arrival 1 3 0 0 ∷ []) 0 → ⊥ }
 {}
 
-/// Walks are kept to a target where one is within its bound, also where it is just that, and then nothing else.
+/// Walks are kept to a target where one is within its limit, also where it is just that, and then nothing else.
 pub fn ways_within_bounds()
     ensures below { AreWaysTo (parallel 1 4) both (within_weight 3 ∷ []) (with_way 0 1) }
     ensures at { AreWaysTo (parallel 1 4) both (within_weight 1 ∷ []) (with_way 0 1) }
@@ -107,7 +107,7 @@ pub fn targets_told()
     ensures mispriced { AreTold (parallel 1 4) first_goes 0 (known_by (with_way 1 1) (Some 0) None) → ⊥ }
 {}
 
-/// A target is lacking where it is known that its node isn't reached within its bound, and all is known while no edge went.
+/// A target is lacking where it is known that its node isn't reached within its limit, and all is known while no edge went.
 pub fn targets_known()
     ensures there { is_lacking (known_by (with_way 0 1) (Some 0) None) (within_weight 1) ≡ false }
     ensures beyond { is_lacking (known_by (with_way 0 1) (Some 0) None) (within_weight 0) ≡ true }

@@ -13,7 +13,7 @@ use std::alloc::Global;
 /// The problem that the text stands for, or the first line at fault with its fault.
 ///
 /// The format is that of DIMACS CNF with lines for graphs and for predicates over them, modelled on MonoSAT's GNF.
-/// The text is read once, from its first line to its last.
+/// The text is read once, from its first line to its last, or to its first fault.
 pub fn read_gnf(alloc: Global, text: &[u8]) -> Result<Problem, GnfRefusal>
     ensures { Reads text.now result }
 {

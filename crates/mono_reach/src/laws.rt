@@ -1,4 +1,4 @@
-//! What follows from the definitions alone, of what a theory knows of nodes.
+//! What follows from definitions, and from calls, of what a theory knows of nodes.
 
 ghost use Rattle.std.specs.Prelude.{◌≡◌, ◌<◌, ◌≤◌, ℕ, ℤ, length, take, IfOk, IsSome, IsTrue, MatchOption};
 ghost use Rattle.mono_base.specs.Literal.{var_of};

@@ -3,7 +3,7 @@
 
 /// The nodes between which walks are to lead.
 mod ends;
-/// What holds of marks by their definitions.
+/// What holds of marks by their definitions, and from call to call.
 pub mod laws;
 /// What is known of a node.
 mod marks;

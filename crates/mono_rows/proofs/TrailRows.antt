@@ -8,7 +8,7 @@ use Rattle.mono_trail.specs.Moves.{HasLate, IsVar}
 use Rattle.mono_trail.specs.Order.{AllOpenWait, Leaves, NoneOpen}
 use Rattle.mono_trail.specs.Places.{place_in, reason_at}
 use Rattle.mono_trail.specs.Seen.{is_marked, IsUnseen}
-use Rattle.mono_trail.specs.TrailView.{IsSoundTrail}
+use Rattle.mono_trail.specs.TrailView.{no_literals, IsSoundTrail}
 use Rattle.mono_steps.specs.WorkedLemmas.{minus}
 use Rattle.mono_rows.specs.SmallTrail.{mark, both_levels, order}
 
@@ -45,6 +45,17 @@ full_is_sound = record {
     within zero d lt = (omega arith, omega arith)
     within (suc zero) d lt = (omega arith, omega arith)
     within (suc (suc k)) d lt = absurd (omega (arith, lt))
+
+pub most_are_sound : IsSoundTrail (no_literals 1000000)
+most_are_sound = record {
+  partial = refl;
+  within = λ k d lt. absurd (omega (arith, lt));
+  as_many = refl;
+  climbs = refl;
+  few = omega arith;
+  few_lits = omega arith;
+  given_in = omega arith;
+}
 
 pub leaves_with_assigned : Leaves (order (true ∷ true ∷ true ∷ [])) (order (false ∷ false ∷ true ∷ [])) (pos 1 ∷ []) 2
 leaves_with_assigned = record {

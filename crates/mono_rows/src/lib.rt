@@ -10,6 +10,8 @@ pub mod acyclic;
 pub mod answers;
 /// Partial assignments, numbers in an order, and lists of places.
 pub mod assignments;
+/// Steps that are carried to other clauses, and their new numbers.
+pub mod carried;
 /// Clauses that are unit or false, and stores of clauses.
 pub mod clauses;
 /// Cycles, and orders of the nodes.
@@ -22,10 +24,18 @@ pub mod found;
 pub mod generated;
 /// Edges from a node to itself, parallel edges, what comes again, and the numbers of edges.
 pub mod graph;
+/// Graphs that grow, and what lists of amounts and labels name.
+pub mod growing;
 /// Nodes and clauses of inputs, and words that no other row reads.
 pub mod inputs;
+/// The verdicts that values lack, the answers that texts stand for, and models and refutations that are migrated.
+pub mod judged;
+/// Late reasons that read all that was shown, and what is no reason and no step back.
+pub mod late;
 /// What a conflict teaches, and what it doesn't.
 pub mod learn;
+/// Problems that go up to their limits, and what of an input no other row reads.
+pub mod limits;
 /// Problems of two graphs, and what is added to them.
 pub mod problem;
 /// Texts that are read from a shelf.
@@ -40,3 +50,5 @@ pub mod trimmed;
 pub mod verdicts;
 /// Answers of version 2, and migrated answers.
 pub mod versions;
+/// The greatest names in witnesses, answers that version 1 can't write, and lines for which memory is missing.
+pub mod writable;

@@ -93,10 +93,11 @@ pub fn variables_in_range()
     ensures beyond { IsVar 3 4 → ⊥ }
 {}
 
-/// A trail may have a literal of each variable, and all of them may be given.
+/// A trail may have a literal of each variable, all of them may be given, and there may be a million variables.
 pub fn sound_trails()
     ensures whole { IsSoundTrail (both_levels 4) }
     ensures full { IsSoundTrail (record { vars = 2; lits = pos 2 ∷ minus 1 ∷ []; marks = mark 0 (Clause 7) ∷ mark 1 Decided ∷ []; level = 1; given = 0 }) }
+    ensures most_variables { IsSoundTrail (no_literals 1000000) }
 {}
 
 /// A trail has a literal of a variable once, each with its mark, and its levels climb at decisions alone.

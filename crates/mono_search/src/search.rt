@@ -113,9 +113,9 @@ impl<'p, T: Theory> Search<'p, T> {
         self.state.journal()
     }
 
-    /// The literals' signs are saved, of two signs of one variable the later one. The next decision of a variable has the sign
-    /// that is saved for it; but where there are theories, one of them may prefer true. A sign stays saved until its variable
-    /// gets a value again or the search begins anew. All else stays.
+    /// The literals' signs are saved, of two signs of one variable the later one; all else stays. A decision takes the sign that
+    /// is saved for its variable, unless a theory prefers true, until the variable gets a value or the search begins anew: that
+    /// is how it searches, and no promise.
     pub fn prefer(&mut self, lits: &[Lit])
         requires live { IsTrue self.old.live }
         requires within { All (IsLitWithin self.old.problem.vars) lits.now }

@@ -50,7 +50,7 @@ pub fn what_theories_find_of_two_atoms()
     ensures first_owes { FindingIs (parallel 1 1) reaches_without_cycles (pos 1 ∷ pos 4 ∷ []) finding.Quiet → ⊥ }
     ensures second_owes { FindingIs (parallel 1 1) reaches_without_cycles (pos 1 ∷ pos 3 ∷ []) finding.Quiet → ⊥ }
     ensures lemma_of_one { FindingIs (parallel 1 1) reaches_without_cycles (pos 1 ∷ pos 4 ∷ []) (finding.Lemma (walk_along 1)) }
-    ensures true_literal { FindingIs (parallel 1 1) reaches (pos 1 ∷ minus 2 ∷ [])
+    ensures true_literal { FindingIs (parallel 1 1) reaches_without_cycles (pos 1 ∷ minus 2 ∷ pos 4 ∷ [])
         (finding.Lemma (of_1 (minus 1 ∷ minus 2 ∷ pos 3 ∷ []) (by.Path (1 ∷ [])))) → ⊥ }
     ensures of_a_quiet_atom { FindingIs (parallel 1 1) reaches_without_cycles (minus 3 ∷ []) (finding.Lemma (walk_along 1)) → ⊥ }
 {}

@@ -4,12 +4,12 @@ use Rattle.std.proofs.lemmas.List.{get_or_read, length-set}
 use Rattle.mono_base.specs.Literal.{slot}
 use Rattle.mono_base.proofs.Sparse.{slot_bound}
 use Rattle.mono_clauses.proofs.PlacesAhead.{Head, first_place, pool_room, some_within, chunk_shift_as, chunk_eq}
-use Rattle.mono_clauses.proofs.WatchLists.{Facts, facts, chunk_as, loose_free, loose_removed, climbed_length, Shifted}
+use Rattle.mono_clauses.proofs.WatchLists.{Facts, IsLoose, facts, chunk_as, loose_free, loose_removed, climbed_length, Shifted}
 use Rattle.mono_clauses.proofs.ChunkPool.{top_within}
 use Rattle.mono_clauses.proofs.ChunkStacks.{rest_is}
 use Rattle.mono_clauses.proofs.Watched.{length_watched, busy_at, set_lit}
 use Rattle.mono_clauses.specs.Lists.{first_of}
-use Rattle.mono_clauses.specs.Stacks.{IsStack, IsChunked, IsLoose, Removed, Put, watcher_at, watchers_at}
+use Rattle.mono_clauses.specs.Stacks.{IsStack, IsChunked, Removed, Put, watcher_at, watchers_at}
 use Rattle.mono_clauses.specs.Store.{watch_at}
 use Rattle.mono_clauses.specs.Watching.{watched_of, WatchesView, Placed}
 use Rattle.mono_clauses.proofs.watches.Watches.shift.Goals as goal
