@@ -8,7 +8,8 @@ a `reach` one atom a node is derived from it along the edges whose variables are
 predicate's variable agrees with its last node's atom. The edges of a graph that has to have no cycle stand under
 their variables as `#edge` directives. So the models are those of the input. Times are processor times of whole runs,
 reading and writing included; `solve` prints its model or its refutation, clasp its model alone. The status is 1 where
-a run ends without an answer before its limit, `check` refuses one, or the two differ in it.
+a run ends without an answer before its limit, no run of `solve` over a family has one, `check` refuses one, or the two
+differ in it.
 """
 
 from __future__ import annotations
@@ -23,7 +24,7 @@ from pathlib import Path
 
 import flags
 from families.catalogue import FAMILIES
-from runs import ANSWERS, Solver, geometric_mean, ratio, timed
+from runs import ANSWERS, Run, Solver, about, geometric_mean, is_idle, ratio, timed
 
 USUAL = ["routing", "boards", "reaching", "wall", "feedback", "schedules"]
 
@@ -115,28 +116,38 @@ def program_of(lines: Iterable[str]) -> str:
 
 def arguments() -> argparse.Namespace:
     """What the command's words say."""
-    parser = flags.family_parser(__doc__, USUAL, 20, 60)
-    parser.add_argument("--large", action="store_true", help="the large inputs in place of the usual ones")
+    parser = flags.family_parser(__doc__, USUAL)
     parser.add_argument("--text", metavar="FILE", help="only write what clasp reads for this input")
     return parser.parse_args()
 
 
+def clasp(solver: Solver) -> Run:
+    """The run of clasp on the input in the solver's folder."""
+    run = timed(["clasp", "--quiet=2", solver.path("asp")], os.devnull, solver.limit)
+    run.status = {30: 10}.get(run.status, run.status)
+    # at the limit clasp ends by itself
+    run.stopped |= not run.answered and run.seconds > 0.9 * solver.limit
+    return run
+
+
 def beside(name: str, solver: Solver, args: argparse.Namespace) -> int:
-    """How many inputs of the family the two answer differently; prints a row for each input, and the geometric mean."""
-    wrong = 0
+    """How many inputs of the family the two answer differently; prints a row for each input, and the geometric mean.
+
+    A family that `solve` answers nowhere counts as one more.
+    """
+    wrong = answers = 0
     ratios: list[float] = []
-    for label, make in FAMILIES[name].inputs(args.seeds, args.large):
-        text = make().text()
+    for given in FAMILIES[name].inputs(flags.seeds(args), args.large):
+        text = given.make().text()
         solver.put(text)
         Path(solver.path("asp")).write_text(program_of(text.splitlines()))
-        ours = solver.solve()
-        theirs = timed(["clasp", "--quiet=2", solver.path("asp")], os.devnull, args.limit)
-        theirs.status = {30: 10}.get(theirs.status, theirs.status)
-        # at the limit clasp ends by itself
-        theirs.stopped |= not theirs.answered and theirs.seconds > 0.9 * args.limit
-        says = solver.check()[1] if ours.answered else ""
+        command = flags.again(args, *["--large"] * args.large, "--only", given.seed, name)
+        with about(f"{name} {given.label}", command):
+            ours, theirs = solver.solve(), clasp(solver)
+            says = solver.check()[1] if ours.answered else ""
         both = f"{ours.name:8} {ours.seconds:8.3f} s, clasp {theirs.name:8} {theirs.seconds:8.3f} s"
-        row = f"{name:12} {label:22} {both}"
+        row = f"{name:12} {given.label:22} {both}"
+        answers += ours.answered
         differs = ours.answered and (says != ANSWERS[ours.status] or (theirs.answered and ours.status != theirs.status))
         if ours.failed or theirs.failed or differs:
             wrong += 1
@@ -146,7 +157,7 @@ def beside(name: str, solver: Solver, args: argparse.Namespace) -> int:
         print(f"{row}, ratio {ratios[-1]:.2f}", flush=True)
     if ratios:
         print(f"{name:12} geometric mean of the ratios: {geometric_mean(ratios):.2f}")
-    return wrong
+    return wrong + is_idle(name, answers, args.limit)
 
 
 def main() -> None:

@@ -10,7 +10,7 @@ A row says how long the first refutation takes (`solve` with one more clause for
 takes, how many assumptions are left, for how many of these a model shows that they are needed, and a ratio that should
 be at most 1: on boards to 3 times the first refutation's time and 0.2 of it for each assumption that is left, on
 clauses to twice picomus' time. Each core is judged by `check-with`. Times are processor times of whole runs. No time is
-tested; the status is 1 where a core is refused, or a run ends without one before its limit.
+tested; the status is 1 where a core is refused, a run ends without one before its limit, or none of a size has one.
 """
 
 from __future__ import annotations
@@ -25,7 +25,7 @@ from pathlib import Path
 import flags
 from families.boards import routed
 from families.encoding import Encoding
-from runs import ANSWERS, Run, Solver, ratio, timed, verdict
+from runs import ANSWERS, Run, Solver, about, is_idle, judged, ratio, timed
 
 NETS = 50
 
@@ -104,17 +104,18 @@ class Cores(Solver):
         notes = [line.split() for line in lines if line.startswith("c ")] or [[]]
         return notes[0][2:-1], sum(words[1:2] == ["needed"] for words in notes)
 
-    def judge(self, core: list[str]) -> None:
+    def judge(self) -> None:
         """Says where `check-with` refuses the core."""
+        core, _ = self.found()
         form = "check-with" if core else "check"
-        timed([self.program, form, self.path("f"), self.path("a"), *core], self.path("verdict"), 10 * self.limit)
-        says = verdict(self.path("verdict"))
+        words = [self.program, form, self.path("f"), self.path("a"), *core]
+        says = judged(words, self.path("verdict"), 10 * self.limit)[1]
         if says != ANSWERS[20]:
             self.wrong += 1
             print(f"  WRONG {form}: {says}")
 
-    def row(self, label: str, given: Input, clauses: str | None) -> None:
-        """One row of the table; the clauses are what picomus reads."""
+    def row(self, label: str, given: Input, clauses: str | None) -> bool:
+        """Prints a row of the table, and returns whether there is a core; the clauses are what picomus reads."""
         theirs = self.picomus(clauses) if clauses else Run(0, 20)
         first, whole = self.first(given), self.core(given)
         both = f"{label:14} {first.name:8} {first.seconds:8.3f} s, core {whole.name:8} {whole.seconds:8.3f} s"
@@ -123,13 +124,27 @@ class Cores(Solver):
             failed = any(run.status != 20 and not run.stopped for run in (theirs, first, whole))
             self.wrong += failed
             print(f"{'WRONG ' * failed}{both}", flush=True)
-            return
-        aim = 2 * theirs.seconds
-        core, models = self.found()
-        aim = aim or (3 + 0.2 * len(core)) * first.seconds
-        left = f"{len(core)} of {len(given.assumed)} left, {models} models"
-        print(f"{both}, {left}, ratio {ratio(whole.seconds, aim):.2f}", flush=True)
-        self.judge(core)
+        else:
+            core, models = self.found()
+            aim = 2 * theirs.seconds or (3 + 0.2 * len(core)) * first.seconds
+            left = f"{len(core)} of {len(given.assumed)} left, {models} models"
+            print(f"{both}, {left}, ratio {ratio(whole.seconds, aim):.2f}", flush=True)
+        if whole.status == 20:
+            self.judge()
+        return first.status == whole.status == 20
+
+    def size(self, args: argparse.Namespace, size: int) -> None:
+        """The rows of a size."""
+        answers = 0
+        for seed in flags.seeds(args):
+            label = f"{size}, seed {seed}"
+            clauses = plain_clauses(size, seed) if args.clauses else None
+            given = selected(size, clauses) if clauses else board(size, seed)
+            text = unselected(size, clauses) if clauses else None
+            command = flags.again(args, *["--clauses"] * args.clauses, "--only", seed, size)
+            with about(f"{'clauses' if args.clauses else 'board'} {label}", command):
+                answers += self.row(label, given, text)
+        self.wrong += is_idle(f"size {size}", answers, self.limit)
 
 
 def arguments() -> argparse.Namespace:
@@ -137,8 +152,7 @@ def arguments() -> argparse.Namespace:
     parser = flags.parser(__doc__)
     add = parser.add_argument
     add("--clauses", action="store_true", help="clauses in place of boards")
-    add("--seeds", metavar="N", type=flags.positive, default=3, help="so many inputs of a size (%(default)s)")
-    add("--limit", metavar="S", type=flags.positive, default=60, help="seconds that a run may take (%(default)s)")
+    flags.add_seeds(parser, 3)
     add("sizes", nargs="*", type=int, metavar="SIZE")
     args = parser.parse_args()
     args.sizes = args.sizes or ([30, 40] if args.clauses else [16, 20])
@@ -150,13 +164,7 @@ def main() -> None:
     with tempfile.TemporaryDirectory() as folder:
         cores = Cores(args.program, folder, args.limit)
         for size in args.sizes:
-            for seed in range(1, args.seeds + 1):
-                label = f"{size}, seed {seed}"
-                if args.clauses:
-                    clauses = plain_clauses(size, seed)
-                    cores.row(label, selected(size, clauses), unselected(size, clauses))
-                else:
-                    cores.row(label, board(size, seed), None)
+            cores.size(args, size)
     sys.exit(1 if cores.wrong else 0)
 
 

@@ -3,13 +3,15 @@
 cubes.py [--program PATH] [FAMILY..]         one row for each of the inputs below, none of which has a model
 
 All times are processor times of whole runs of `solve`, in seconds; the cubes are solved one after the other, each
-answer is judged, and so is their cover. No time is tested; the status is 1 where an answer is wrong or missing.
+answer is judged, and so is their cover. No time is tested; the status is 1 where an answer is wrong or missing, or a
+run takes longer than its limit.
 """
 
 from __future__ import annotations
 
 import argparse
 import os
+import shlex
 import sys
 import tempfile
 from collections.abc import Callable
@@ -21,12 +23,14 @@ sys.path.insert(0, str(HERE.parent / "python"))
 import flags  # noqa: E402
 from families import boards, orders, sites  # noqa: E402
 from families.encoding import Encoding  # noqa: E402
+from gulfezo import GulfezoError  # noqa: E402
+from gulfezo.cubes.auditing import NotAccepted  # noqa: E402
 from gulfezo.cubes.engines import Local  # noqa: E402
 from gulfezo.cubes.folder import Folder  # noqa: E402
 from gulfezo.cubes.main import judge_cover  # noqa: E402
 from gulfezo.cubes.run import Plan, Run  # noqa: E402
 from gulfezo.cubes.splitting import METHODS, Splitting  # noqa: E402
-from runs import ANSWERS, timed, verdict  # noqa: E402
+from runs import ANSWERS, PATIENCE, Wrong, about, judged, timed  # noqa: E402
 
 # By name: what makes the inputs, and each one's size and seed. The sizes: cells on a side and nets; sites and links;
 # elements and triples.
@@ -49,58 +53,85 @@ def known(name: str) -> str:
 
 def arguments() -> argparse.Namespace:
     """What the command's words say."""
-    parser = flags.parser(__doc__)
+    parser = flags.parser(__doc__, limit=120)
     add = parser.add_argument
     add("--cubes", metavar="N", type=int, default=8, help="how many cubes are made at first (%(default)s)")
     add("--budget", metavar="N", type=int, default=100_000, help="learned clauses until a cube is split (%(default)s)")
     add("--probe", metavar="N", type=int, default=2_000, help="those of a run before there are so many (%(default)s)")
-    add("--limit", metavar="S", type=flags.positive, default=120, help="seconds of the one run (%(default)s)")
+    add("--only", metavar="SEED", type=flags.positive, help="the inputs of this seed alone")
     add("families", nargs="*", type=known, default=USUAL, metavar="FAMILY", help=f"by name ({', '.join(INPUTS)})")
     return parser.parse_args()
 
 
-def one_run(args: argparse.Namespace, file: str) -> tuple[int | None, float]:
-    """The exit code and the time of one run; the code is None where it takes longer than the limit."""
+def one_run(args: argparse.Namespace, file: str) -> float:
+    """The time of one run. `Wrong`: it doesn't end with a refutation that is accepted."""
     run = timed([args.program, "solve", file, "--conflicts", str(2**63)], f"{file}.answer", args.limit)
-    says = f"{file}.verdict"
-    timed([args.program, "check", file, f"{file}.answer"], says, 10 * args.limit)
-    if run.status == 20 and verdict(says) != ANSWERS[20]:
-        sys.exit(f"check says {verdict(says)!r} of the answer of one run")
-    return None if run.stopped else run.status, run.seconds
+    if run.status != 20:
+        raise Wrong(f"one run: {run.name} after {run.seconds:.1f} s")
+    _, says = judged([args.program, "check", file, f"{file}.answer"], f"{file}.verdict", 10 * args.limit)
+    if says != ANSWERS[20]:
+        raise Wrong(f"check says {says!r} of the answer of one run")
+    return run.seconds
 
 
-def cubes(args: argparse.Namespace, problem: bytes, method: str) -> tuple[int, float, float]:
-    """The number of cubes, the sum of all runs' times, and the longest one."""
+def bounded(args: argparse.Namespace, place: str) -> str:
+    """A program that does what the named one does within the limit: what solves and judges cubes knows none.
+
+    As with other runs here the limit is one of processor time, and by the clock it is so many times as long.
+    """
+    path = Path(place, "bounded")
+    within = f"exec timeout --foreground --signal=KILL {PATIENCE * args.limit}"
+    path.write_text(f'#!/bin/sh\nulimit -St {args.limit}\n{within} {shlex.quote(args.program)} "$@"\n')
+    path.chmod(0o755)
+    return str(path)
+
+
+def cubes(args: argparse.Namespace, problem: bytes, method: str, program: str) -> tuple[int, float, float]:
+    """The number of cubes, the sum of all runs' times, and the longest one. `Wrong`: they aren't all refuted."""
     with tempfile.TemporaryDirectory() as place:
         folder = Folder(Path(place), problem)
-        plan = Plan(args.cubes, args.budget, args.probe, args.program, args.program)
+        plan = Plan(args.cubes, args.budget, args.probe, program, program)
         run = Run(plan, folder, Local(problem, 1), Splitting(problem, method))
-        if run.solve():
-            sys.exit("one run found no model, and a cube has one")
-        count = len(folder.finish())
-        judge_cover(args.program, Path(place))
-        folder.close()
+        try:
+            if run.solve():
+                raise Wrong("one run found no model, and a cube has one")
+            count = len(folder.finish())
+            judge_cover(program, Path(place))
+        except (GulfezoError, NotAccepted) as fault:
+            raise Wrong(f"cubes by {method}: {fault}") from fault
+        finally:
+            folder.close()
         return count, sum(cube.seconds for cube in folder.tree.cubes), run.longest
+
+
+def row(args: argparse.Namespace, problem: bytes) -> str:
+    """What is measured of a problem."""
+    with tempfile.TemporaryDirectory() as place:
+        file = os.path.join(place, "f")
+        Path(file).write_bytes(problem)
+        alone = one_run(args, file)
+        found = [f"{alone:.1f}"]
+        for method in METHODS:
+            count, total, longest = cubes(args, problem, method, bounded(args, place))
+            found.append(f"{count}, {total:.1f}, {total / alone:.2f}, {longest:.1f}")
+    return " | ".join(found)
 
 
 def main() -> None:
     args = arguments()
     print("input | one run | " + " | ".join(f"{way}: cubes, sum, ratio, longest" for way in METHODS))
+    shape = ["--cubes", args.cubes, "--budget", args.budget, "--probe", args.probe]
+    measured = 0
     for name in args.families:
         make, inputs = INPUTS[name]
-        for size, seed in inputs:
-            problem = make(size, seed).text().encode()
-            with tempfile.TemporaryDirectory() as place:
-                file = os.path.join(place, "f")
-                Path(file).write_bytes(problem)
-                status, alone = one_run(args, file)
-            if status != 20:
-                sys.exit(f"{name} {size}, seed {seed}: one run ended with {status} after {alone:.1f} s")
-            row = []
-            for method in METHODS:
-                count, total, longest = cubes(args, problem, method)
-                row.append(f"{count}, {total:.1f}, {total / alone:.2f}, {longest:.1f}")
-            print(f"{name} {size}, seed {seed} | {alone:.1f} | " + " | ".join(row), flush=True)
+        for size, seed in [it for it in inputs if args.only in (None, it[1])]:
+            label = f"{name} {size}, seed {seed}"
+            with about(label, flags.again(args, *shape, "--only", seed, name)):
+                found = row(args, make(size, seed).text().encode())
+            print(f"{label} | {found}", flush=True)
+            measured += 1
+    if not measured:
+        sys.exit(f"no input has the seed {args.only}")
 
 
 if __name__ == "__main__":

@@ -4,12 +4,15 @@ from __future__ import annotations
 
 import argparse
 import os
+import shlex
+import sys
 from collections.abc import Iterable
 from pathlib import Path
 
 from families.catalogue import FAMILIES
 
-BUILT = Path(__file__).resolve().parents[1] / "crates" / "mono_cmd" / "out" / "mono_cmd"
+TOP = Path(__file__).resolve().parents[1]
+BUILT = TOP / "crates" / "mono_cmd" / "out" / "mono_cmd"
 
 
 def absolute(path: str) -> str:
@@ -27,12 +30,25 @@ def positive(text: str) -> int:
     return number
 
 
-def parser(doc: str | None) -> argparse.ArgumentParser:
-    """The flag `--program`."""
+def parser(doc: str | None, built: Path = BUILT, limit: int = 60) -> argparse.ArgumentParser:
+    """The flags `--program` and `--limit`."""
     made = argparse.ArgumentParser(description=doc, formatter_class=argparse.RawDescriptionHelpFormatter)
     add = made.add_argument
-    add("--program", metavar="PATH", type=absolute, default=str(BUILT), help="the program (%(default)s)")
+    add("--program", metavar="PATH", type=absolute, default=str(built), help="the program (%(default)s)")
+    add("--limit", metavar="S", type=positive, default=limit, help="seconds that a run may take (%(default)s)")
     return made
+
+
+def add_seeds(made: argparse.ArgumentParser, seeds: int) -> None:
+    """The flags `--seeds` and `--only`."""
+    add = made.add_argument
+    add("--seeds", metavar="N", type=positive, default=seeds, help="at most N inputs of a size (%(default)s)")
+    add("--only", metavar="SEED", type=positive, help="the inputs of this seed alone")
+
+
+def seeds(args: argparse.Namespace) -> range:
+    """The seeds that the flags ask for."""
+    return range(args.only, args.only + 1) if args.only else range(1, args.seeds + 1)
 
 
 def family(name: str) -> str:
@@ -42,12 +58,18 @@ def family(name: str) -> str:
     return name
 
 
-def family_parser(doc: str | None, families: Iterable[str], seeds: int, limit: int) -> argparse.ArgumentParser:
+def family_parser(doc: str | None, families: Iterable[str]) -> argparse.ArgumentParser:
     """`--program`, the families whose inputs are measured, how many of them, and how long a run may take."""
     made = parser(doc)
-    add = made.add_argument
-    add("--seeds", metavar="N", type=positive, default=seeds, help="at most N inputs of a size (%(default)s)")
-    add("--limit", metavar="S", type=positive, default=limit, help="seconds that a run may take (%(default)s)")
-    usual = list(families)
+    add_seeds(made, 20)
+    add, usual = made.add_argument, list(families)
     add("families", nargs="*", type=family, default=usual, metavar="FAMILY", help=f"by name ({', '.join(usual)})")
+    add("--large", action="store_true", help="the large inputs in place of the usual ones")
     return made
+
+
+def again(args: argparse.Namespace, *words: str | int) -> str:
+    """The command of this script, with these words in place of those that say what is measured."""
+    script = os.path.relpath(sys.argv[0], TOP)
+    line = ["python3", script, "--program", args.program, "--limit", args.limit, *words]
+    return shlex.join(map(str, line))

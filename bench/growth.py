@@ -18,7 +18,7 @@ from dataclasses import dataclass
 import flags
 from families.boards import neighbours
 from families.encoding import Encoding
-from runs import ANSWERS, Solver, ratio
+from runs import ANSWERS, Solver, about, ratio
 
 
 def star(n: int) -> Encoding:
@@ -139,7 +139,6 @@ def arguments() -> argparse.Namespace:
     """What the command's words say."""
     parser = flags.parser(__doc__)
     add = parser.add_argument
-    add("--limit", metavar="S", type=flags.positive, default=60, help="seconds that a run may take (%(default)s)")
     usual = ", ".join(SHAPES)
     add("shapes", nargs="*", type=known, default=list(SHAPES), metavar="SHAPE", help=f"by name ({usual})")
     return parser.parse_args()
@@ -161,7 +160,10 @@ def main() -> None:
         solver = Solver(args.program, folder, args.limit)
         for name in args.shapes:
             shape = SHAPES[name]
-            times = [seconds(solver, shape.made(scale * shape.first)) for scale in (1, 2, 4)]
+            times: list[float | None] = []
+            for scale in (1, 2, 4):
+                with about(f"{name}, n = {scale * shape.first}", flags.again(args, name)):
+                    times.append(seconds(solver, shape.made(scale * shape.first)))
             found = [time for time in times if time is not None]
             wrong += len(times) - len(found)
             row = " ".join("none" if time is None else f"{time:.2f}" for time in times)

@@ -12,12 +12,12 @@ from __future__ import annotations
 import os
 import signal
 import subprocess
-import sys
 import tempfile
 import threading
 from collections.abc import Iterator
 
 import flags
+from runs import Wrong, about, shown
 
 
 def problem(numbers: int) -> str:
@@ -49,7 +49,7 @@ def pieces_of(numbers: int, size: int) -> int:
 
 
 def measure(words: list[str], pieces: Iterator[bytes], limit: int) -> tuple[float, int, str]:
-    """The processor time in seconds, the peak in kB, and the text of a run that is fed these bytes."""
+    """The processor time in seconds, the peak in kB, and the text of a run over these bytes. `Wrong`: it fails."""
     child = subprocess.Popen(words, stdin=subprocess.PIPE, stdout=subprocess.PIPE, start_new_session=True)
     assert child.stdin is not None and child.stdout is not None
     timer = threading.Timer(limit, os.killpg, [child.pid, signal.SIGKILL])
@@ -65,17 +65,17 @@ def measure(words: list[str], pieces: Iterator[bytes], limit: int) -> tuple[floa
     timer.cancel()
     child.returncode = os.waitstatus_to_exitcode(status)
     if child.returncode:
-        sys.exit(f"{' '.join(words)}: ended with {child.returncode} and wrote {text!r}")
+        raise Wrong(f"{shown(words)}: ended with {child.returncode} and wrote {text!r}")
     return usage.ru_utime + usage.ru_stime, usage.ru_maxrss, text
 
 
 def main() -> None:
-    parser = flags.parser(__doc__)
+    parser = flags.parser(__doc__, limit=600)
     parser.add_argument("--bytes", metavar="N", type=int, default=1 << 30, help="the log's size (%(default)s)")
     parser.add_argument("--numbers", metavar="N", type=int, default=1000, help="of clauses a step names (%(default)s)")
-    parser.add_argument("--limit", metavar="S", type=flags.positive, default=600, help="seconds of a run (%(default)s)")
     options = parser.parse_args()
-    with tempfile.NamedTemporaryFile("w", suffix=".gnf") as file:
+    command = flags.again(options, "--bytes", options.bytes, "--numbers", options.numbers)
+    with tempfile.NamedTemporaryFile("w", suffix=".gnf") as file, about("the log", command):
         file.write(problem(options.numbers))
         file.flush()
         runs = {
@@ -86,7 +86,7 @@ def main() -> None:
             seconds, peak, text = measure(words, log(options.numbers, options.bytes), options.limit)
             steps = steps_at_once(options.numbers) * pieces_of(options.numbers, options.bytes)
             if name == "check" and text != f"accepted progress {steps}\n":
-                sys.exit(f"{' '.join(words)}: it says {text!r} of {steps} steps")
+                raise Wrong(f"{shown(words)}: it says {text!r} of {steps} steps")
             print(f"{name:6} {seconds:7.2f} s {peak:9} kB   {text.strip()}")
 
 

@@ -2,6 +2,7 @@
 
 from __future__ import annotations
 
+import contextlib
 import math
 import os
 import resource
@@ -9,6 +10,7 @@ import signal
 import subprocess
 import sys
 import threading
+from collections.abc import Iterator
 from dataclasses import dataclass
 from pathlib import Path
 
@@ -16,6 +18,10 @@ NO_BUDGET = 2**64 - 1
 ANSWERS = {10: "accepted model", 20: "accepted refutation"}
 NAMES = {10: "model", 20: "refuted"}
 PATIENCE = 20  # a run that takes so many times its limit by the clock does nothing, even where others work beside it
+
+
+class Wrong(Exception):
+    """What is wrong with a run whose time would say nothing."""
 
 
 @dataclass
@@ -44,10 +50,34 @@ class Run:
         return f"signal {-self.status}" if self.status < 0 else NAMES.get(self.status, f"status {self.status}")
 
 
+@contextlib.contextmanager
+def about(label: str, again: str) -> Iterator[None]:
+    """Runs over one input. Where one is `Wrong` the script ends, and tells the input and the command that shows it."""
+    try:
+        yield
+    except Wrong as wrong:
+        sys.exit(f"{label}: {wrong}\n  again: {again}")
+
+
+def is_idle(what: str, answers: int, limit: int) -> bool:
+    """Whether no run over some inputs had an answer, which is told.
+
+    A run may pass its limit; but a program none of whose runs ends may be one that only spins.
+    """
+    if not answers:
+        print(f"WRONG {what}: no run had an answer within {limit} s", flush=True)
+    return not answers
+
+
+def shown(words: list[str]) -> str:
+    """The words of a run without the folders of its files, which are gone when they are read."""
+    return " ".join(map(os.path.basename, words))
+
+
 def timed(words: list[str], out: str, limit: int) -> Run:
     """A run whose output goes to a file; after so many seconds of processor time it is stopped.
 
-    One that hangs, which takes no such time, ends the script.
+    `Wrong`: it hangs, and takes no such time.
     """
 
     def bound() -> None:
@@ -64,7 +94,7 @@ def timed(words: list[str], out: str, limit: int) -> Run:
         timer.cancel()
     process.returncode = os.waitstatus_to_exitcode(status)
     if hangs.is_set():
-        sys.exit(f"{' '.join(words)}: it hangs: stopped after {PATIENCE * limit} s by the clock")
+        raise Wrong(f"{shown(words)} hangs: it was stopped after {PATIENCE * limit} s by the clock")
     seconds = used.ru_utime + used.ru_stime
     by_limit = process.returncode in (-signal.SIGXCPU, -signal.SIGKILL) and seconds > 0.9 * limit
     return Run(seconds, process.returncode, by_limit)
@@ -74,6 +104,13 @@ def stop(process: int, hangs: threading.Event) -> None:
     """Ends a run, with all that it began."""
     hangs.set()
     os.killpg(process, signal.SIGKILL)
+
+
+def judged(words: list[str], out: str, limit: int) -> tuple[Run, str]:
+    """A run of `check`, and what it says: its one line without the end, and how it ended, where that isn't with 0."""
+    run = timed(words, out, limit)
+    says = Path(out).read_text(errors="replace").removesuffix("\n")
+    return run, says if run.status == 0 else f"{says} ({run.name})"
 
 
 class Solver:
@@ -97,8 +134,7 @@ class Solver:
 
     def check(self) -> tuple[Run, str]:
         """The run of `check` on the answer, and what it says."""
-        run = timed([self.program, "check", self.path("f"), self.path("a")], self.path("verdict"), 10 * self.limit)
-        return run, verdict(self.path("verdict"))
+        return judged([self.program, "check", self.path("f"), self.path("a")], self.path("verdict"), 10 * self.limit)
 
     def conflicts(self) -> int:
         """The least budget that brings the answer, to within a twentieth: so many clauses are learned."""
@@ -114,16 +150,11 @@ class Solver:
         return high
 
     def ends_within(self, budget: int) -> bool:
-        """Whether this budget brings the answer."""
+        """Whether this budget brings the answer. `Wrong`: the run ends in a third way."""
         run = self.solve(budget, "unused")
         if run.failed and run.status != 0:
-            sys.exit(f"solve with a budget of {budget}: {run.name}")
+            raise Wrong(f"solve with a budget of {budget}: {run.name}")
         return run.answered
-
-
-def verdict(path: str) -> str:
-    """What a run of `check` wrote into this file, without the end of its one line."""
-    return Path(path).read_text(errors="replace").removesuffix("\n")
 
 
 def minisat(folder: str, limit: int) -> Run:

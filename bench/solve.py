@@ -4,9 +4,10 @@ solve.py [--program PATH] [FAMILY..]         one table: status, time, conflicts,
                                              on it; on clauses alone MiniSat beside it
 solve.py --old PATH --new PATH [FAMILY..]    the ratio of two programs in one run, and its geometric mean by family
 
-Each answer is judged by `check`, outside the time of `solve`. Times are processor times of whole runs, reading and
-writing included: `solve` prints its model or its refutation, MiniSat its model alone. No time is tested; the status
-is 1 where a run ends without an answer before its limit, `check` refuses one, or two programs differ in it.
+Each answer is judged by its program's `check`, outside the time of `solve`. Times are processor times of whole runs,
+reading and writing included: `solve` prints its model or its refutation, MiniSat its model alone. No time is tested;
+the status is 1 where a run ends without an answer before its limit, no run of a family has one, `check` refuses one,
+or two programs differ in it.
 """
 
 from __future__ import annotations
@@ -16,19 +17,18 @@ import sys
 import tempfile
 
 import flags
-from families.catalogue import FAMILIES
+from families.catalogue import FAMILIES, Input
 from runs import Solver
 from tables import Ratios, Table
 
 
 def arguments() -> argparse.Namespace:
     """What the command's words say."""
-    parser = flags.family_parser(__doc__, FAMILIES, 20, 60)
+    parser = flags.family_parser(__doc__, FAMILIES)
     add = parser.add_argument
     add("--old", metavar="PATH", type=flags.absolute, help="a program to compare, with --new")
     add("--new", metavar="PATH", type=flags.absolute, help="the program that is compared with --old")
     add("--keep", metavar="FOLDER", help="keep the last input and its answer there")
-    add("--large", action="store_true", help="the large inputs in place of the usual ones")
     add("--conflicts", action="store_true", help="count the conflicts of short runs (about six further runs each)")
     add("--list", action="store_true", help="only list the families")
     args = parser.parse_args()
@@ -38,17 +38,22 @@ def arguments() -> argparse.Namespace:
 
 
 def measure(args: argparse.Namespace, folder: str) -> int:
-    """How many answers are wrong; prints the table."""
+    """How many answers and families are wrong; prints the table."""
 
     def solver(program: str) -> Solver:
         return Solver(program, folder, args.limit)
 
-    table: Ratios | Table = Table(solver(args.program), args.conflicts)
+    def again(name: str, given: Input) -> str:
+        programs = ["--old", args.old, "--new", args.new] if args.old else []
+        ways = ["--large"] * args.large + ["--conflicts"] * args.conflicts
+        return flags.again(args, *programs, *ways, "--only", given.seed, name)
+
+    table: Ratios | Table = Table(solver(args.program), again, args.conflicts)
     if args.old:
-        table = Ratios(solver(args.old), solver(args.new))
+        table = Ratios(solver(args.old), solver(args.new), again)
     for name in args.families:
         family = FAMILIES[name]
-        table.family(name, family, family.inputs(args.seeds, args.large))
+        table.family(name, family, family.inputs(flags.seeds(args), args.large))
     table.summary()
     return table.wrong
 

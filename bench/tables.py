@@ -2,6 +2,7 @@
 
 from __future__ import annotations
 
+import collections
 import os
 import shutil
 from collections.abc import Callable, Iterable
@@ -10,9 +11,10 @@ from typing import Any
 
 import runs
 from families.catalogue import Family, Input
-from families.encoding import Encoding
 
 COUNTED = 3  # seconds: the conflicts of a longer run aren't counted
+# By a family and an input of it, the command that measures that one again.
+Again = Callable[[str, Input], str]
 
 
 @dataclass
@@ -49,23 +51,22 @@ class Row:
 class Table:
     """The rows of one program, and the sums of each family."""
 
-    def __init__(self, solver: runs.Solver, count_conflicts: bool) -> None:
-        self.solver, self.count_conflicts = solver, count_conflicts
+    def __init__(self, solver: runs.Solver, again: Again, count_conflicts: bool) -> None:
+        self.solver, self.again, self.count_conflicts = solver, again, count_conflicts
         self.families: list[tuple[str, list[Row]]] = []
-
-    @property
-    def wrong(self) -> int:
-        """How many answers are wrong."""
-        return sum(not row.right for _, rows in self.families for row in rows)
+        self.wrong = 0  # answers, and families without any
 
     def family(self, name: str, family: Family[Any], inputs: Iterable[Input]) -> None:
         """Measures these inputs; prints a line for each."""
         rows = []
-        for label, make in inputs:
-            self.solver.put(make().text())
-            rows.append(self.row(family.clauses_alone))
-            print(f"{name:12} {label:22} {rows[-1].text()}", flush=True)
+        for given in inputs:
+            with runs.about(f"{name} {given.label}", self.again(name, given)):
+                self.solver.put(given.make().text())
+                rows.append(self.row(family.clauses_alone))
+            print(f"{name:12} {given.label:22} {rows[-1].text()}", flush=True)
         self.families.append((name, rows))
+        self.wrong += sum(not row.right for row in rows)
+        self.wrong += runs.is_idle(name, sum(row.run.answered for row in rows), self.solver.limit)
 
     def row(self, clauses_alone: bool) -> Row:
         """The runs on the input in the solver's folder."""
@@ -107,31 +108,45 @@ def sums(rows: list[Row]) -> list[str]:
 class Ratios:
     """Two programs on the same inputs, in turn; the ratio is new to old."""
 
-    def __init__(self, old: runs.Solver, new: runs.Solver) -> None:
-        self.old, self.new = old, new
-        self.wrong = 0
+    def __init__(self, old: runs.Solver, new: runs.Solver, again: Again) -> None:
+        self.solvers = {"old": old, "new": new}
+        self.again = again
+        self.wrong = 0  # inputs, and families of which one of the two answers none
         self.sums: list[tuple[str, list[float]]] = []
+        self.answers: collections.Counter[str] = collections.Counter()  # of the family, by program
 
     def family(self, name: str, _: Family[Any], inputs: Iterable[Input]) -> None:
         """Measures these inputs; prints a line for each."""
-        ratios = [found for label, make in inputs if (found := self.ratio(name, label, make)) is not None]
+        self.answers.clear()
+        ratios = []
+        for given in inputs:
+            with runs.about(f"{name} {given.label}", self.again(name, given)):
+                found = self.ratio(f"{name:12} {given.label:22}", given)
+            if found is not None:
+                ratios.append(found)
+        for which, solver in self.solvers.items():
+            self.wrong += runs.is_idle(f"{name}, the {which} program", self.answers[which], solver.limit)
         if ratios:
             self.sums.append((name, ratios))
 
-    def ratio(self, name: str, label: str, make: Callable[[], Encoding]) -> float | None:
+    def answer(self, which: str) -> tuple[runs.Run, str]:
+        """The run of one of the two, and what its own `check` says of the answer."""
+        solver = self.solvers[which]
+        run = solver.solve()
+        if not run.answered:
+            return run, "-"
+        self.answers[which] += 1
+        return run, solver.check()[1]
+
+    def ratio(self, label: str, given: Input) -> float | None:
         """Of one input. A run at the limit counts with it, so that the ratio is a bound; a wrong one has none."""
-        self.new.put(make().text())
-        old = self.old.solve(out="unused")
-        new = self.new.solve()
-        says, is_right = "-", True
-        if new.answered:
-            _, says = self.new.check()
-            is_right = says == runs.ANSWERS[new.status] and (not old.answered or old.status == new.status)
-        both = f"old {old.name:8} {old.seconds:8.3f} s, new {new.name:8} {new.seconds:8.3f} s"
-        row = f"{name:12} {label:22} {both}"
-        if old.failed or new.failed or not is_right:
+        self.solvers["new"].put(given.make().text())
+        (old, old_says), (new, says) = both = self.answer("old"), self.answer("new")
+        row = f"{label} old {old.name:8} {old.seconds:8.3f} s, new {new.name:8} {new.seconds:8.3f} s"
+        failed = any(run.failed or (run.answered and says != runs.ANSWERS[run.status]) for run, says in both)
+        if failed or (old.answered and new.answered and old.status != new.status):
             self.wrong += 1
-            print(f"WRONG {row}, {says}", flush=True)
+            print(f"WRONG {row}, {old_says}, {says}", flush=True)
             return None
         found = runs.ratio(new.seconds, old.seconds)
         print(f"{row}, ratio {found:7.3f}, {says}", flush=True)

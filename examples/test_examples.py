@@ -12,6 +12,8 @@ from pathlib import Path
 import kept
 
 BUILT = Path(__file__).resolve().parents[1] / "crates" / "mono_cmd" / "out" / "mono_cmd"
+# What the program lacks, by the names of `require`: "acyclic,core".
+WITHOUT = {what.strip() for what in os.environ.get("GULFEZO_WITHOUT", "").split(",")}
 
 
 class Examples(unittest.TestCase):
@@ -26,18 +28,10 @@ class Examples(unittest.TestCase):
     def check(self, problem: Path, answer: Path) -> str:
         return self.run_program("check", problem, answer).strip()
 
-    def require(self, example: str) -> None:
-        """Skips the test where this version of the program doesn't know the example's predicate."""
-        if example == "schedule":
-            file = kept.HERE / example / "circle.gnf"
-            if self.check(file, file).endswith("UnknownWord"):
-                self.skipTest("this version of the program doesn't know `acyclic`")
-
-    def require_form(self, example: str) -> None:
-        """Skips the test where this version of the program has no form that the example's script asks for."""
-        usage = subprocess.run([self.program], capture_output=True, text=True, check=False).stdout
-        if example in NEWER and f"{NEWER[example]} FILE" not in usage:
-            self.skipTest(f"this version of the program has no `{NEWER[example]}`")
+    def require(self, *wanted: str) -> None:
+        """Skips the test where GULFEZO_WITHOUT names a kind of lines or a form that is wanted of the program."""
+        for what in WITHOUT.intersection(wanted):
+            self.skipTest(f"GULFEZO_WITHOUT names {what}")
 
     def test_files_are_as_their_scripts_make_them(self):
         for example in kept.all_kept():
@@ -48,13 +42,13 @@ class Examples(unittest.TestCase):
     def test_kept_answers_are_accepted(self):
         for example in kept.all_kept():
             with self.subTest(example.folder.name, name=example.name):
-                self.require(example.folder.name)
+                self.require(*KINDS.get(example.folder.name, ()))
                 self.assertEqual(self.check(example.file("gnf"), example.file("answer")), example.verdict)
 
     def test_answers_are_the_same_after_a_migration_there_and_back(self):
         for example in kept.all_kept():
             with self.subTest(example.folder.name, name=example.name), tempfile.TemporaryDirectory() as folder:
-                self.require(example.folder.name)
+                self.require("migrate", *KINDS.get(example.folder.name, ()))
                 two = Path(folder, "two")
                 two.write_text(self.run_program("migrate", example.file("gnf"), example.file("answer"), "2"))
                 self.assertEqual(self.check(example.file("gnf"), two), example.verdict)
@@ -65,7 +59,7 @@ class Examples(unittest.TestCase):
         for example in kept.all_kept():
             with self.subTest(example.folder.name, name=example.name), tempfile.TemporaryDirectory() as folder:
                 self.check(example.file("gnf"), example.file("answer"))
-                self.require(example.folder.name)
+                self.require(*KINDS.get(example.folder.name, ()))
                 example.problem.solve(folder=folder, program=self.program)
                 self.assertEqual(self.check(Path(folder, "problem.gnf"), Path(folder, "answer")), example.verdict)
 
@@ -73,16 +67,16 @@ class Examples(unittest.TestCase):
         for example in kept.EXAMPLES:
             with self.subTest(example):
                 self.check(Path("none"), Path("none"))
-                self.require(example)
-                self.require_form(example)
+                self.require(*KINDS.get(example, ()), *FORMS.get(example, ()))
                 told = io.StringIO()
                 with contextlib.redirect_stdout(told), unittest.mock.patch.dict(os.environ, {"GULFEZO": self.program}):
                     kept.script_of(kept.HERE / example).main()
                 self.assertIn(EXPECTED[example], told.getvalue())
 
 
-# What the scripts ask the program for, beside `solve` and `check`.
-NEWER = {"routing": "core", "network": "best", "schedule": "core"}
+# What the examples ask of the program that its first versions lack: kinds of predicates, and the scripts forms too.
+KINDS = {"schedule": ["acyclic"]}
+FORMS = {"routing": ["core"], "network": ["best"], "schedule": ["core"]}
 # The last thing that each script says.
 EXPECTED = {
     "routing": "crowded: net a, net b, net c can't all be routed",

@@ -23,7 +23,7 @@ from pathlib import Path
 
 import flags
 import reference
-from runs import Wrong, ended
+from runs import Stopped, Wrong, ended
 
 HERE = Path(__file__).resolve().parent
 FIRST = HERE.parent / "examples" / "first"
@@ -64,8 +64,12 @@ Ending = tuple[int, bytes]
 
 
 def written(words: list[str], to: str, limit: float) -> None:
-    """A file with what a run writes."""
-    Path(to).write_bytes(ending(words, limit)[1])
+    """A file with what a run writes, which further runs read. `Wrong`: it takes longer than the limit."""
+    try:
+        Path(to).write_bytes(ending(words, limit)[1])
+    except Stopped as stopped:
+        files = " ".join(map(os.path.basename, words[1:]))
+        raise Wrong(f"{files}, the run that makes the file {os.path.basename(to)}: {stopped}") from stopped
 
 
 def drawn_up(program: str, folder: str, limit: float) -> list[list[str]]:
@@ -164,6 +168,8 @@ def places(program: str, words: list[str], library: str, kind: str, limit: float
 def try_all(args: argparse.Namespace, library: str, runs: list[list[str]]) -> None:
     """Refuses each call of the kinds that are asked for in each of these runs. `Wrong`: of a form none was refused."""
     numbered = [(n, words) for n, words in enumerate(runs, 1) if n == (args.only or n)]
+    if not numbered:
+        raise Wrong(f"there is no run {args.only}")
     for kind in args.kind or MOST_SPARED:
         refused: collections.Counter[str] = collections.Counter()
         for number, words in numbered:

@@ -4,11 +4,13 @@ Texts that are long in one direction (a line, a token, a clause, a chain, lines 
 text, and what isn't a file: a directory, a FIFO, a name without a file, an output that is full. A run has to end with
 the status and the text that docs/FORMATS.md says, and its peak of resident memory has to be at most 3 times the bytes
 of its files and 4 MB, where no other factor is given here. --large makes the texts 50 times as long, up to 300 MB in
-one line, and prints a row for each run. The status is 0 exactly where every run ended as it should.
+one line, and prints a row for each run; --only NAME runs those of one name. The status is 0 exactly where every run
+ended as it should.
 """
 
 from __future__ import annotations
 
+import argparse
 import itertools
 import os
 import signal
@@ -118,8 +120,8 @@ def answers(n: int) -> Iterator[Case]:
     yield Case("a chain without a line feed", chain(b" 4"), CHECK, 0, ACCEPTED, 6)
     yield Case("a chain that is stuck", chain(b" 4 4\n"), CHECK, 1, b"rejected 2 ChainStuck\n", 6)
     yield Case("nines in a chain", [[CIRCLE], long(begun, b"9", n)], CHECK, 1, b"rejected 2 BadLine\n")
-    yield Case("a comment", [[CIRCLE], long(b"c ", b"x", n, b"\n" + REFUTATION)], CHECK, 0, ACCEPTED)
-    yield Case("NULs", [[CIRCLE], n], CHECK, 1, b"rejected 1 NotAnswer\n")
+    yield Case("a comment in an answer", [[CIRCLE], long(b"c ", b"x", n, b"\n" + REFUTATION)], CHECK, 0, ACCEPTED)
+    yield Case("an answer of NULs", [[CIRCLE], n], CHECK, 1, b"rejected 1 NotAnswer\n")
     yield Case("line feeds", [[CIRCLE], long(b"", b"\n", n)], CHECK, 1, b"rejected 1 NotAnswer\n")
     values = long(b"s SATISFIABLE\nv", b" 1", n // 2, b" 0\n")
     yield Case("a model's line", [[CIRCLE], values], CHECK, 1, b"rejected 2 ModelVariables\n", 4)
@@ -167,8 +169,8 @@ def no_files(folder: Path) -> Iterator[Case]:
 class Runs:
     """Runs of the program in a folder, each within so many seconds."""
 
-    def __init__(self, program: str, folder: str, limit: float) -> None:
-        self.program, self.folder, self.limit = program, Path(folder), limit
+    def __init__(self, args: argparse.Namespace, folder: str) -> None:
+        self.args, self.folder = args, Path(folder)
         self.wrong = self.count = self.stopped = 0
         # What a run is said to take is at least what this script took where it began the run.
         self.least = self.run(("print", "/dev/null"), "").peak
@@ -189,8 +191,9 @@ class Runs:
         """A run, whose output goes to the file of this name where there is one."""
         path = out or str(self.folder / "out")
         with open(path, "wb") as written:
-            run = subprocess.Popen([self.program, *words], cwd=self.folder, stdout=written, start_new_session=True)
-            timer = threading.Timer(self.limit, self.stop, [run.pid])
+            line = [self.args.program, *words]
+            run = subprocess.Popen(line, cwd=self.folder, stdout=written, start_new_session=True)
+            timer = threading.Timer(self.args.limit, self.stop, [run.pid])
             timer.start()
             _, status, used = os.wait4(run.pid, 0)
             timer.cancel()
@@ -203,7 +206,7 @@ class Runs:
         self.stopped += 1
         os.killpg(process, signal.SIGKILL)
 
-    def judge(self, case: Case, rows: bool) -> None:
+    def judge(self, case: Case) -> None:
         """Runs a case, and says what is wrong with its end."""
         size = self.put(case)
         if case.fed:
@@ -215,25 +218,31 @@ class Runs:
         self.count += 1
         if not ended or found.peak > most:
             self.wrong += 1
-            print(f"WRONG {row}; due are {case.status} {case.text!r} and at most {most:.0f} kB", flush=True)
-        elif rows:
+            print(f"WRONG {row}; due are {case.status} {case.text!r} and at most {most:.0f} kB")
+            command = flags.again(self.args, *["--large"] * self.args.large, "--only", case.name)
+            print(f"  again: {command}", flush=True)
+        elif self.args.large:
             print(f"{row}, {1_000 * (found.peak - BASE) / size:.1f} times" if size > 1_000_000 else row, flush=True)
 
 
 def main() -> None:
     parser = flags.parser(__doc__, limit=600)
     parser.add_argument("--large", action="store_true", help="texts 50 times as long, and a row for each")
+    parser.add_argument("--only", metavar="NAME", help="the files of this name alone, as a row has it")
     args = parser.parse_args()
     long_answer = 300_000_000 if args.large else 6_000_000
     long_input = min(long_answer, MOST_BYTES - 100)
     with tempfile.TemporaryDirectory() as folder:
-        runs = Runs(args.program, folder, args.limit)
+        runs = Runs(args, folder)
         few = (strange_bytes(), no_files(Path(folder)))
-        for case in itertools.chain(inputs(long_input), counted(long_input), answers(long_answer), *few):
-            runs.judge(case, args.large)
+        every = itertools.chain(inputs(long_input), counted(long_input), answers(long_answer), *few)
+        for case in (it for it in every if args.only in (None, it.name)):
+            runs.judge(case)
             if runs.stopped >= MOST_STOPPED:
                 print(f"so many were stopped after {args.limit:g} s that no further one is tried")
                 break
+    if not runs.count:
+        sys.exit(f"no files have the name {args.only}")
     print(f"{runs.count} hostile files, {runs.wrong} wrong")
     sys.exit(1 if runs.wrong else 0)
 

@@ -1,9 +1,10 @@
 """Tries each script of fuzz/ and bench/ against programs that are wrong: false_programs.py [--program PATH] [SCRIPT..]
 
 Each script has to end with 0 over the true program, and with another status, and without a traceback, over one that
-says the wrong verdict, writes nothing, hangs, crashes, refuses each kind of predicates in turn, or writes more than is
-due. What a script needs (a C compiler, clasp) and isn't there is named, and is an error with --all. tools/strings.py
-has to notice paths that aren't there, and tools/check-python a program that isn't.
+says the wrong verdict, writes nothing, hangs, spins, crashes, refuses each kind of predicates in turn, or writes more
+than is due. What a script needs (a C compiler, clasp) and isn't there is named, and is an error with --all; something
+stands in for picomus, and for the two programs that bench/propagation/run compares. tools/strings.py has to notice
+paths that aren't there, and tools/check-python a program that isn't, that writes nothing or that refuses a kind.
 """
 
 from __future__ import annotations
@@ -48,7 +49,9 @@ for one, other in ((b"model", b"refutation"), (b"s SATISFIABLE", b"s UNSATISFIAB
 end(status, text.replace(b"progress", b"model"))
 """,
     "nothing": "end(0, b'')\n",
-    "a hang": "time.sleep(100000)\n",
+    # (longer than anything here takes, and not for ever, so that one that is left behind ends)
+    "a hang": f"time.sleep({SECONDS + 100})\n",
+    "a spin": f"last = time.monotonic() + {SECONDS + 100}\nwhile time.monotonic() < last:\n    pass\n",
     "a crash": "os.kill(os.getpid(), signal.SIGSEGV)\n",
     "trailing bytes": """
 status, text = true()
@@ -65,20 +68,42 @@ end(*true())
 """
 KINDS = ["reach", "distance_leq", "weighted_distance_leq", "maximum_flow_geq", "mst_weight_leq", "acyclic"]
 
+# What the yardstick of propagation writes of a kind of clauses and so many rounds.
+PROPAGATES = """#!/bin/sh
+echo given "$((100 + $1 * $2))" decisions 1 conflicts 1 full 1 sum 1
+"""
+# What stands in for tools, in front of those that are there. `c++ .. -o PATH ..` makes a copy of that yardstick.
+TOOLS = {
+    "c++": """#!/bin/sh
+while [ "$1" != -o ]; do
+    shift
+done
+cp "${0%c++}yardstick" "$2"
+""",
+    "picomus": "#!/bin/sh\nexit 20\n",
+    "yardstick": PROPAGATES,
+}
+
 
 @dataclass
 class Script:
     """A script's words for a small trial, the kinds of predicates that it meets then, and the tools that it needs."""
 
-    words: list[str]
+    words: list[str]  # where PROGRAM and TRUE stand for paths; the flag `--program PROGRAM` is put behind the first
     kinds: list[str]
     needs: tuple[str, ...] = ()
-    limit: int = 3  # seconds of a run, over the program that hangs
+    limit: int = 3  # seconds of a run, over the programs that hang and spin
+    over: str = "solver"  # or what stands in for the true program: "yardstick"
 
     @property
     def name(self) -> str:
         """Its path."""
         return self.words[0]
+
+    @property
+    def title(self) -> str:
+        """Its words, since a script may be tried in several ways."""
+        return " ".join(self.words)
 
 
 SCRIPTS = [
@@ -92,15 +117,21 @@ SCRIPTS = [
     Script(["fuzz/networks.py", "--rounds", "20"], KINDS, ("networkx",)),
     Script(["fuzz/worked.py"], KINDS),
     Script(["fuzz/faults.py", "--kind", "write"], KINDS, ("cc",)),
+    Script(["fuzz/faults.py", "--kind", "open", "--kind", "read"], KINDS, ("cc",)),
+    Script(["fuzz/faults.py", "--kind", "memory", "--only", "2"], ["reach"], ("cc",)),
     Script(["fuzz/hostile.py"], []),
     Script(["bench/run", "pigeons"], [], ("cc", "wc"), 1),
     Script(["bench/solve.py", "--seeds", "1", "reaching"], ["reach"], (), 1),
+    Script(["bench/solve.py", "--old", "TRUE", "--new", "PROGRAM", "--only", "1", "reaching"], ["reach"], (), 1),
+    Script(["bench/solve.py", "--old", "PROGRAM", "--new", "TRUE", "--only", "1", "reaching"], ["reach"], (), 1),
     Script(["bench/clasp.py", "--seeds", "1", "--limit", "5", "reaching"], ["reach"], ("clasp",), 1),
     Script(["bench/cores.py", "--seeds", "1", "12"], ["reach"], (), 1),
-    Script(["bench/cubes.py", "trial"], ["reach"], (), 1),
+    Script(["bench/cores.py", "--clauses", "--seeds", "1", "20"], [], (), 1),
+    Script(["bench/cubes.py", "--cubes", "4", "--probe", "5", "trial"], ["reach"], (), 1),
     Script(["bench/front.py", "--side", "6", "--clauses", "60", "--terms", "8"], ["weighted_distance_leq"], (), 1),
     Script(["bench/growth.py", "edge"], ["reach"], (), 1),
     Script(["bench/log.py", "--bytes", "1000000", "--numbers", "100"], [], ("wc",)),
+    Script(["bench/propagation/run", "2"], [], (), 1, "yardstick"),
     Script(["bench/team.py", "--seeds", "1", "8"], ["reach"], (), 1),
 ]
 
@@ -112,27 +143,62 @@ class Trial:
     what: str
     words: list[str]
     passes: bool
+    says: str = ""  # what it has to say where it doesn't; else it says something, and that without a traceback
+
+    @property
+    def script(self) -> str:
+        """The script's path."""
+        return self.what.split(":")[0].split()[0]
 
 
-def written(folder: Path, name: str, text: str, true: str) -> str:
-    """The path of a wrong program."""
-    path = folder / name.replace(" ", "_")
-    path.write_text(BEGINNING.format(python=sys.executable, true=true) + text)
+@dataclass
+class Programs:
+    """The path of a true program, and those of wrong ones by what is wrong with them."""
+
+    true: str
+    wrong: dict[str, str]
+
+
+def written(path: Path, text: str) -> str:
+    """The path of a script with this text."""
+    path.write_text(text)
     path.chmod(0o755)
     return str(path)
 
 
-def trials(script: Script, true: str, wrong: dict[str, str]) -> Iterator[Trial]:
+def programs(folder: Path, true: str) -> Programs:
+    """The wrong programs over a true one, in a folder of their own."""
+    folder.mkdir()
+    texts = dict(WRONG)
+    for kind in KINDS:
+        texts[f"without {kind}"] = REFUSING.replace("{word!r}", repr(kind.encode()))
+    begun = BEGINNING.format(python=sys.executable, true=true)
+    return Programs(true, {it: written(folder / it.replace(" ", "_"), begun + text) for it, text in texts.items()})
+
+
+def line(script: Script, program: str, true: str, tools: Path) -> list[str]:
+    """The words of a script over a program."""
+    named = [{"PROGRAM": program, "TRUE": true}.get(word, word) for word in script.words[1:]]
+    path = f"PATH={tools}:{os.environ['PATH']}"
+    return ["env", path, sys.executable, script.name, "--program", program, *named]
+
+
+def trials(script: Script, over: Programs, tools: Path) -> Iterator[Trial]:
     """The runs of a script."""
-
-    def words(program: str) -> list[str]:
-        return [sys.executable, script.name, "--program", program, *script.words[1:]]
-
-    yield Trial(f"{script.name}: the true program", words(true), True)
-    for name, program in wrong.items():
-        limit = ["--limit", str(script.limit)] if name == "a hang" else []
+    yield Trial(f"{script.title}: the true program", line(script, over.true, over.true, tools), True)
+    for name, program in over.wrong.items():
+        limit = ["--limit", str(script.limit)] if name in ("a hang", "a spin") else []
         if name in WRONG or name.removeprefix("without ") in script.kinds:
-            yield Trial(f"{script.name}: {name}", words(program) + limit, False)
+            yield Trial(f"{script.title}: {name}", line(script, program, over.true, tools) + limit, False)
+
+
+def checks(over: Programs) -> Iterator[Trial]:
+    """Runs of a part of tools/check-python, which has no limit, and whose tests that fail show where by tracebacks."""
+    said = "check-python: failed"
+    for name, program in {"the true program": over.true, **over.wrong}.items():
+        words = ["env", f"GULFEZO={program}", str(TOP / "tools" / "check-python"), "test_solving.Solving"]
+        if name in ("the true program", "nothing", "without acyclic"):
+            yield Trial(f"tools/check-python: {name}", words, program == over.true, said)
 
 
 def without_program(folder: Path) -> Iterator[Trial]:
@@ -147,8 +213,8 @@ def without_program(folder: Path) -> Iterator[Trial]:
     yield Trial("tools/tests.py: an empty folder", [sys.executable, tests, str(empty)], False)
     check = ["env", f"GULFEZO={absent}", str(TOP / "tools" / "check-python")]
     yield Trial("tools/check-python: an absent program", check, False)
-    for script in SCRIPTS:
-        yield Trial(f"{script.name}: an absent program", [sys.executable, script.name, "--program", absent], False)
+    for name in dict.fromkeys(script.name for script in SCRIPTS):
+        yield Trial(f"{name}: an absent program", [sys.executable, name, "--program", absent], False)
 
 
 # The sessions of the scripts that run now, which end with this one.
@@ -180,6 +246,8 @@ def fault(trial: Trial) -> str | None:
         return None if child.returncode == 0 else f"it ended with {child.returncode}: {text[-2000:]}"
     if child.returncode == 0:
         return f"it ended with 0: {text[-500:]}"
+    if trial.says:
+        return None if trial.says in text else f"it doesn't say {trial.says!r}: {text[-500:]}"
     return f"it fell over: {text[-500:]}" if "Traceback" in text or not text.strip() else None
 
 
@@ -199,6 +267,20 @@ def judged(tried: list[Trial], rows: bool) -> int:
     return wrong
 
 
+def drawn_up(folder: Path, true: str, scripts: list[Script]) -> Iterator[Trial]:
+    """The trials of these scripts; what they run is written to the folder."""
+    tools = folder / "tools"
+    tools.mkdir()
+    for tool, text in TOOLS.items():
+        written(tools / tool, text)
+    over = {"solver": programs(folder / "solver", true)}
+    over["yardstick"] = programs(folder / "yardstick", str(tools / "yardstick"))
+    for script in scripts:
+        yield from trials(script, over[script.over], tools)
+    yield from checks(over["solver"])
+    yield from without_program(folder)
+
+
 def main() -> None:
     parser = argparse.ArgumentParser(description=__doc__, formatter_class=argparse.RawDescriptionHelpFormatter)
     parser.add_argument("--program", metavar="PATH", default=str(BUILT), help="the true program (%(default)s)")
@@ -206,23 +288,19 @@ def main() -> None:
     parser.add_argument("--rows", action="store_true", help="print a row for each run")
     parser.add_argument("scripts", metavar="SCRIPT", nargs="*", help="these alone, as fuzz/run.py")
     args = parser.parse_args()
-    true = os.path.abspath(args.program)
     signal.signal(signal.SIGTERM, stop)
     signal.signal(signal.SIGINT, stop)
     known = [script for script in SCRIPTS if not args.scripts or script.name in args.scripts]
-    lacking = {script.name: [it for it in script.needs if not is_there(it)] for script in known}
-    with tempfile.TemporaryDirectory() as name:
-        folder = Path(name)
-        wrong = {it: written(folder, it, text, true) for it, text in WRONG.items()}
-        for kind in KINDS:
-            text = REFUSING.replace("{word!r}", repr(kind.encode()))
-            wrong[f"without {kind}"] = written(folder, f"without {kind}", text, true)
-        tried = [it for script in known if not lacking[script.name] for it in trials(script, true, wrong)]
-        tried += [] if args.scripts else list(without_program(folder))
+    lacking = {script.title: [it for it in script.needs if not is_there(it)] for script in known}
+    with tempfile.TemporaryDirectory() as folder:
+        ready = [script for script in known if not lacking[script.title]]
+        every = drawn_up(Path(folder), os.path.abspath(args.program), ready)
+        tried = [trial for trial in every if not args.scripts or trial.script in args.scripts]
         count = judged(tried, args.rows)
-    left_out = [f"{script} (no {', '.join(tools)})" for script, tools in lacking.items() if tools]
+    left_out = [f"{title} (no {', '.join(tools)})" for title, tools in lacking.items() if tools]
     more = f"; not tried: {', '.join(left_out)}" if left_out else ""
-    print(f"{len(tried)} runs of {len(known) - len(left_out)} scripts, {count} not as they should be{more}")
+    scripts = {trial.script for trial in tried}
+    print(f"{len(tried)} runs of {len(scripts)} scripts, {count} not as they should be{more}")
     sys.exit(1 if count or not tried or (args.all and left_out) else 0)
 
 

@@ -1,8 +1,8 @@
 """Runs the tests of a folder, each with a line: tests.py FOLDER [MODULE]
 
 As `python3 -m unittest discover -v`, but a folder without a test is an error, and a last line counts what was skipped,
-and names why. The status is 0 where each test passed or was skipped; with CHECK_ALL=1, where each passed, but for those
-that want what no package of Debian 12 has.
+and names why. Tests that want what no package of Debian 12 has are named in lines before it, and not counted. The
+status is 0 where each test passed or was skipped; with CHECK_ALL=1, where each but those passed.
 """
 
 from __future__ import annotations
@@ -11,8 +11,8 @@ import os
 import sys
 import unittest
 
-# How the reasons of such tests begin.
-NOT_TO_BE_HAD = ("neither lrat-check nor drat-trim",)
+# How the reasons of such tests end.
+NOT_TO_BE_HAD = "(no package of Debian has it)"
 
 
 def main(folder: str, module: str = "") -> int:
@@ -27,9 +27,12 @@ def main(folder: str, module: str = "") -> int:
         print(f"no test was found in {folder}")
         return 1
     result = unittest.TextTestRunner(verbosity=2).run(suite)
-    skipped = [why for _, why in result.skipped if not why.startswith(NOT_TO_BE_HAD)]
-    reasons = "".join(f"; {why}" for why in sorted({*skipped}))
-    print(f"{result.testsRun} tests of {folder}, skipped: {len(skipped)}{reasons}")
+    reasons = [why for _, why in result.skipped]
+    skipped = [why for why in reasons if not why.endswith(NOT_TO_BE_HAD)]
+    for why in sorted({*reasons} - {*skipped}):
+        print(f"not to be had: {why.removesuffix(NOT_TO_BE_HAD).strip()}")
+    named = "".join(f"; {why}" for why in sorted({*skipped}))
+    print(f"{result.testsRun} tests of {folder}, skipped: {len(skipped)}{named}")
     return int(not result.wasSuccessful() or (bool(skipped) and os.environ.get("CHECK_ALL") == "1"))
 
 

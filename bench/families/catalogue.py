@@ -11,8 +11,15 @@ from families import boards, clauses, grids, large, orders, precedence, sites
 from families.encoding import Encoding
 
 Size = TypeVar("Size")
-# The label of an input, and what makes it.
-Input = tuple[str, Callable[[], Encoding]]
+
+
+@dataclass
+class Input:
+    """An input of a family: its size and its seed in words, its seed, and what makes it."""
+
+    label: str
+    seed: int
+    make: Callable[[], Encoding]
 
 
 @dataclass
@@ -29,12 +36,12 @@ class Family(Generic[Size]):
         """What the inputs are about, in one line."""
         return (self.make.__doc__ or "").splitlines()[0]
 
-    def inputs(self, seeds: int, large: bool) -> Iterator[Input]:
-        """The inputs of each size, so many seeds at most."""
+    def inputs(self, seeds: range, large: bool) -> Iterator[Input]:
+        """The inputs of each size, of those of its seeds that are among these."""
         for size, most in self.large if large else self.sizes:
-            for seed in range(1, min(seeds, most) + 1):
+            for seed in (it for it in range(1, most + 1) if it in seeds):
                 shown = "x".join(map(str, size)) if isinstance(size, tuple) else str(size)
-                yield f"{shown}, seed {seed}", partial(self.make, size, seed)
+                yield Input(f"{shown}, seed {seed}", seed, partial(self.make, size, seed))
 
 
 FAMILIES: dict[str, Family[Any]] = {

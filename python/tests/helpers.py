@@ -4,9 +4,8 @@ from __future__ import annotations
 
 import itertools
 import os
-import subprocess
+import signal
 import sys
-import tempfile
 import unittest
 from collections.abc import Iterator
 from pathlib import Path
@@ -15,6 +14,8 @@ from gulfezo import Problem
 
 REPOSITORY = Path(__file__).resolve().parents[2]
 BUILT = REPOSITORY / "crates" / "mono_cmd" / "out" / "mono_cmd"
+# What the program lacks, by the names of `require`: "acyclic,wide weights".
+WITHOUT = {what.strip() for what in os.environ.get("GULFEZO_WITHOUT", "").split(",")}
 
 
 def missing(what: str) -> Exception:
@@ -28,6 +29,12 @@ def program() -> str:
     if not os.access(found, os.X_OK):
         raise missing("the program isn't built (rt run in crates/mono_cmd), and GULFEZO names none")
     return found
+
+
+def heeds_signals() -> None:
+    """A process can't trap a signal that it was started to ignore, as a job in the background of a script is."""
+    for number in (signal.SIGINT, signal.SIGHUP):
+        signal.signal(number, signal.SIG_DFL)
 
 
 def stand_in(
@@ -47,21 +54,17 @@ def stand_in(
     return str(path)
 
 
-def reads(program: str, line: str) -> bool:
-    """Whether this version of the program reads such a line about a graph of one node."""
-    with tempfile.TemporaryDirectory() as folder:
-        file = Path(folder, "f")
-        file.write_text(f"digraph int 1 0 0\n{line}\n")
-        return not subprocess.run([program, "print", str(file)], stdout=subprocess.DEVNULL, check=False).returncode
+def require(*wanted: str) -> None:
+    """The test wants these kinds of lines and forms of the program. It is skipped where GULFEZO_WITHOUT names one.
+
+    What isn't named there has to be there, as with `--without` of the scripts of fuzz/.
+    """
+    for what in WITHOUT.intersection(wanted):
+        raise unittest.SkipTest(f"GULFEZO_WITHOUT names {what}")
 
 
-def knows_acyclic(program: str) -> bool:
-    """Whether the program reads the line `acyclic`, which its first versions refuse."""
-    return reads(program, "acyclic 0 1")
-
-
-def every_form(with_cycles: bool = True) -> Problem:
-    """A problem with each form of line, but for that on cycles where it isn't wanted."""
+def every_form() -> Problem:
+    """A problem with each form of line."""
     problem = Problem()
     x = problem.add_variable("x, a variable")
     graph = problem.add_graph("a graph")
@@ -77,8 +80,7 @@ def every_form(with_cycles: bool = True) -> Problem:
     graph.maximum_flow_gt(0, 1, 6)
     graph.mst_weight_leq(7)
     graph.mst_weight_lt(8)
-    if with_cycles:
-        graph.acyclic()
+    graph.acyclic()
     problem.add_clause(x, ~x)
     problem.add_clause()
     return problem

@@ -1,12 +1,11 @@
 """Solving under assumptions, and cores: with the program, and with programs that stand in for a faulty one."""
 
 import shutil
-import subprocess
 import tempfile
 import unittest
 
 from gulfezo import BudgetSpent, Core, Model, Problem, Refutation, RejectedAnswer, UnexpectedStatus
-from helpers import program, stand_in
+from helpers import program, require, stand_in
 
 
 def square() -> tuple[Problem, list]:
@@ -21,9 +20,7 @@ def square() -> tuple[Problem, list]:
 class WithTheProgram(unittest.TestCase):
     def setUp(self):
         self.program = program()
-        said = subprocess.run([self.program], stdout=subprocess.PIPE, text=True, check=False).stdout
-        if "check-with" not in said:
-            self.skipTest("this version of the program has no `core` and no `check-with`")
+        require("core")
 
     def test_assumptions_are_of_one_answer_alone(self):
         problem, absent = square()

@@ -223,15 +223,21 @@ class Solved(unittest.TestCase):
         self.assertEqual(acl2.accepted(wrong), [False] * len(wrong))
 
     def test_checkers_of_drat_trim(self):
-        """Where they are on the PATH; Debian has neither, and the checkers of this test judge the same proofs."""
-        checkers = [name for name in ("lrat-check", "drat-trim") if shutil.which(name)]
-        for checker, (name, problem) in itertools.product(checkers, PROBLEMS.items()):
-            with self.subTest(checker + ", " + name):
-                words = ["--drat"] if checker == "drat-trim" else []
-                cnf, proof = self.converted(problem, *words)
-                run = subprocess.run([checker, str(cnf), str(proof)], capture_output=True, text=True, check=False)
-                self.assertRegex(run.stdout, r"VERIFIED")
-                self.assertNotIn("NOT VERIFIED", run.stdout)
+        """Where they are on the PATH; the checkers of this test judge the same proofs."""
+        for checker in ("lrat-check", "drat-trim"):
+            with self.subTest(checker):
+                if shutil.which(checker) is None:
+                    self.skipTest(f"{checker} isn't installed (no package of Debian has it)")
+                for name, problem in PROBLEMS.items():
+                    with self.subTest(name):
+                        self.require_verified(checker, problem)
+
+    def require_verified(self, checker: str, problem: Problem) -> None:
+        """That checker accepts the refutation."""
+        cnf, proof = self.converted(problem, *["--drat"] * (checker == "drat-trim"))
+        run = subprocess.run([checker, str(cnf), str(proof)], capture_output=True, text=True, check=False)
+        self.assertRegex(run.stdout, r"VERIFIED")
+        self.assertNotIn("NOT VERIFIED", run.stdout)
 
 
 if __name__ == "__main__":

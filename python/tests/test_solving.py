@@ -26,7 +26,7 @@ from gulfezo import (
     parse_problem,
     reasons,
 )
-from helpers import REPOSITORY, every_form, knows_acyclic, program, reads, stand_in
+from helpers import REPOSITORY, every_form, heeds_signals, program, require, stand_in
 
 
 def one_variable() -> Problem:
@@ -150,7 +150,9 @@ class StandIns(unittest.TestCase):
                 environment = {**os.environ, "PYTHONPATH": str(REPOSITORY / "python"), "TMPDIR": folder}
                 pid = Path(folder, "pid")
                 words = [sys.executable, "-c", code]
-                with subprocess.Popen(words, env=environment, stderr=subprocess.DEVNULL) as child:
+                with subprocess.Popen(
+                    words, env=environment, stderr=subprocess.DEVNULL, preexec_fn=heeds_signals
+                ) as child:
                     for _ in range(200):
                         if pid.is_file() and pid.read_text():
                             break
@@ -282,7 +284,8 @@ class Solving(unittest.TestCase):
 
     def test_the_program_reads_what_is_written(self):
         """Its printed form has the same edges, predicates and clauses, bounds in the form 'at most' or 'at least'."""
-        problem = every_form(with_cycles=knows_acyclic(self.program))
+        require("acyclic")
+        problem = every_form()
         with tempfile.TemporaryDirectory() as folder:
             problem.write(Path(folder, "f"))
             run = subprocess.run([self.program, "print", f"{folder}/f"], capture_output=True, text=True, check=True)
@@ -296,8 +299,7 @@ class Solving(unittest.TestCase):
         self.assertEqual([meaning(p) for p in found.predicates], [meaning(p) for p in problem.predicates])
 
     def test_cycles(self):
-        if not knows_acyclic(self.program):
-            self.skipTest("this version of the program doesn't know `acyclic`")
+        require("acyclic")
         problem = Problem()
         graph = problem.add_graph()
         a, b, c = graph.add_nodes(3)
@@ -317,9 +319,8 @@ class Solving(unittest.TestCase):
 
     def test_wide_weights(self):
         """Sums beyond 2^64: each kind that has weights, at its bound and one off it."""
+        require("wide weights")
         most = 2**64 - 1
-        if not reads(self.program, f"edge 0 0 0 1 {most}"):
-            self.skipTest("this version of the program has weights up to 2^32 - 1")
         problem = Problem()
         graph = problem.add_graph(nodes=3)
         first, second = graph.add_edge(0, 1, most), graph.add_edge(1, 2, most)

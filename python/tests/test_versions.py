@@ -1,12 +1,11 @@
 """Answers of version 2, whose chains count backwards, and migrating from one version to the other."""
 
 import shutil
-import subprocess
 import tempfile
 import unittest
 
 from gulfezo import FormatError, Model, RejectedAnswer, Step, UnexpectedStatus, lrat, parse_answer, parse_problem
-from helpers import program, stand_in
+from helpers import program, require, stand_in
 
 PATH = "p gnf 3 3\ndigraph int 3 2 0\nedge 0 0 1 1\nedge 0 1 2 2\nreach 0 0 2 3\n1 0\n2 0\n-3 0\n"
 CLAUSES = "1 2 0\n-1 2 0\n1 -2 0\n-1 -2 0\n"
@@ -61,11 +60,8 @@ class Versions(unittest.TestCase):
 
 class Migrating(unittest.TestCase):
     def require_program(self) -> str:
-        found = program()
-        said = subprocess.run([found], stdout=subprocess.PIPE, text=True, check=False).stdout
-        if "migrate" not in said:
-            self.skipTest("this version of the program has no `migrate`")
-        return found
+        require("migrate")
+        return program()
 
     def test_there_and_back(self):
         found = self.require_program()

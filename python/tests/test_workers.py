@@ -1,12 +1,11 @@
-"""Workers that share what they learn: with the program where it has the form, and by its words alone."""
+"""Workers that share what they learn: with the program, and by its words alone."""
 
-import subprocess
 import tempfile
 import unittest
 from pathlib import Path
 
 from gulfezo import BudgetSpent, Problem, RejectedAnswer
-from helpers import program, stand_in
+from helpers import program, require, stand_in
 
 
 class Workers(unittest.TestCase):
@@ -31,18 +30,17 @@ class Workers(unittest.TestCase):
                 problem.solve(**named)
 
     def test_the_program_itself(self):
-        said = subprocess.run([program()], stdout=subprocess.PIPE, text=True, check=False).stdout
-        if "team FILE" not in said:
-            self.skipTest("this program has no form `team`")
+        require("team")
+        path = program()
         problem = Problem()
         first, second, third = problem.add_variables(3)
         problem.exactly_one([first, second, third])
         for assumptions in ([], [~first, ~second]):
-            model = problem.solve(workers=4, rounds=2, progress=False, assumptions=assumptions)
+            model = problem.solve(program=path, workers=4, rounds=2, progress=False, assumptions=assumptions)
             self.assertEqual(sum(model[literal] for literal in (first, second, third)), 1)
         problem.add_clause(~first)
         problem.require(~second, ~third)
-        refutation = problem.solve(workers=4, rounds=2, progress=False)
+        refutation = problem.solve(program=path, workers=4, rounds=2, progress=False)
         self.assertFalse(refutation)
         self.assertEqual(refutation.steps[-1].clause, ())
 

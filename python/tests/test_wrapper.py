@@ -9,7 +9,7 @@ import time
 import unittest
 from pathlib import Path
 
-from helpers import REPOSITORY
+from helpers import REPOSITORY, heeds_signals
 
 RT = """#!/usr/bin/env bash
 echo $$ >"$(dirname "$0")/../rt.pid"
@@ -51,7 +51,8 @@ class Wrapper(unittest.TestCase):
         path = os.environ["PATH"]
         environment = {**os.environ, "PATH": f"{self.root / 'bin'}:{path}", **named}
         pipes = {"stdout": subprocess.PIPE, "stderr": subprocess.PIPE, "text": True}
-        return subprocess.Popen([str(self.root / "gulfezo"), *words], env=environment, **pipes)
+        line = [str(self.root / "gulfezo"), *words]
+        return subprocess.Popen(line, env=environment, preexec_fn=heeds_signals, **pipes)
 
     def run_it(self, *words: str, **named: str) -> tuple[int, str, str]:
         """The status and what is written."""
@@ -73,7 +74,9 @@ class Wrapper(unittest.TestCase):
             told.append(said)
         self.assertEqual("".join(told).count("this can take many minutes"), 1)
         self.assertEqual("".join(told).count("another run is building the program"), 1)
-        self.assertRegex("".join(told), r"mono_base is proved and built in \d+ s \(1 of 2 crates, 0.\d min; about \d+ min are left\)")
+        done = r"mono_base is proved and built in \d+ s \(1 of 2 crates, 0.\d min; about \d+ min are left\)\n"
+        self.assertRegex("".join(told), done)
+        self.assertRegex("".join(told), r"mono_cmd is proved and built in \d+ s \(2 of 2 crates, 0.\d min\)\n")
         self.assertEqual(self.run_it("check", "c"), (0, "ran check c\n", ""))
 
     def test_newer_sources_are_said_and_built_when_asked(self):
@@ -107,15 +110,33 @@ class Wrapper(unittest.TestCase):
         self.assertEqual(self.run_it("check", "b", PATH=str(alone))[:2], (0, "ran check b\n"))
 
     def test_a_build_ends_with_it(self):
-        child = self.start("check", "a", RT_SLEEP="30")
+        for number, code in ((signal.SIGTERM, 143), (signal.SIGHUP, 143), (signal.SIGINT, 130)):
+            with self.subTest(number):
+                self.end_a_build(number, code)
+                self.assertFalse((self.root / "crates" / "mono_cmd" / "out" / "mono_cmd").exists())
+
+    def test_an_earlier_program_stays_where_a_build_is_ended(self):
+        self.run_it("build")
+        self.make_older()
+        for number, code in ((signal.SIGTERM, 143), (signal.SIGINT, 130)):
+            with self.subTest(number):
+                self.end_a_build(number, code)
+                ended, out, told = self.run_it("check", "a")
+                self.assertEqual((ended, out), (0, "ran check a\n"))
+                self.assertIn("'./gulfezo build' makes it anew", told)
+
+    def end_a_build(self, number: int, code: int) -> None:
+        """A build that is ended by this signal ends with this status, and with the prover that it began."""
         pid = self.root / "rt.pid"
+        pid.unlink(missing_ok=True)
+        child = self.start("build", RT_SLEEP="30")
         for _ in range(200):
             if pid.is_file() and pid.read_text().strip():
                 break
             time.sleep(0.05)
-        child.send_signal(signal.SIGTERM)
+        child.send_signal(number)
         child.communicate(timeout=20)
-        self.assertEqual(child.returncode, 143)
+        self.assertEqual(child.returncode, code)
         for _ in range(100):
             state = subprocess.run(["ps", "-o", "stat=", "-p", pid.read_text().strip()], capture_output=True, text=True)
             if state.stdout.strip()[:1] in ("", "Z"):
