@@ -19,39 +19,44 @@ from pathlib import Path
 
 TOP = Path(__file__).resolve().parents[1]
 PROGRAM = "mono_cmd"
-# Processor seconds of each crate's proof (docs/PROVING.md has the five dearest): they order what is ready, and tell
-# what is left.
+# Processor seconds of each crate's proof, some half of those that docs/PROVING.md has: they order what is ready, and
+# tell what is left.
 COSTS = {
-    "mono_cmd": 390,
-    "mono_theory": 329,
-    "mono_check": 215,
-    "mono_search": 162,
-    "mono_kinds": 152,
-    "mono_dynamic": 150,
-    "mono_steps": 138,
-    "mono_flows": 129,
-    "mono_portfolio": 128,
-    "mono_distance": 116,
-    "mono_reach": 115,
-    "mono_flow": 110,
-    "mono_answer": 104,
-    "mono_trees": 102,
-    "mono_problem": 100,
-    "mono_gnf": 91,
-    "mono_paths": 90,
-    "mono_core": 85,
-    "mono_clauses": 82,
-    "mono_learn": 79,
-    "mono_best": 70,
-    "mono_cycles": 67,
-    "mono_acyclic": 57,
-    "mono_tree": 34,
-    "mono_gen": 32,
+    "mono_forms": 364,
+    "mono_theory": 328,
+    "mono_kinds": 227,
+    "mono_check": 217,
+    "mono_search": 195,
+    "mono_dynamic": 188,
+    "mono_steps": 165,
+    "mono_distance": 159,
+    "mono_flows": 151,
+    "mono_portfolio": 143,
+    "mono_reach": 135,
+    "mono_flow": 124,
+    "mono_best": 110,
+    "mono_answer": 108,
+    "mono_cmd": 100,
+    "mono_gnf": 100,
+    "mono_trees": 97,
+    "mono_core": 96,
+    "mono_acyclic": 93,
+    "mono_learn": 89,
+    "mono_base": 88,
+    "mono_io": 88,
+    "mono_problem": 88,
+    "mono_paths": 85,
+    "mono_clauses": 79,
+    "mono_cycles": 75,
+    "mono_mend": 75,
+    "mono_trail": 71,
+    "mono_graph": 65,
+    "mono_text": 56,
 }
 LESS = 45  # of each other crate
 GB = 10**9
 # Memory that a proof is given room for: of the crates that cost most, and of the others.
-MOST, USUAL, DEAR = 6 * GB, 4 * GB, 150
+MOST, USUAL, DEAR = 6 * GB, 4 * GB, 190
 MOST_JOBS = 4
 
 

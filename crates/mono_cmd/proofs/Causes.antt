@@ -3,16 +3,16 @@ use Rattle.std.proofs.Common.{◌≡◌, ◌⊎◌, ◌+◌, ℕ, List, Option, 
 use Rattle.mono_base.specs.declared.limits.TheConstants.{MAX_INPUT_BYTES, MAX_ANSWER_BYTES}
 use Rattle.mono_io.specs.Faults.{counted}
 use Rattle.mono_io.specs.Shelf.{ShelfView}
-use Rattle.mono_cmd.specs.declared.command.TheConstants.{MAX_MIGRATED_BYTES}
-use Rattle.mono_cmd.specs.declared.command.Command.{Command}
-use Rattle.mono_cmd.specs.declared.status.Status.{Status}
-use Rattle.mono_cmd.specs.declared.status.Status.TheVariants as status
-use Rattle.mono_cmd.specs.declared.ending.Ending.{Ending}
-use Rattle.mono_cmd.specs.declared.ending.Ending.TheVariants as ending
-use Rattle.mono_cmd.specs.Runs.{ComesTo, Ends, Writes}
-use Rattle.mono_cmd.proofs.Stages.{Stage, unread, at_file, behind_file, at_answer, behind_answer, stage_of}
-use Rattle.mono_cmd.proofs.Replies.{ending_by}
-use Rattle.mono_cmd.proofs.PlaceByEnding.{past_limit}
+use Rattle.mono_forms.specs.declared.command.TheConstants.{MAX_MIGRATED_BYTES}
+use Rattle.mono_forms.specs.declared.command.Command.{Command}
+use Rattle.mono_forms.specs.declared.status.Status.{Status}
+use Rattle.mono_forms.specs.declared.status.Status.TheVariants as status
+use Rattle.mono_forms.specs.declared.ending.Ending.{Ending}
+use Rattle.mono_forms.specs.declared.ending.Ending.TheVariants as ending
+use Rattle.mono_forms.specs.Runs.{ComesTo, Ends, Writes}
+use Rattle.mono_forms.proofs.Stages.{Stage, unread, at_file, behind_file, at_answer, behind_answer, stage_of}
+use Rattle.mono_forms.proofs.Replies.{ending_by}
+use Rattle.mono_forms.proofs.PlaceByEnding.{past_limit}
 
 -- one call failed
 one_failed : (found : Option Command) (old new : ShelfView) → Stage found old new ending.ReadFault → new.faults ≡ counted old.faults

@@ -2,15 +2,15 @@
 use Rattle.std.proofs.Common.{◌≡◌, ◌⊎◌, ℕ, List, Option, None, ap, arith, refl, subst, sym, ◌∙◌, inl, inr}
 use Rattle.mono_io.specs.Faults.{counted}
 use Rattle.mono_io.specs.Shelf.{ShelfView}
-use Rattle.mono_cmd.specs.declared.status.Status.{Status}
-use Rattle.mono_cmd.specs.declared.status.Status.TheVariants as status
-use Rattle.mono_cmd.specs.declared.ending.Ending.{Ending}
-use Rattle.mono_cmd.specs.Endings.{status_of}
+use Rattle.mono_forms.specs.declared.status.Status.{Status}
+use Rattle.mono_forms.specs.declared.status.Status.TheVariants as status
+use Rattle.mono_forms.specs.declared.ending.Ending.{Ending}
+use Rattle.mono_forms.specs.Endings.{status_of}
 use Rattle.mono_cmd.specs.Machines.{HasRun, Machine}
-use Rattle.mono_cmd.specs.Runs.{ComesTo, Ends, IsOutOfMemory, Writes}
-use Rattle.mono_cmd.specs.Statuses.{code_of}
-use Rattle.mono_cmd.specs.declared.command.Command.{Command}
-use Rattle.mono_cmd.proofs.Stages.{ends_cases}
+use Rattle.mono_forms.specs.Runs.{ComesTo, Ends, IsOutOfMemory, Writes}
+use Rattle.mono_forms.specs.Statuses.{code_of}
+use Rattle.mono_forms.specs.declared.command.Command.{Command}
+use Rattle.mono_forms.proofs.Stages.{ends_cases}
 
 -- the one status of this number
 refused_alone : (s : Status) → 3 ≡ code_of s → s ≡ status.Refused

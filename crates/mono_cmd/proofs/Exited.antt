@@ -4,13 +4,13 @@ use Rattle.std.specs.Prelude.{option_and_then}
 use Rattle.mono_io.specs.Faults.{counted}
 use Rattle.mono_io.specs.FileShelf.{FileState, shown_by}
 use Rattle.mono_io.specs.StdSink.{WriterState}
-use Rattle.mono_cmd.specs.declared.command.Command.{Command}
-use Rattle.mono_cmd.specs.declared.status.Status.{Status}
-use Rattle.mono_cmd.specs.declared.status.Status.TheVariants.{Memory, WriteFault}
-use Rattle.mono_cmd.specs.Commands.{command_of}
+use Rattle.mono_forms.specs.declared.command.Command.{Command}
+use Rattle.mono_forms.specs.declared.status.Status.{Status}
+use Rattle.mono_forms.specs.declared.status.Status.TheVariants.{Memory, WriteFault}
+use Rattle.mono_forms.specs.Commands.{command_of}
 use Rattle.mono_cmd.specs.Machines.{Machine, HasExited}
 use Rattle.mono_cmd.specs.Promises.{IsRun}
-use Rattle.mono_cmd.specs.Statuses.{code_of}
+use Rattle.mono_forms.specs.Statuses.{code_of}
 
 pub exited_by_run : (told : Option (Option (List (List ℕ)))) (found : Option Command) (old new : Machine) (s : Status) (code : ℕ)
     → IfSome told (λ words. found ≡ option_and_then command_of words) → code ≡ code_of s

@@ -7,15 +7,15 @@ use Rattle.mono_check.specs.declared.verdict.Verdict.{Verdict}
 use Rattle.mono_check.specs.declared.verdict.Verdict.TheVariants as verdict
 use Rattle.mono_check.specs.Verdicts.{IsVerdict}
 use Rattle.mono_io.specs.Shelf.{ShelfView}
-use Rattle.mono_cmd.specs.declared.command.Command.{Command}
-use Rattle.mono_cmd.specs.declared.command.Command.TheVariants as command
-use Rattle.mono_cmd.specs.declared.status.Status.{Status}
-use Rattle.mono_cmd.specs.declared.status.Status.TheVariants as status
-use Rattle.mono_cmd.specs.declared.ending.Ending.{Ending}
-use Rattle.mono_cmd.specs.declared.ending.Ending.TheVariants as ending
-use Rattle.mono_cmd.specs.Endings.{status_of, verdict_status, verdict_text}
-use Rattle.mono_cmd.specs.Runs.{ComesTo, IsJudged, IsJudgmentBy, Judges, JudgesWith, Runs, WithProblem, WithText}
-use Rattle.mono_cmd.proofs.Replies.{end_behind_both, is_reply, not_both, said}
+use Rattle.mono_forms.specs.declared.command.Command.{Command}
+use Rattle.mono_forms.specs.declared.command.Command.TheVariants as command
+use Rattle.mono_forms.specs.declared.status.Status.{Status}
+use Rattle.mono_forms.specs.declared.status.Status.TheVariants as status
+use Rattle.mono_forms.specs.declared.ending.Ending.{Ending}
+use Rattle.mono_forms.specs.declared.ending.Ending.TheVariants as ending
+use Rattle.mono_forms.specs.Endings.{status_of, verdict_status, verdict_text}
+use Rattle.mono_forms.specs.Runs.{ComesTo, IsJudged, IsJudgmentBy, Judges, JudgesWith, Runs, WithProblem, WithText}
+use Rattle.mono_forms.proofs.Replies.{end_behind_both, is_reply, not_both, said}
 
 judged_as : (p : Instance) (given : List ℕ) (e : Ending) → IsJudged p given e → (v : Verdict) × (e ≡ ending.Judged v) × IsVerdict p given v
 judged_as p given (ending.Judged v) h = (v, refl, h)

@@ -10,16 +10,16 @@ use Rattle.mono_check.specs.Migrations.{MigratesTo}
 use Rattle.mono_check.specs.Verdicts.{IsVerdict}
 use Rattle.mono_check.proofs.ThereAndBack.{migrated_verdict}
 use Rattle.mono_io.specs.Shelf.{ShelfView}
-use Rattle.mono_cmd.specs.declared.command.Command.{Command}
-use Rattle.mono_cmd.specs.declared.command.Command.TheVariants as command
-use Rattle.mono_cmd.specs.declared.command.TheConstants.{MAX_MIGRATED_BYTES}
-use Rattle.mono_cmd.specs.declared.status.Status.{Status}
-use Rattle.mono_cmd.specs.declared.status.Status.TheVariants as status
-use Rattle.mono_cmd.specs.declared.ending.Ending.{Ending}
-use Rattle.mono_cmd.specs.declared.ending.Ending.TheVariants as ending
-use Rattle.mono_cmd.specs.Endings.{status_of, text_of}
-use Rattle.mono_cmd.specs.Runs.{ComesTo, Runs, IsMigration, Migrates}
-use Rattle.mono_cmd.proofs.Replies.{is_reply, end_behind_both, appended, shown}
+use Rattle.mono_forms.specs.declared.command.Command.{Command}
+use Rattle.mono_forms.specs.declared.command.Command.TheVariants as command
+use Rattle.mono_forms.specs.declared.command.TheConstants.{MAX_MIGRATED_BYTES}
+use Rattle.mono_forms.specs.declared.status.Status.{Status}
+use Rattle.mono_forms.specs.declared.status.Status.TheVariants as status
+use Rattle.mono_forms.specs.declared.ending.Ending.{Ending}
+use Rattle.mono_forms.specs.declared.ending.Ending.TheVariants as ending
+use Rattle.mono_forms.specs.Endings.{status_of, text_of}
+use Rattle.mono_forms.specs.Runs.{ComesTo, Runs, IsMigration, Migrates}
+use Rattle.mono_forms.proofs.Replies.{is_reply, end_behind_both, appended, shown}
 
 -- the text is what ANSWER is migrated to, and has its verdict
 abbrev IsAccepted : Instance → List ℕ → Version → List ℕ → Type 0

@@ -11,19 +11,19 @@ use Rattle.mono_check.specs.Verdicts.{IsVerdict}
 use Rattle.mono_core.specs.declared.outcome.CoreOutcome.{CoreOutcome}
 use Rattle.mono_core.specs.declared.outcome.CoreOutcome.TheVariants as outcome
 use Rattle.mono_io.specs.Shelf.{ShelfView}
-use Rattle.mono_cmd.specs.declared.command.Command.{Command}
-use Rattle.mono_cmd.specs.declared.command.Command.TheVariants as command
-use Rattle.mono_cmd.specs.declared.command.TheConstants.{DEFAULT_BUDGET}
-use Rattle.mono_cmd.specs.declared.status.Status.{Status}
-use Rattle.mono_cmd.specs.declared.status.Status.TheVariants as status
-use Rattle.mono_cmd.specs.declared.ending.Ending.{Ending}
-use Rattle.mono_cmd.specs.declared.ending.Ending.TheVariants as ending
-use Rattle.mono_cmd.specs.CoreTexts.{outcome_text}
-use Rattle.mono_cmd.specs.Endings.{status_of, outcome_status}
-use Rattle.mono_cmd.specs.Solved.{IsNarrowing}
-use Rattle.mono_cmd.specs.Runs.{HasNoRoom, IsNarrowed, ComesTo, Runs, Narrows, IsCoreBy}
-use Rattle.mono_cmd.proofs.Cores.{core_excludes}
-use Rattle.mono_cmd.proofs.Replies.{is_reply, not_both, end_behind, shown, said}
+use Rattle.mono_forms.specs.declared.command.Command.{Command}
+use Rattle.mono_forms.specs.declared.command.Command.TheVariants as command
+use Rattle.mono_forms.specs.declared.command.TheConstants.{DEFAULT_BUDGET}
+use Rattle.mono_forms.specs.declared.status.Status.{Status}
+use Rattle.mono_forms.specs.declared.status.Status.TheVariants as status
+use Rattle.mono_forms.specs.declared.ending.Ending.{Ending}
+use Rattle.mono_forms.specs.declared.ending.Ending.TheVariants as ending
+use Rattle.mono_forms.specs.CoreTexts.{outcome_text}
+use Rattle.mono_forms.specs.Endings.{status_of, outcome_status}
+use Rattle.mono_forms.specs.Solved.{IsNarrowing}
+use Rattle.mono_forms.specs.Runs.{HasNoRoom, IsNarrowed, ComesTo, Runs, Narrows, IsCoreBy}
+use Rattle.mono_forms.proofs.Cores.{core_excludes}
+use Rattle.mono_forms.proofs.Replies.{is_reply, not_both, end_behind, shown, said}
 
 -- what was found under the assumptions, for which there is room
 abbrev IsFound : Instance → List ℤ → CoreOutcome → Type 0

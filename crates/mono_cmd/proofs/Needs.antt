@@ -13,16 +13,16 @@ use Rattle.mono_best.specs.declared.outcome.BestOutcome.TheVariants as bounded
 use Rattle.mono_core.specs.declared.outcome.CoreOutcome.{CoreOutcome}
 use Rattle.mono_core.specs.declared.outcome.CoreOutcome.TheVariants as outcome
 use Rattle.mono_io.specs.Shelf.{Texts, ShelfView, text_named, told_text, Lacks}
-use Rattle.mono_cmd.specs.declared.command.Command.{Command}
-use Rattle.mono_cmd.specs.declared.command.Command.TheVariants as command
-use Rattle.mono_cmd.specs.declared.status.Status.{Status}
-use Rattle.mono_cmd.specs.declared.status.Status.TheVariants as status
-use Rattle.mono_cmd.specs.declared.ending.Ending.{Ending}
-use Rattle.mono_cmd.specs.declared.ending.Ending.TheVariants as ending
-use Rattle.mono_cmd.specs.Endings.{status_of, TakesMemory, answer_status, verdict_status, outcome_status, best_status}
-use Rattle.mono_cmd.specs.Runs.{EndsAtFile, EndsAtText, ComesTo, Ends, Writes, HasProblem, HasNoFault, HasNoFaultWith, EachReached, IsHeld, IsHeldWithin, IsCarriedOut}
-use Rattle.mono_cmd.proofs.Stages.{ends_else, HasFile, HasAnswer, GoesOn, IsOwn, file_of, answer_of, limit_of, Stage, unread, at_file, behind_file, at_answer, behind_answer, stage_of}
-use Rattle.mono_cmd.proofs.Replies.{ending_by}
+use Rattle.mono_forms.specs.declared.command.Command.{Command}
+use Rattle.mono_forms.specs.declared.command.Command.TheVariants as command
+use Rattle.mono_forms.specs.declared.status.Status.{Status}
+use Rattle.mono_forms.specs.declared.status.Status.TheVariants as status
+use Rattle.mono_forms.specs.declared.ending.Ending.{Ending}
+use Rattle.mono_forms.specs.declared.ending.Ending.TheVariants as ending
+use Rattle.mono_forms.specs.Endings.{status_of, TakesMemory, answer_status, verdict_status, outcome_status, best_status}
+use Rattle.mono_forms.specs.Runs.{EndsAtFile, EndsAtText, ComesTo, Ends, Writes, HasProblem, HasNoFault, HasNoFaultWith, EachReached, IsHeld, IsHeldWithin, IsCarriedOut}
+use Rattle.mono_forms.proofs.Stages.{ends_else, HasFile, HasAnswer, GoesOn, IsOwn, file_of, answer_of, limit_of, Stage, unread, at_file, behind_file, at_answer, behind_answer, stage_of}
+use Rattle.mono_forms.proofs.Replies.{ending_by}
 
 -- ---- one file
 

@@ -7,15 +7,15 @@ use Rattle.mono_gnf.specs.Stands.{Stands}
 use Rattle.mono_gnf.proofs.RoundTrip.{printed_stands}
 use Rattle.mono_gnf.proofs.WellFormedReading.{stands_well_formed}
 use Rattle.mono_io.specs.Shelf.{ShelfView}
-use Rattle.mono_cmd.specs.declared.command.Command.{Command}
-use Rattle.mono_cmd.specs.declared.command.Command.TheVariants as command
-use Rattle.mono_cmd.specs.declared.status.Status.{Status}
-use Rattle.mono_cmd.specs.declared.status.Status.TheVariants as status
-use Rattle.mono_cmd.specs.declared.ending.Ending.{Ending}
-use Rattle.mono_cmd.specs.declared.ending.Ending.TheVariants as ending
-use Rattle.mono_cmd.specs.Endings.{status_of}
-use Rattle.mono_cmd.specs.Runs.{ComesTo, Runs, Prints}
-use Rattle.mono_cmd.proofs.Replies.{is_reply, end_behind, appended, shown}
+use Rattle.mono_forms.specs.declared.command.Command.{Command}
+use Rattle.mono_forms.specs.declared.command.Command.TheVariants as command
+use Rattle.mono_forms.specs.declared.status.Status.{Status}
+use Rattle.mono_forms.specs.declared.status.Status.TheVariants as status
+use Rattle.mono_forms.specs.declared.ending.Ending.{Ending}
+use Rattle.mono_forms.specs.declared.ending.Ending.TheVariants as ending
+use Rattle.mono_forms.specs.Endings.{status_of}
+use Rattle.mono_forms.specs.Runs.{ComesTo, Runs, Prints}
+use Rattle.mono_forms.proofs.Replies.{is_reply, end_behind, appended, shown}
 
 pub printed : (found : Option Command) (old new : ShelfView) (s : Status) (before now : Option (List ℕ)) → Runs found old new s before now → (p : Instance) → Prints found old.texts p → s ≡ status.Printed
     → (there written : List ℕ) → before ≡ Some there → now ≡ Some (there ++ written) → Stands written p

@@ -1,11 +1,11 @@
 -- All that is promised of a run follows from the ending that it comes to and the text that it writes.
 use Rattle.std.proofs.Common.{subst}
-use Rattle.mono_cmd.specs.declared.status.Status.{Status}
-use Rattle.mono_cmd.specs.Runs.{Runs, Writes}
+use Rattle.mono_forms.specs.declared.status.Status.{Status}
+use Rattle.mono_forms.specs.Runs.{Runs, Writes}
 use Rattle.mono_cmd.specs.Promises.{RunView, Counting, Completing, Refusing, Solving, Generating, Narrowing, Bounding, Printing, Migrating, Asking, Teaming, Judging, JudgingWith, IsRun}
-use Rattle.mono_cmd.proofs.Stages.{ends_begun, ends_faults}
+use Rattle.mono_forms.proofs.Stages.{ends_begun, ends_faults}
 use Rattle.mono_cmd.proofs.Causes.{fault_counted, past_its_limit}
-use Rattle.mono_cmd.proofs.OutOfMemory.{memory_wanting}
+use Rattle.mono_forms.proofs.OutOfMemory.{memory_wanting}
 use Rattle.mono_cmd.proofs.Needs.{no_read_fault, steady, complete}
 use Rattle.mono_cmd.proofs.Refused.{its_refusal}
 use Rattle.mono_cmd.proofs.Solves.{satisfiable, unsatisfiable, unknown, its_verdict}
@@ -16,7 +16,7 @@ use Rattle.mono_cmd.proofs.SoundWith.{refutes_with, models_with}
 use Rattle.mono_cmd.proofs.Narrows.{core_satisfiable, core_unsatisfiable, core_unknown, its_core}
 use Rattle.mono_cmd.proofs.Migrations.{migrated}
 use Rattle.mono_cmd.proofs.Prints.{printed}
-use Rattle.mono_cmd.proofs.Bests.{best_is_never_met, best_unknown, its_bound, asked}
+use Rattle.mono_forms.proofs.Bests.{best_is_never_met, best_unknown, its_bound, asked}
 use Rattle.mono_cmd.proofs.TeamRuns.{team_satisfiable, team_unsatisfiable, team_unknown, its_board}
 
 module _ (run : RunView) (runs : Runs run.command run.old run.new run.status run.before run.now) where

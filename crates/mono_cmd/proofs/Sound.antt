@@ -15,21 +15,21 @@ use Rattle.mono_check.specs.declared.verdict.Verdict.TheVariants as verdict
 use Rattle.mono_check.specs.Verdicts.{IsVerdict}
 use Rattle.mono_best.specs.declared.outcome.BestOutcome.{BestOutcome}
 use Rattle.mono_best.specs.declared.outcome.BestOutcome.TheVariants as bounded
-use Rattle.mono_cmd.specs.declared.asking.AskRefusal.{AskRefusal}
-use Rattle.mono_cmd.specs.declared.asking.AskRefusal.TheVariants as refusal
-use Rattle.mono_cmd.specs.BestTexts.{best_text, refusal_text}
+use Rattle.mono_forms.specs.declared.asking.AskRefusal.{AskRefusal}
+use Rattle.mono_forms.specs.declared.asking.AskRefusal.TheVariants as refusal
+use Rattle.mono_forms.specs.BestTexts.{best_text, refusal_text}
 use Rattle.mono_check.proofs.Accepted.{refutation_has_no_model, model_satisfies}
 use Rattle.mono_io.specs.Shelf.{ShelfView}
-use Rattle.mono_cmd.specs.declared.command.Command.{Command}
-use Rattle.mono_cmd.specs.declared.command.Command.TheVariants as command
-use Rattle.mono_cmd.specs.declared.status.Status.{Status}
-use Rattle.mono_cmd.specs.declared.status.Status.TheVariants as status
-use Rattle.mono_cmd.specs.declared.ending.Ending.{Ending}
-use Rattle.mono_cmd.specs.declared.ending.Ending.TheVariants as ending
-use Rattle.mono_cmd.specs.Endings.{status_of, text_of, verdict_text}
-use Rattle.mono_cmd.specs.Runs.{ComesTo, Ends, Writes, Runs, HasProblem, CheckWrote}
-use Rattle.mono_cmd.proofs.Stages.{IsOwn, stage_of}
-use Rattle.mono_cmd.proofs.Replies.{is_reply, replied, answer_reply, outcome_reply, its_problem, appended}
+use Rattle.mono_forms.specs.declared.command.Command.{Command}
+use Rattle.mono_forms.specs.declared.command.Command.TheVariants as command
+use Rattle.mono_forms.specs.declared.status.Status.{Status}
+use Rattle.mono_forms.specs.declared.status.Status.TheVariants as status
+use Rattle.mono_forms.specs.declared.ending.Ending.{Ending}
+use Rattle.mono_forms.specs.declared.ending.Ending.TheVariants as ending
+use Rattle.mono_forms.specs.Endings.{status_of, text_of, verdict_text}
+use Rattle.mono_forms.specs.Runs.{ComesTo, Ends, Writes, Runs, HasProblem, CheckWrote}
+use Rattle.mono_forms.proofs.Stages.{IsOwn, stage_of}
+use Rattle.mono_forms.proofs.Replies.{is_reply, replied, answer_reply, outcome_reply, its_problem, appended}
 
 -- ---- the front of a text
 

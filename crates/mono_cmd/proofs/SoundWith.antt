@@ -13,15 +13,15 @@ use Rattle.mono_check.specs.declared.verdict.Verdict.{Verdict}
 use Rattle.mono_check.specs.Verdicts.{IsVerdict}
 use Rattle.mono_check.proofs.Accepted.{refutation_has_no_model, model_satisfies}
 use Rattle.mono_io.specs.Shelf.{ShelfView}
-use Rattle.mono_cmd.specs.declared.command.Command.{Command}
-use Rattle.mono_cmd.specs.declared.command.Command.TheVariants as command
-use Rattle.mono_cmd.specs.declared.status.Status.{Status}
-use Rattle.mono_cmd.specs.declared.ending.Ending.{Ending}
-use Rattle.mono_cmd.specs.declared.ending.Ending.TheVariants as ending
-use Rattle.mono_cmd.specs.Endings.{text_of, verdict_text}
-use Rattle.mono_cmd.specs.Runs.{ComesTo, Ends, Runs, HasProblem, CheckWithWrote}
-use Rattle.mono_cmd.proofs.Stages.{IsOwn}
-use Rattle.mono_cmd.proofs.Replies.{its_problem}
+use Rattle.mono_forms.specs.declared.command.Command.{Command}
+use Rattle.mono_forms.specs.declared.command.Command.TheVariants as command
+use Rattle.mono_forms.specs.declared.status.Status.{Status}
+use Rattle.mono_forms.specs.declared.ending.Ending.{Ending}
+use Rattle.mono_forms.specs.declared.ending.Ending.TheVariants as ending
+use Rattle.mono_forms.specs.Endings.{text_of, verdict_text}
+use Rattle.mono_forms.specs.Runs.{ComesTo, Ends, Runs, HasProblem, CheckWithWrote}
+use Rattle.mono_forms.proofs.Stages.{IsOwn}
+use Rattle.mono_forms.proofs.Replies.{its_problem}
 use Rattle.mono_cmd.proofs.Sound.{front_written, IsUnanswered, only_verdicts, only_refutation, only_model, refutation_text, model_text}
 
 -- FILE stood for this problem, and the verdict on an answer to it under the assumptions was this

@@ -13,18 +13,18 @@ use Rattle.mono_check.specs.declared.verdict.Verdict.{Verdict}
 use Rattle.mono_check.specs.declared.verdict.Verdict.TheVariants as verdict
 use Rattle.mono_check.proofs.Accepted.{same_verdict}
 use Rattle.mono_io.specs.Shelf.{ShelfView}
-use Rattle.mono_cmd.specs.declared.command.Command.{Command}
-use Rattle.mono_cmd.specs.declared.command.Command.TheVariants as command
-use Rattle.mono_cmd.specs.declared.command.TheConstants.{DEFAULT_BUDGET}
-use Rattle.mono_cmd.specs.declared.status.Status.{Status}
-use Rattle.mono_cmd.specs.declared.status.Status.TheVariants as status
-use Rattle.mono_cmd.specs.declared.summary.Summary.{Summary}
-use Rattle.mono_cmd.specs.declared.ending.Ending.{Ending}
-use Rattle.mono_cmd.specs.declared.ending.Ending.TheVariants as ending
-use Rattle.mono_cmd.specs.Endings.{status_of, answer_status, result_word, verdict_text, progress_text, summary_lines, summary_text}
-use Rattle.mono_cmd.specs.Solved.{IsSolution, IsSummary, verdict_of}
-use Rattle.mono_cmd.specs.Runs.{ComesTo, Runs, SumsUp, SolvesGenerated, summary_of, IsSummaryBy}
-use Rattle.mono_cmd.proofs.Replies.{is_reply, same_problem, shown, said}
+use Rattle.mono_forms.specs.declared.command.Command.{Command}
+use Rattle.mono_forms.specs.declared.command.Command.TheVariants as command
+use Rattle.mono_forms.specs.declared.command.TheConstants.{DEFAULT_BUDGET}
+use Rattle.mono_forms.specs.declared.status.Status.{Status}
+use Rattle.mono_forms.specs.declared.status.Status.TheVariants as status
+use Rattle.mono_forms.specs.declared.summary.Summary.{Summary}
+use Rattle.mono_forms.specs.declared.ending.Ending.{Ending}
+use Rattle.mono_forms.specs.declared.ending.Ending.TheVariants as ending
+use Rattle.mono_forms.specs.Endings.{status_of, answer_status, result_word, verdict_text, progress_text, summary_lines, summary_text}
+use Rattle.mono_forms.specs.Solved.{IsSolution, IsSummary, verdict_of}
+use Rattle.mono_forms.specs.Runs.{ComesTo, Runs, SumsUp, SolvesGenerated, summary_of, IsSummaryBy}
+use Rattle.mono_forms.proofs.Replies.{is_reply, same_problem, shown, said}
 use Rattle.mono_cmd.proofs.Solves.{Shows, solution_shows}
 
 -- ---- the text

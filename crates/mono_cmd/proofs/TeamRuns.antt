@@ -12,16 +12,16 @@ use Rattle.mono_answer.specs.declared.answer.Answer.{Answer}
 use Rattle.mono_answer.specs.declared.answer.Answer.TheVariants as answer
 use Rattle.mono_answer.specs.Printed.{answer_text}
 use Rattle.mono_io.specs.Shelf.{ShelfView}
-use Rattle.mono_cmd.specs.declared.command.Command.{Command}
-use Rattle.mono_cmd.specs.declared.command.Command.TheVariants as command
-use Rattle.mono_cmd.specs.declared.status.Status.{Status}
-use Rattle.mono_cmd.specs.declared.status.Status.TheVariants as status
-use Rattle.mono_cmd.specs.declared.ending.Ending.{Ending}
-use Rattle.mono_cmd.specs.declared.ending.Ending.TheVariants as ending
-use Rattle.mono_cmd.specs.Endings.{status_of, answer_status}
-use Rattle.mono_cmd.specs.Teams.{IsTeamed, IsTeamSolution, PlaysTeam, IsTeamTextBy}
-use Rattle.mono_cmd.specs.Runs.{ComesTo, Runs}
-use Rattle.mono_cmd.proofs.Replies.{is_reply, end_behind, shown, said}
+use Rattle.mono_forms.specs.declared.command.Command.{Command}
+use Rattle.mono_forms.specs.declared.command.Command.TheVariants as command
+use Rattle.mono_forms.specs.declared.status.Status.{Status}
+use Rattle.mono_forms.specs.declared.status.Status.TheVariants as status
+use Rattle.mono_forms.specs.declared.ending.Ending.{Ending}
+use Rattle.mono_forms.specs.declared.ending.Ending.TheVariants as ending
+use Rattle.mono_forms.specs.Endings.{status_of, answer_status}
+use Rattle.mono_forms.specs.Teams.{IsTeamed, IsTeamSolution, PlaysTeam, IsTeamTextBy}
+use Rattle.mono_forms.specs.Runs.{ComesTo, Runs}
+use Rattle.mono_forms.proofs.Replies.{is_reply, end_behind, shown, said}
 
 -- what an answer of a team shows, by its status
 abbrev Shows : Instance → ℕ → ℕ → Status → Type 0

@@ -8,13 +8,13 @@ use Rattle.mono_gnf.specs.declared.fault.GnfFault.{GnfFault}
 use Rattle.mono_gnf.specs.declared.fault.GnfFault.TheVariants as fault
 use Rattle.mono_best.specs.Asking.{predicate_of}
 use Rattle.mono_best.specs.Bounds.{IsBoundOf}
-use Rattle.mono_cmd.specs.declared.asking.AskRefusal.{AskRefusal}
-use Rattle.mono_cmd.specs.declared.command.Command.{Command}
-use Rattle.mono_cmd.specs.declared.command.Command.TheVariants as command
-use Rattle.mono_cmd.specs.declared.ending.Ending.TheVariants as ending
-use Rattle.mono_cmd.specs.BestTexts.{refusal_text}
-use Rattle.mono_cmd.specs.Endings.{text_of}
-use Rattle.mono_cmd.specs.Runs.{IsUnasked}
+use Rattle.mono_forms.specs.declared.asking.AskRefusal.{AskRefusal}
+use Rattle.mono_forms.specs.declared.command.Command.{Command}
+use Rattle.mono_forms.specs.declared.command.Command.TheVariants as command
+use Rattle.mono_forms.specs.declared.ending.Ending.TheVariants as ending
+use Rattle.mono_forms.specs.BestTexts.{refusal_text}
+use Rattle.mono_forms.specs.Endings.{text_of}
+use Rattle.mono_forms.specs.Runs.{IsUnasked}
 
 -- the line and the name of the text's first fault
 pub record NamesFault (text written : List ℕ) : Type 0 where

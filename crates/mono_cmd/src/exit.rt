@@ -3,12 +3,12 @@
 ghost use Rattle.std.specs.Prelude.{◌≡◌, IfOk, IfSome, IsSome, OnErr, map, option_and_then, string_bytes};
 ghost use Rattle.std.specs.Process.{exit_status};
 ghost use Rattle.mono_io.specs.FileShelf.{shown_by};
-ghost use Rattle.mono_cmd.specs.Commands.{command_of};
+ghost use Rattle.mono_forms.specs.Commands.{command_of};
 ghost use Rattle.mono_cmd.specs.Machines.{Machine, HasExited, untouched};
 
 use crate::given::{Words, WordsRefusal};
 use crate::run::run;
-use crate::status::Status;
+use mono_forms::Status;
 use mono_io::{FileAccess, FileShelf, Shelf, Sink, StdSink};
 use std::alloc::{AllocError, Global};
 use std::io::{Eprint, Write};

@@ -2,40 +2,14 @@
 //! checks answers. `run` is the whole program, and `run_over` the whole process: `main` hands it the real words, files and output.
 #![tactic(auto)]
 
-/// The forms `best` and `ask` behind their FILE.
-pub mod asking;
-/// What `best` writes.
-mod best_text;
-/// Commands.
-pub mod command;
-/// What `core` writes.
-mod core_text;
-/// What a run comes to, and the text that it writes.
-pub mod ending;
 /// The whole process, and what it exits with.
 pub mod exit;
 /// The words behind the program's name.
 pub mod given;
-/// What holds of the definitions alone.
-pub mod laws;
-/// Lines that take no memory.
-pub mod line;
 /// The whole program.
 pub mod run;
-/// Answers to problems.
-pub mod solving;
-/// How a run ends.
-pub mod status;
-/// Summaries of generated inputs.
-pub mod summary;
-/// Answers of workers that search in turn.
-pub mod teaming;
 #[cfg(test)]
 mod tests;
-/// The text that a run writes.
-pub mod text;
-/// The words of a command line.
-pub mod words;
 /// Rows that were worked by hand, as the definitions compute them.
 #[cfg(test)]
 pub mod worked;

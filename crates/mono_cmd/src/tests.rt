@@ -1,7 +1,7 @@
 //! Runs of the whole program over files and an output in memory. The expected texts are worked by hand.
 
 use crate::run::run;
-use crate::status::Status;
+use mono_forms::Status;
 use mono_io::{MemoryShelf, MemorySink};
 use std::alloc::{AllocError, Global};
 use std::process::Abort;

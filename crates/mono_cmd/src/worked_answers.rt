@@ -6,9 +6,9 @@ ghost use Rattle.mono_check.specs.declared.verdict.Verdict.TheVariants as verdic
 ghost use Rattle.mono_steps.specs.Worked.{clauses_over};
 ghost use Rattle.mono_steps.specs.WorkedLemmas.{barred, with_two_lemmas, with_one_lemma};
 ghost use Rattle.mono_search.specs.Worked.{two_clauses, first_learned};
-ghost use Rattle.mono_cmd.specs.Solved.{IsAnswer, verdict_of};
-ghost use Rattle.mono_cmd.specs.Runs.{IsVerdictBy};
-ghost use Rattle.mono_cmd.specs.declared.status.Status.TheVariants as status;
+ghost use Rattle.mono_forms.specs.Solved.{IsAnswer, verdict_of};
+ghost use Rattle.mono_forms.specs.Runs.{IsVerdictBy};
+ghost use Rattle.mono_forms.specs.declared.status.Status.TheVariants as status;
 
 /// Progress has as many learned clauses as the budget says, no fewer and no more.
 pub fn worked_progress()

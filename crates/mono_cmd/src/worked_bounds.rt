@@ -9,13 +9,13 @@ ghost use Rattle.mono_search.specs.Worked.{first_learned};
 ghost use Rattle.mono_check.specs.declared.verdict.Verdict.TheVariants as verdict;
 ghost use Rattle.mono_best.specs.Worked.{weighed, wide};
 ghost use Rattle.mono_best.specs.declared.outcome.BestOutcome.TheVariants as outcome;
-ghost use Rattle.mono_cmd.specs.declared.asking.AskRefusal.TheVariants as refusal;
-ghost use Rattle.mono_cmd.specs.declared.command.Command.TheVariants as command;
-ghost use Rattle.mono_cmd.specs.declared.status.Status.TheVariants as status;
-ghost use Rattle.mono_cmd.specs.declared.ending.Ending.TheVariants as ending;
-ghost use Rattle.mono_cmd.specs.Endings.{TakesMemory, status_of, text_of};
-ghost use Rattle.mono_cmd.specs.Solved.{best_verdict, judged_bound};
-ghost use Rattle.mono_cmd.specs.Runs.{AreAlike, Asks, Bounds, EachReached, IsAsked, IsBestBy, IsBounded, IsCarriedOut, IsHeld, IsSolving, IsUnasked};
+ghost use Rattle.mono_forms.specs.declared.asking.AskRefusal.TheVariants as refusal;
+ghost use Rattle.mono_forms.specs.declared.command.Command.TheVariants as command;
+ghost use Rattle.mono_forms.specs.declared.status.Status.TheVariants as status;
+ghost use Rattle.mono_forms.specs.declared.ending.Ending.TheVariants as ending;
+ghost use Rattle.mono_forms.specs.Endings.{TakesMemory, status_of, text_of};
+ghost use Rattle.mono_forms.specs.Solved.{best_verdict, judged_bound};
+ghost use Rattle.mono_forms.specs.Runs.{AreAlike, Asks, Bounds, EachReached, IsAsked, IsBestBy, IsBounded, IsCarriedOut, IsHeld, IsSolving, IsUnasked};
 ghost use Rattle.mono_cmd.specs.Worked.{empty_problem};
 
 /// What `best` writes.

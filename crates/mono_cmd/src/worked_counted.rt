@@ -14,11 +14,11 @@ ghost use Rattle.mono_check.specs.Verdicts.{IsVerdict};
 ghost use Rattle.mono_check.specs.declared.verdict.Verdict.TheVariants as verdict;
 ghost use Rattle.mono_best.specs.Asking.{asking};
 ghost use Rattle.mono_best.specs.Optimum.{IsNeverMet};
-ghost use Rattle.mono_cmd.specs.declared.command.Command.TheVariants as command;
-ghost use Rattle.mono_cmd.specs.declared.command.TheConstants.{DEFAULT_BUDGET};
-ghost use Rattle.mono_cmd.specs.declared.status.Status.TheVariants as status;
+ghost use Rattle.mono_forms.specs.declared.command.Command.TheVariants as command;
+ghost use Rattle.mono_forms.specs.declared.command.TheConstants.{DEFAULT_BUDGET};
+ghost use Rattle.mono_forms.specs.declared.status.Status.TheVariants as status;
 ghost use Rattle.mono_cmd.specs.Promises.{Asking, Bounding, Completing, Counting, Generating, IsRun, Judging, JudgingWith, Migrating, Narrowing, Printing, Refusing, RunView, Solving, Teaming};
-ghost use Rattle.mono_cmd.specs.Runs.{IsJudgmentBy, Runs};
+ghost use Rattle.mono_forms.specs.Runs.{IsJudgmentBy, Runs};
 ghost use Rattle.mono_cmd.specs.Worked.{fresh, one_file, read_b, read_f, read_in, run_of, two_files, untold_run, with_answer};
 
 /// What is counted: failed calls, begins, and what want of memory and a file beyond its limit leave.

@@ -6,11 +6,11 @@ ghost use Rattle.mono_problem.specs.Instance.{Instance};
 ghost use Rattle.mono_gnf.specs.Stands.{Stands};
 ghost use Rattle.mono_best.specs.Asking.{HasBoundedAtom};
 ghost use Rattle.mono_core.specs.Worked.{one_clause};
-ghost use Rattle.mono_cmd.specs.declared.command.Command.{Command};
-ghost use Rattle.mono_cmd.specs.declared.command.Command.TheVariants as command;
+ghost use Rattle.mono_forms.specs.declared.command.Command.{Command};
+ghost use Rattle.mono_forms.specs.declared.command.Command.TheVariants as command;
 ghost use Rattle.mono_cmd.specs.Machines.{HasExited, Machine, untouched};
 ghost use Rattle.mono_cmd.specs.Refusals.{IsRefusal, IsUnaskable, IsUnaskedBy};
-ghost use Rattle.mono_cmd.specs.Runs.{Judges, JudgesWith};
+ghost use Rattle.mono_forms.specs.Runs.{Judges, JudgesWith};
 ghost use Rattle.mono_cmd.specs.Worked.{empty_problem};
 
 /// The verdict is that on the text which is told of ANSWER, for the problem that FILE stands for.

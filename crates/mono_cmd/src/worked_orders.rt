@@ -24,16 +24,16 @@ ghost use Rattle.mono_check.specs.declared.verdict.Verdict.TheVariants as verdic
 ghost use Rattle.mono_best.specs.Asking.{asking, predicate_of, HasBoundedAtom, HasRoomToAsk};
 ghost use Rattle.mono_best.specs.Bounds.{IsBoundOf};
 ghost use Rattle.mono_best.specs.declared.outcome.BestOutcome.{BestOutcome};
-ghost use Rattle.mono_cmd.specs.declared.command.Command.{Command as CommandOf};
-ghost use Rattle.mono_cmd.specs.declared.command.Command.TheVariants as command;
-ghost use Rattle.mono_cmd.specs.declared.command.TheConstants.{DEFAULT_BUDGET, MAX_MIGRATED_BYTES};
-ghost use Rattle.mono_cmd.specs.declared.ending.Ending.{Ending as EndingOf};
-ghost use Rattle.mono_cmd.specs.declared.ending.Ending.TheVariants as ending;
-ghost use Rattle.mono_cmd.specs.declared.status.Status.TheVariants as status;
-ghost use Rattle.mono_cmd.specs.declared.summary.Summary.{Summary as SummaryOf};
+ghost use Rattle.mono_forms.specs.declared.command.Command.{Command as CommandOf};
+ghost use Rattle.mono_forms.specs.declared.command.Command.TheVariants as command;
+ghost use Rattle.mono_forms.specs.declared.command.TheConstants.{DEFAULT_BUDGET, MAX_MIGRATED_BYTES};
+ghost use Rattle.mono_forms.specs.declared.ending.Ending.{Ending as EndingOf};
+ghost use Rattle.mono_forms.specs.declared.ending.Ending.TheVariants as ending;
+ghost use Rattle.mono_forms.specs.declared.status.Status.TheVariants as status;
+ghost use Rattle.mono_forms.specs.declared.summary.Summary.{Summary as SummaryOf};
 ghost use Rattle.mono_cmd.specs.Machines.{HasExited, Machine, untouched};
-ghost use Rattle.mono_cmd.specs.Runs.{ComesTo, Ends, EndsAtFile, EndsAtText, HasProblem, IsAsked, IsBounded, IsGenerated, IsJudged, IsJudgedWith, IsMigration, IsOutOfMemory, IsSolved, Runs, WithProblem, WithText};
-ghost use Rattle.mono_cmd.specs.Solved.{IsBounding, IsSolution, IsSummary};
+ghost use Rattle.mono_forms.specs.Runs.{ComesTo, Ends, EndsAtFile, EndsAtText, HasProblem, IsAsked, IsBounded, IsGenerated, IsJudged, IsJudgedWith, IsMigration, IsOutOfMemory, IsSolved, Runs, WithProblem, WithText};
+ghost use Rattle.mono_forms.specs.Solved.{IsBounding, IsSolution, IsSummary};
 ghost use Rattle.mono_cmd.specs.Worked.{empty_problem, fresh, missed, missed_behind, read_b, read_f, read_in};
 
 /// How a run ends at a file, or goes on with its text or its problem.

@@ -20,19 +20,19 @@ ghost use Rattle.mono_best.specs.Optimum.{IsOptimum};
 ghost use Rattle.mono_best.specs.Worked.{weighed};
 ghost use Rattle.mono_best.specs.declared.outcome.BestOutcome.TheVariants as outcome;
 ghost use Rattle.mono_search.specs.Worked.{two_clauses};
-ghost use Rattle.mono_cmd.specs.declared.asking.AskRefusal.TheVariants as refusal;
-ghost use Rattle.mono_cmd.specs.declared.command.Command.TheVariants as command;
-ghost use Rattle.mono_cmd.specs.declared.ending.Ending.TheVariants as ending;
-ghost use Rattle.mono_cmd.specs.declared.status.Status.TheVariants as status;
-ghost use Rattle.mono_cmd.specs.declared.summary.Summary.{Summary};
-ghost use Rattle.mono_cmd.specs.declared.text.Text.TheVariants as text;
-ghost use Rattle.mono_cmd.specs.BestTexts.{best_text};
-ghost use Rattle.mono_cmd.specs.Endings.{TakesMemory};
+ghost use Rattle.mono_forms.specs.declared.asking.AskRefusal.TheVariants as refusal;
+ghost use Rattle.mono_forms.specs.declared.command.Command.TheVariants as command;
+ghost use Rattle.mono_forms.specs.declared.ending.Ending.TheVariants as ending;
+ghost use Rattle.mono_forms.specs.declared.status.Status.TheVariants as status;
+ghost use Rattle.mono_forms.specs.declared.summary.Summary.{Summary};
+ghost use Rattle.mono_forms.specs.declared.text.Text.TheVariants as text;
+ghost use Rattle.mono_forms.specs.BestTexts.{best_text};
+ghost use Rattle.mono_forms.specs.Endings.{TakesMemory};
 ghost use Rattle.mono_cmd.specs.Machines.{HasRun, Machine};
 ghost use Rattle.mono_cmd.specs.Promises.{RunView, Wrote};
-ghost use Rattle.mono_cmd.specs.Runs.{EachReached, IsBestBy, IsCarriedOut, IsHeld, IsJudgmentBy, IsOutOfMemory, SolvesGenerated};
-ghost use Rattle.mono_cmd.specs.Teams.{IsTeamTextBy};
-ghost use Rattle.mono_cmd.specs.Texts.{bytes_of};
+ghost use Rattle.mono_forms.specs.Runs.{EachReached, IsBestBy, IsCarriedOut, IsHeld, IsJudgmentBy, IsOutOfMemory, SolvesGenerated};
+ghost use Rattle.mono_forms.specs.Teams.{IsTeamTextBy};
+ghost use Rattle.mono_forms.specs.Texts.{bytes_of};
 
 /// Memory isn't wanting for a text that is there already, nor for one of constants or of one line.
 pub fn worked_memory()

@@ -23,15 +23,15 @@ ghost use Rattle.mono_check.specs.declared.verdict.Verdict.TheVariants as verdic
 ghost use Rattle.mono_core.specs.declared.outcome.CoreOutcome.{CoreOutcome};
 ghost use Rattle.mono_core.specs.declared.outcome.CoreOutcome.TheVariants as outcome;
 ghost use Rattle.mono_portfolio.specs.Outcomes.{IsBoardOfRounds};
-ghost use Rattle.mono_cmd.specs.declared.command.Command.TheVariants as command;
-ghost use Rattle.mono_cmd.specs.declared.command.TheConstants.{DEFAULT_BUDGET};
-ghost use Rattle.mono_cmd.specs.declared.ending.Ending.TheVariants as ending;
-ghost use Rattle.mono_cmd.specs.declared.status.Status.TheVariants as status;
-ghost use Rattle.mono_cmd.specs.declared.text.Text.TheVariants as text;
-ghost use Rattle.mono_cmd.specs.Runs.{IsJudgmentBy, IsMigration, IsNarrowed, IsOutOfMemory, IsSolved, IsSolving, IsVerdictBy};
-ghost use Rattle.mono_cmd.specs.Solved.{IsNarrowing, IsSolution, judged_under};
-ghost use Rattle.mono_cmd.specs.Teams.{IsTeamAnswer, IsTeamTextBy};
-ghost use Rattle.mono_cmd.specs.Texts.{bytes_of};
+ghost use Rattle.mono_forms.specs.declared.command.Command.TheVariants as command;
+ghost use Rattle.mono_forms.specs.declared.command.TheConstants.{DEFAULT_BUDGET};
+ghost use Rattle.mono_forms.specs.declared.ending.Ending.TheVariants as ending;
+ghost use Rattle.mono_forms.specs.declared.status.Status.TheVariants as status;
+ghost use Rattle.mono_forms.specs.declared.text.Text.TheVariants as text;
+ghost use Rattle.mono_forms.specs.Runs.{IsJudgmentBy, IsMigration, IsNarrowed, IsOutOfMemory, IsSolved, IsSolving, IsVerdictBy};
+ghost use Rattle.mono_forms.specs.Solved.{IsNarrowing, IsSolution, judged_under};
+ghost use Rattle.mono_forms.specs.Teams.{IsTeamAnswer, IsTeamTextBy};
+ghost use Rattle.mono_forms.specs.Texts.{bytes_of};
 
 /// With each command that reads FILE memory may be wanting on the way with it.
 pub fn worked_wanting()

@@ -8,8 +8,8 @@ ghost use Rattle.mono_answer.specs.Printed.{answer_text};
 ghost use Rattle.mono_check.specs.Verdicts.{IsVerdict};
 ghost use Rattle.mono_check.specs.declared.verdict.Verdict.TheVariants as verdict;
 ghost use Rattle.mono_search.specs.Worked.{two_clauses, both_signs, first_learned};
-ghost use Rattle.mono_cmd.specs.declared.status.Status.TheVariants as status;
-ghost use Rattle.mono_cmd.specs.Teams.{IsTeamAnswer, IsTeamTextBy};
+ghost use Rattle.mono_forms.specs.declared.status.Status.TheVariants as status;
+ghost use Rattle.mono_forms.specs.Teams.{IsTeamAnswer, IsTeamTextBy};
 
 /// A model and a refutation come in a turn of one of the rounds.
 pub fn worked_team_answers()

@@ -1,7 +1,7 @@
 //! Cores of assumptions, each handed to `check-with`.
 
 use super::{Outcome, USAGE, assert_outcome, outcome_of};
-use crate::status::Status;
+use mono_forms::Status;
 use std::alloc::{AllocError, Global};
 use std::process::Abort;
 use std::test::Fail;

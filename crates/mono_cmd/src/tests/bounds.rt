@@ -1,7 +1,7 @@
 //! Best bounds, each answer handed to `check` with what `ask` prints.
 
 use super::{assert_outcome, outcome_of};
-use crate::status::Status;
+use mono_forms::Status;
 use std::process::Abort;
 use std::test::Fail;
 

@@ -1,7 +1,7 @@
 //! Files that can't be read, and outputs that can't be written.
 
 use super::{put_files, run_words, shelf_of};
-use crate::status::Status;
+use mono_forms::Status;
 use mono_io::{MemoryShelf, MemorySink};
 use std::alloc::{AllocError, Global};
 use std::process::Abort;

@@ -1,7 +1,7 @@
 //! Inputs that are generated, solved and summed up, how large they are, and what one conflict teaches.
 
 use super::{assert_outcome, checks, outcome_of};
-use crate::status::Status;
+use mono_forms::Status;
 use mono_gnf::read_gnf;
 use mono_problem::Problem;
 use mono_text::Lines;

@@ -1,7 +1,7 @@
 //! Inputs, read, refused and printed.
 
 use super::{USAGE, assert_outcome, checks, outcome_of, prints, prints_each, refuses};
-use crate::status::Status;
+use mono_forms::Status;
 use mono_text::push_natural;
 use std::alloc::{AllocError, Global};
 use std::process::Abort;

@@ -3,8 +3,8 @@
 ghost use Rattle.std.specs.Prelude.{◌≤◌};
 
 use super::faults::{INPUT, MODEL, ends_within, ends_without_answer};
-use crate::status::Status;
 use mono_check::{CheckRefusal, Reason, Verdict, verdict_from};
+use mono_forms::Status;
 use mono_gnf::read_gnf;
 use mono_io::{GREATEST_LIMIT, MemoryShelf};
 use mono_problem::Problem;

@@ -1,7 +1,7 @@
 //! Runs that find memory. Want of memory is the answer that no clause ties to a cause, so tests show that it isn't given.
 
 use super::{checks, judges};
-use crate::status::Status;
+use mono_forms::Status;
 use std::test::Fail;
 
 /// A clause of 64 variables, and 64 clauses that each deny one of them.

@@ -4,7 +4,7 @@ use super::acyclic::{
     BESIDE, DENIED, NO_EDGE, ONE_WAY, OWN_EDGE, OWN_LOOP, PARALLEL, ROUND_TRIP, TWO_GRAPHS,
 };
 use super::{assert_outcome, checks, outcome_of};
-use crate::status::Status;
+use mono_forms::Status;
 use std::alloc::{AllocError, Global};
 use std::process::Abort;
 use std::test::Fail;

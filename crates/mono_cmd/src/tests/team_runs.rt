@@ -1,7 +1,7 @@
 //! Runs of `team`, each judged by `check`.
 
 use super::{Outcome, assert_outcome, outcome_of};
-use crate::status::Status;
+use mono_forms::Status;
 use std::alloc::{AllocError, Global};
 use std::process::Abort;
 use std::test::Fail;

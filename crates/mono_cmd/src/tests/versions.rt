@@ -1,7 +1,7 @@
 //! Answers of version 2, whose chains count backwards, and answers migrated from one version to the other.
 
 use super::{assert_outcome, judges, outcome_by};
-use crate::status::Status;
+use mono_forms::Status;
 use std::test::Fail;
 
 /// Two edges in a row that are there, and a predicate that denies that they lead on.

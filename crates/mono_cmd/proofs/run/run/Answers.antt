@@ -1,5 +1,5 @@
 use Rattle.mono_cmd.proofs.Promised.{is_run}
-use Rattle.mono_cmd.proofs.Replies.{runs_by}
+use Rattle.mono_forms.proofs.Replies.{runs_by}
 use Rattle.mono_cmd.proofs.run.run.Goals as goal
 
 -- The run comes to its ending, and writes its text; all that is promised follows from this.

@@ -4,7 +4,7 @@ use Rattle.mono_gnf.specs.Stands.{Stands}
 use Rattle.mono_io.specs.Shelf.{Texts, told_text}
 use Rattle.mono_core.specs.Worked.{one_clause}
 use Rattle.mono_cmd.specs.Worked.{empty_problem}
-use Rattle.mono_cmd.proofs.Replies.{same_problem}
+use Rattle.mono_forms.proofs.Replies.{same_problem}
 use Rattle.mono_cmd.proofs.worked.worked_told.Goals as goal
 
 pub returns-clause-solve : goal.returns-clause-solve

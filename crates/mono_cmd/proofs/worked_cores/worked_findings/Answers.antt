@@ -10,7 +10,7 @@ use Rattle.mono_steps.proofs.WorkedNew.{one_is_end}
 use Rattle.mono_check.specs.declared.reason.Reason.TheVariants as reason
 use Rattle.mono_check.specs.declared.verdict.Verdict.TheVariants as verdict
 use Rattle.mono_core.specs.declared.outcome.CoreOutcome.TheVariants as outcome
-use Rattle.mono_cmd.specs.CoreTexts.{outcome_text}
+use Rattle.mono_forms.specs.CoreTexts.{outcome_text}
 use Rattle.mono_cmd.proofs.worked_cores.worked_findings.Goals as goal
 
 none_picked : (bs : List Bool) → pick {A = ℤ} bs [] ≡ []

@@ -6,7 +6,7 @@ use Rattle.mono_problem.specs.Instance.{Instance}
 use Rattle.mono_gnf.specs.Stands.{Stands}
 use Rattle.mono_cmd.specs.Worked.{empty_problem}
 use Rattle.mono_cmd.proofs.UnknownWord.{unknown}
-use Rattle.mono_cmd.proofs.Replies.{same_problem}
+use Rattle.mono_forms.proofs.Replies.{same_problem}
 use Rattle.mono_cmd.proofs.worked_cores.worked_needs_with.Goals as goal
 
 pub returns-clause-no_answer : goal.returns-clause-no_answer

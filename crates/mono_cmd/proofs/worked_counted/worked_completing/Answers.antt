@@ -1,6 +1,6 @@
 use Rattle.std.proofs.Common.{◌≡◌, ◌≤◌, ◌⊎◌, refl, arith, inl, inr}
 use Rattle.mono_base.specs.declared.limits.TheConstants.{MAX_INPUT_BYTES}
-use Rattle.mono_cmd.specs.declared.status.Status.TheVariants as status
+use Rattle.mono_forms.specs.declared.status.Status.TheVariants as status
 use Rattle.mono_cmd.proofs.worked_counted.worked_completing.Goals as goal
 
 pub returns-clause-printed : goal.returns-clause-printed

@@ -1,9 +1,9 @@
 use Rattle.std.proofs.Common.{◌≡◌, ◌⊎◌, Option, arith, refl, inl, inr}
-use Rattle.mono_cmd.specs.declared.asking.AskRefusal.TheVariants as refusal
-use Rattle.mono_cmd.specs.declared.command.Command.{Command}
-use Rattle.mono_cmd.specs.declared.status.Status.TheVariants.{Memory}
+use Rattle.mono_forms.specs.declared.asking.AskRefusal.TheVariants as refusal
+use Rattle.mono_forms.specs.declared.command.Command.{Command}
+use Rattle.mono_forms.specs.declared.status.Status.TheVariants.{Memory}
 use Rattle.mono_cmd.specs.Machines.{HasRun, Machine}
-use Rattle.mono_cmd.specs.Statuses.{code_of}
+use Rattle.mono_forms.specs.Statuses.{code_of}
 use Rattle.mono_cmd.proofs.worked_families.worked_shown.Goals as goal
 
 pub returns-clause-no_predicate_to_ask : goal.returns-clause-no_predicate_to_ask

@@ -1,9 +1,9 @@
 use Rattle.std.proofs.Common.{◌≡◌, ◌⊎◌, Option, None, arith, refl, subst, inl, inr}
-use Rattle.mono_cmd.specs.declared.command.Command.{Command}
-use Rattle.mono_cmd.specs.declared.status.Status.TheVariants.{Memory}
-use Rattle.mono_cmd.specs.Commands.{command_of}
+use Rattle.mono_forms.specs.declared.command.Command.{Command}
+use Rattle.mono_forms.specs.declared.status.Status.TheVariants.{Memory}
+use Rattle.mono_forms.specs.Commands.{command_of}
 use Rattle.mono_cmd.specs.Machines.{HasRun, Machine}
-use Rattle.mono_cmd.specs.Statuses.{code_of}
+use Rattle.mono_forms.specs.Statuses.{code_of}
 use Rattle.mono_cmd.proofs.ExitNumbers.{not_3, not_8}
 use Rattle.mono_cmd.proofs.worked_judged.worked_machines.Goals as goal
 

@@ -7,14 +7,14 @@ use Rattle.mono_gnf.specs.Statements.{statement_of}
 use Rattle.mono_gnf.specs.declared.fault.GnfFault.{GnfFault}
 use Rattle.mono_gnf.specs.declared.fault.GnfFault.TheVariants as fault
 use Rattle.mono_best.specs.Asking.{HasBoundedAtom}
-use Rattle.mono_cmd.specs.declared.asking.AskRefusal.{AskRefusal}
-use Rattle.mono_cmd.specs.declared.asking.AskRefusal.TheVariants as refusal
-use Rattle.mono_cmd.specs.declared.command.Command.TheVariants as command
-use Rattle.mono_cmd.specs.declared.ending.Ending.TheVariants as ending
-use Rattle.mono_cmd.specs.BestTexts.{refusal_text}
-use Rattle.mono_cmd.specs.Endings.{text_of}
+use Rattle.mono_forms.specs.declared.asking.AskRefusal.{AskRefusal}
+use Rattle.mono_forms.specs.declared.asking.AskRefusal.TheVariants as refusal
+use Rattle.mono_forms.specs.declared.command.Command.TheVariants as command
+use Rattle.mono_forms.specs.declared.ending.Ending.TheVariants as ending
+use Rattle.mono_forms.specs.BestTexts.{refusal_text}
+use Rattle.mono_forms.specs.Endings.{text_of}
 use Rattle.mono_cmd.specs.Refusals.{IsRefusal}
-use Rattle.mono_cmd.specs.Runs.{IsUnasked}
+use Rattle.mono_forms.specs.Runs.{IsUnasked}
 use Rattle.mono_cmd.proofs.worked_judged.worked_refused.Goals as goal
 
 unknown_word : first_fault (codes "x") ≡ Some (1, fault.UnknownWord)

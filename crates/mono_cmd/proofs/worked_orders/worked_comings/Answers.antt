@@ -1,8 +1,8 @@
 use Rattle.std.proofs.Common.{◌≡◌, subst}
-use Rattle.mono_cmd.specs.declared.command.TheConstants.{DEFAULT_BUDGET}
-use Rattle.mono_cmd.specs.declared.ending.Ending.TheVariants as ending
-use Rattle.mono_cmd.specs.declared.summary.Summary.{Summary}
-use Rattle.mono_cmd.specs.Solved.{IsSummary}
+use Rattle.mono_forms.specs.declared.command.TheConstants.{DEFAULT_BUDGET}
+use Rattle.mono_forms.specs.declared.ending.Ending.TheVariants as ending
+use Rattle.mono_forms.specs.declared.summary.Summary.{Summary}
+use Rattle.mono_forms.specs.Solved.{IsSummary}
 use Rattle.mono_cmd.proofs.worked_orders.worked_comings.Goals as goal
 
 pub returns-clause-judged : goal.returns-clause-judged

@@ -1,7 +1,7 @@
 use Rattle.std.proofs.Common.{ℕ, List, inl, inr}
 use Rattle.mono_io.specs.Shelf.{ShelfView}
-use Rattle.mono_cmd.specs.declared.ending.Ending.TheVariants as ending
-use Rattle.mono_cmd.specs.Runs.{WithProblem, WithText}
+use Rattle.mono_forms.specs.declared.ending.Ending.TheVariants as ending
+use Rattle.mono_forms.specs.Runs.{WithProblem, WithText}
 use Rattle.mono_cmd.proofs.worked_orders.worked_files.Goals as goal
 
 pub returns-clause-not_read : goal.returns-clause-not_read

@@ -6,15 +6,15 @@ use Rattle.mono_gnf.specs.Faults.{first_fault}
 use Rattle.mono_gnf.specs.Statements.{statement_of}
 use Rattle.mono_gnf.specs.declared.fault.GnfFault.TheVariants as fault
 use Rattle.mono_answer.specs.declared.version.Version.{Version}
-use Rattle.mono_cmd.specs.declared.command.Command.{Command}
-use Rattle.mono_cmd.specs.declared.command.Command.TheVariants as command
-use Rattle.mono_cmd.specs.declared.ending.Ending.{Ending}
-use Rattle.mono_cmd.specs.declared.ending.Ending.TheVariants as ending
-use Rattle.mono_cmd.specs.declared.status.Status.TheVariants as status
-use Rattle.mono_cmd.specs.Endings.{status_of}
-use Rattle.mono_cmd.specs.Runs.{ComesTo, Ends, HasProblem, IsOutOfMemory, Writes}
+use Rattle.mono_forms.specs.declared.command.Command.{Command}
+use Rattle.mono_forms.specs.declared.command.Command.TheVariants as command
+use Rattle.mono_forms.specs.declared.ending.Ending.{Ending}
+use Rattle.mono_forms.specs.declared.ending.Ending.TheVariants as ending
+use Rattle.mono_forms.specs.declared.status.Status.TheVariants as status
+use Rattle.mono_forms.specs.Endings.{status_of}
+use Rattle.mono_forms.specs.Runs.{ComesTo, Ends, HasProblem, IsOutOfMemory, Writes}
 use Rattle.mono_cmd.specs.Worked.{empty_problem, fresh, missed, missed_behind, read_f, read_in}
-use Rattle.mono_cmd.proofs.Stages.{IsOwn, Stage, at_answer, at_file, behind_answer, behind_file, ends_cases, stage_of, unread}
+use Rattle.mono_forms.proofs.Stages.{IsOwn, Stage, at_answer, at_file, behind_answer, behind_file, ends_cases, stage_of, unread}
 use Rattle.mono_cmd.proofs.UnknownWord.{faulty}
 use Rattle.mono_cmd.proofs.worked_orders.worked_orders.Goals as goal
 

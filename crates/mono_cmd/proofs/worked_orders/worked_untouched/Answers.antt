@@ -1,9 +1,9 @@
 use Rattle.std.proofs.Common.{◌≡◌, ◌⊎◌, true, false, List, ℕ, [], Option, Some, None, codes, refl, ap, sym, subst, ◌∙◌, inl, inr, arith}
-use Rattle.mono_cmd.specs.declared.command.Command.{Command}
-use Rattle.mono_cmd.specs.declared.status.Status.{Status}
-use Rattle.mono_cmd.specs.declared.status.Status.TheVariants as status
+use Rattle.mono_forms.specs.declared.command.Command.{Command}
+use Rattle.mono_forms.specs.declared.status.Status.{Status}
+use Rattle.mono_forms.specs.declared.status.Status.TheVariants as status
 use Rattle.mono_cmd.specs.Machines.{HasRun, Machine, untouched}
-use Rattle.mono_cmd.specs.Statuses.{code_of}
+use Rattle.mono_forms.specs.Statuses.{code_of}
 use Rattle.mono_cmd.proofs.worked_orders.worked_untouched.Goals as goal
 
 -- the one status of this number

@@ -5,12 +5,12 @@ use Rattle.mono_problem.specs.Instance.{Instance}
 use Rattle.mono_gnf.specs.Stands.{Stands}
 use Rattle.mono_check.specs.declared.verdict.Verdict.{Verdict}
 use Rattle.mono_check.specs.declared.verdict.Verdict.TheVariants as verdict
-use Rattle.mono_cmd.specs.Endings.{verdict_status, verdict_text}
+use Rattle.mono_forms.specs.Endings.{verdict_status, verdict_text}
 use Rattle.mono_best.specs.Worked.{weighed}
-use Rattle.mono_cmd.specs.declared.command.Command.{Command}
-use Rattle.mono_cmd.specs.declared.command.Command.TheVariants as command
-use Rattle.mono_cmd.specs.declared.status.Status.TheVariants as status
-use Rattle.mono_cmd.specs.Runs.{IsBestBy, SolvesGenerated}
+use Rattle.mono_forms.specs.declared.command.Command.{Command}
+use Rattle.mono_forms.specs.declared.command.Command.TheVariants as command
+use Rattle.mono_forms.specs.declared.status.Status.TheVariants as status
+use Rattle.mono_forms.specs.Runs.{IsBestBy, SolvesGenerated}
 use Rattle.mono_gen.specs.Generated.{generated}
 use Rattle.mono_gen.specs.declared.kind.GenKind.{GenKind}
 use Rattle.mono_gen.specs.declared.kind.GenKind.TheVariants as kind

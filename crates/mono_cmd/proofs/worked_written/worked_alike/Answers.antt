@@ -1,8 +1,8 @@
 use Rattle.std.proofs.Common.{[], ap, subst}
 use Rattle.mono_answer.specs.declared.answer.Answer.{Answer}
 use Rattle.mono_answer.specs.declared.answer.Answer.TheVariants as answer
-use Rattle.mono_cmd.specs.Endings.{answer_status}
-use Rattle.mono_cmd.specs.Runs.{AreConsistent}
+use Rattle.mono_forms.specs.Endings.{answer_status}
+use Rattle.mono_forms.specs.Runs.{AreConsistent}
 use Rattle.mono_cmd.proofs.worked_written.worked_alike.Goals as goal
 
 pub returns-clause-contradict_too : goal.returns-clause-contradict_too

@@ -2,7 +2,7 @@ use Rattle.std.proofs.Common.{◌≡◌, ◌<◌, ℕ, List, [], codes, refl, sy
 use Rattle.std.specs.Fmt.{digits}
 use Rattle.std.specs.Prelude.{slice_index}
 use Rattle.mono_best.specs.Worked.{weighed}
-use Rattle.mono_cmd.specs.Runs.{summary_of}
+use Rattle.mono_forms.specs.Runs.{summary_of}
 use Rattle.mono_cmd.proofs.worked_written.worked_summaries.Goals as goal
 
 abbrev of_a_model : List ℕ

@@ -7,9 +7,9 @@ use Rattle.mono_gnf.specs.Stands.{Stands}
 use Rattle.mono_check.proofs.Accepted.{same_verdict}
 use Rattle.mono_check.specs.declared.verdict.Verdict.TheVariants as verdict
 use Rattle.mono_core.specs.Worked.{one_clause}
-use Rattle.mono_cmd.specs.Endings.{verdict_text}
+use Rattle.mono_forms.specs.Endings.{verdict_text}
 use Rattle.mono_cmd.specs.Worked.{empty_problem, one_file}
-use Rattle.mono_cmd.proofs.Replies.{same_problem}
+use Rattle.mono_forms.proofs.Replies.{same_problem}
 use Rattle.mono_cmd.proofs.worked_written.worked_wrote.Goals as goal
 
 -- a part of nine bytes, and not all of them, is shorter than they are

@@ -1,4 +1,0 @@
-use Rattle.mono_cmd.proofs.run.check_with.Goals as goal
-
-pub returns : goal.returns
-returns g c = c.judged_with.ensures c.args.file.now (g.S.Shelf.seen c.args.shelf.now) c.in_ok-input.ensures

@@ -1,4 +1,0 @@
-use Rattle.mono_cmd.proofs.solving.answer_to.Goals as goal
-
-pub returns : goal.returns
-returns c = c.answer_of.ensures c.args.problem.now c.args.budget c.requires.problem c.in_ok-solved.ensures

@@ -1,0 +1,10 @@
+pub mod Commands
+pub mod CoreTexts
+pub mod BestTexts
+pub mod Statuses
+pub mod Solved
+pub mod Told
+pub mod Teams
+pub mod Endings
+pub mod Texts
+pub mod Runs
