@@ -1,6 +1,6 @@
 //! Rows that were worked by hand, as the definitions compute them.
 
-ghost use Rattle.std.specs.Prelude.{◌≡◌, ℕ, pos, negsuc, true, false, List, [], ◌∷◌, ◌++◌, Option, Some, None, codes};
+ghost use Rattle.std.specs.Prelude.{◌≡◌, pos, negsuc, true, false, [], ◌∷◌, Some, None, codes};
 ghost use Rattle.mono_io.specs.declared.refusal.ReadRefusal.TheVariants as reading;
 ghost use Rattle.mono_gnf.specs.declared.fault.GnfFault.TheVariants as fault;
 ghost use Rattle.mono_gnf.specs.declared.refusal.GnfRefusal.TheVariants as form;

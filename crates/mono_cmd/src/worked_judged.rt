@@ -1,6 +1,6 @@
 //! Worked rows: whose verdict is written, what a refusal names, and of which words a process exits.
 
-ghost use Rattle.std.specs.Prelude.{◌≡◌, ℕ, ℤ, pos, List, [], ◌∷◌, Option, Some, None, codes};
+ghost use Rattle.std.specs.Prelude.{ℕ, ℤ, pos, List, [], ◌∷◌, Option, Some, None, codes};
 ghost use Rattle.mono_problem.specs.Assuming.{HasRoom};
 ghost use Rattle.mono_problem.specs.Instance.{Instance};
 ghost use Rattle.mono_gnf.specs.Stands.{Stands};

@@ -1,6 +1,5 @@
 -- The lines that `core` writes, one after the other.
-use Rattle.std.proofs.Common.{◌≡◌, ℕ, zero, suc, ◌+◌, ◌<◌, ◌≤◌, min, List, [], ◌∷◌, ◌++◌, length, get_or, take, drop, map, flat_map, codes, ℤ, refl, sym, ap, ◌∙◌, append_assoc, arith}
-use Rattle.std.proofs.lemmas.List.{flat_map_more, map-append, take_more}
+use Rattle.std.proofs.Common.{◌≡◌, ℕ, zero, suc, ◌+◌, ◌<◌, ◌≤◌, min, List, [], ◌∷◌, ◌++◌, length, get_or, drop, map, flat_map, codes, ℤ, refl, sym, ap, ◌∙◌, append_assoc, arith}
 use Rattle.mono_text.specs.Text.{spaced}
 use Rattle.mono_steps.specs.declared.step.Step.{Step}
 use Rattle.mono_steps.specs.declared.step.Step.TheVariants as step
@@ -24,12 +23,6 @@ noted_status out = append_assoc out (codes "c ") (spaced (status_line kind.Progr
 
 pub progress_lines : (out : List ℕ) (steps : List Step) → (out ++ note (status_line kind.Progress)) ++ flat_map note (map step_line steps) ≡ out ++ flat_map note (answer_lines (answer.Progress steps))
 progress_lines out steps = append_assoc out (note (status_line kind.Progress)) (flat_map note (map step_line steps))
-
-pub notes_more : (out : List ℕ) (steps : List Step) (i : ℕ) (d : Step) → i < length steps
-    → (out ++ flat_map note (map step_line (take i steps))) ++ note (step_line (get_or steps i d)) ≡ out ++ flat_map note (map step_line (take (i + 1) steps))
-notes_more out steps i d lt =
-    flat_map_more note out (map step_line (take i steps)) (step_line (get_or steps i d))
-    ∙ ap (λ (ls : List (List (List ℕ))). out ++ flat_map note ls) (sym (ap (map step_line) (take_more steps i d lt) ∙ map-append step_line (take i steps) (get_or steps i d ∷ [])))
 
 -- ---- needs
 

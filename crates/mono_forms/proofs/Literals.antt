@@ -119,13 +119,6 @@ are_assumptions f ws =
     by_count true o = refl
     by_count false o = refl
 
-pub assumptions_all : (ws : List (List ℕ)) → is_some (assumptions_of ws) ≡ true → lits_of ws ≡ assumptions_of ws
-assumptions_all ws h = by_count (nat_le 1 (length ws) && nat_le (length ws) MAX_ASSUMPTIONS) h
-  where
-    by_count : (b : Bool) → is_some (if b then lits_of ws else None) ≡ true → lits_of ws ≡ (if b then lits_of ws else None)
-    by_count true k = refl
-    by_count false k = let e : false ≡ true = k in absurd cc
-
 pub assumptions_none : (o : Option (List ℤ)) → is_some o ≡ false → None ≡ o
 assumptions_none None h = refl
 assumptions_none (Some ls) h = let e : true ≡ false = h in absurd cc

@@ -4,6 +4,8 @@ ghost use Rattle.std.specs.Prelude.{◌≡◌, IfOk, IfSome, None};
 ghost use Rattle.mono_problem.specs.WellFormed.{IsInstance};
 ghost use Rattle.mono_best.specs.Asking.{HasBoundedAtom, HasRoomToAsk, predicate_of};
 ghost use Rattle.mono_best.specs.Bounds.{IsBoundOf};
+ghost use Rattle.mono_gnf.specs.Printed.{printed as printed_form};
+ghost use Rattle.mono_forms.specs.declared.ending.Ending.TheVariants.{Printed};
 ghost use Rattle.mono_forms.specs.declared.command.TheConstants.{DEFAULT_BUDGET};
 ghost use Rattle.mono_forms.specs.BestTexts.{refusal_text};
 ghost use Rattle.mono_forms.specs.Runs.{IsAsked, IsBounded, IsUnasked};
@@ -80,7 +82,15 @@ pub(crate) fn ask_ending(
     if let Some(refusal) = ask_refusal(problem, atom, bound) {
         return Ok(Ending::Unasked(refusal));
     }
-    let text = print_gnf(alloc, &ask(problem, atom, bound)?)?;
+    let asked = ask(problem, atom, bound)?;
+    printed(alloc, &asked)
+}
+
+/// A problem, printed. It only borrows the problem, so that dropping it, a large value, is written out once.
+pub(crate) fn printed(alloc: Global, problem: &Problem) -> Result<Ending, AllocError>
+    ensures { IfOk result (λ ending. ending ≡ Printed (printed_form problem.now)) }
+{
+    let text = print_gnf(alloc, problem)?;
     Ok(Ending::Printed(Row::from_vec(text)))
 }
 

@@ -15,7 +15,7 @@ ghost use Rattle.mono_forms.specs.Solved.{IsSummary};
 ghost use Rattle.mono_forms.specs.Commands.{command_of};
 ghost use Rattle.mono_forms.specs.Runs.{Ends, EndsAtFile, HasProblem, IsGenerated};
 
-use crate::asking::{ask_ending, best_ending};
+use crate::asking::{ask_ending, best_ending, printed};
 use crate::command::{Command, MAX_MIGRATED_BYTES};
 use crate::ending::Ending;
 use crate::solving::{answer_to, core_of};
@@ -28,7 +28,7 @@ use mono_base::{Lit, Row};
 use mono_check::{Migrated, Verdict, migrate, verdict_from};
 use mono_core::{has_room, with_lits};
 use mono_gen::{GenKind, generate};
-use mono_gnf::{GnfFault, GnfRefusal, print_gnf, read_gnf};
+use mono_gnf::{GnfFault, GnfRefusal, read_gnf};
 use mono_io::{Shelf, read_whole};
 use mono_problem::Problem;
 use std::alloc::Global;
@@ -122,7 +122,21 @@ fn migration<S: Shelf>(
 ) -> Result<Ending, Ending>
     ensures { let ends = Ends (Some (Command.Migrate file.now answer.now version)) (S.seen shelf.old) (S.seen shelf.new) in MatchResult result ends ends }
 {
-    let problem = &read_problem(alloc, shelf, file)?;
+    let input = read_problem(alloc, shelf, file)?;
+    migrated(alloc, shelf, &input, answer, version)
+}
+
+/// What `migrate` comes to behind FILE. It only borrows the problem, as `judged_with` does.
+fn migrated<S: Shelf>(
+    alloc: Global,
+    shelf: &mut S,
+    problem: &Problem,
+    answer: &str,
+    version: Version,
+) -> Result<Ending, Ending>
+    ensures { (file : List ℕ) (old : ShelfView) → HasProblem file old (S.seen shelf.old) problem.now
+        → let ends = Ends (Some (Command.Migrate file answer.now version)) old (S.seen shelf.new) in MatchResult result ends ends }
+{
     let text = read_whole(alloc, shelf, answer, MAX_MIGRATED_BYTES)?;
     match migrate(alloc, problem, text.as_slice(), version)? {
         Migrated::Text(text) => Ok(Ending::Printed(text)),
@@ -236,8 +250,8 @@ fn team<S: Shelf>(
 fn print<S: Shelf>(alloc: Global, shelf: &mut S, file: &str) -> Result<Ending, Ending>
     ensures { let ends = Ends (Some (Command.Print file.now)) (S.seen shelf.old) (S.seen shelf.new) in MatchResult result ends ends }
 {
-    let text = print_gnf(alloc, &read_problem(alloc, shelf, file)?)?;
-    Ok(Ending::Printed(Row::from_vec(text)))
+    let input = read_problem(alloc, shelf, file)?;
+    Ok(printed(alloc, &input)?)
 }
 
 /// `gen KIND SIZE SEED`, with `--solve` or without: no file is read.

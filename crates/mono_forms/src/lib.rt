@@ -19,7 +19,7 @@ mod forms;
 /// What holds of the definitions alone.
 pub mod laws;
 /// Lines that take no memory.
-pub mod line;
+mod line;
 /// Answers to problems.
 mod solving;
 /// How a run ends.

@@ -20,7 +20,7 @@ use mono_search::{Solved, solve};
 use std::alloc::{AllocError, Global};
 
 /// What the search comes to when it may learn so many clauses: a model, a refutation, or as much progress.
-pub fn answer_to(alloc: Global, problem: &Problem, budget: u64) -> Result<Answer, AllocError>
+pub(crate) fn answer_to(alloc: Global, problem: &Problem, budget: u64) -> Result<Answer, AllocError>
     requires problem { IsInstance problem.now }
     requires budget { 1 ≤ budget }
     ensures { IfOk result (IsSolution problem.now budget) }
@@ -42,7 +42,11 @@ fn answer_of(solved: Solved) -> Answer
 }
 
 /// What is found of a problem under assumptions, with the budget of `solve`.
-pub fn core_of(alloc: Global, problem: &Problem, lits: &[Lit]) -> Result<CoreOutcome, AllocError>
+pub(crate) fn core_of(
+    alloc: Global,
+    problem: &Problem,
+    lits: &[Lit],
+) -> Result<CoreOutcome, AllocError>
     requires problem { IsInstance problem.now }
     requires literals { All (IsLitWithin MAX_VARS) lits.now }
     requires room { HasRoom problem.now lits.now }

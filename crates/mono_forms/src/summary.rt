@@ -34,7 +34,7 @@ pub struct Summary {
 }
 
 /// Solves the problem, with the budget of `solve`, and asks the checker for its verdict on the answer's text.
-pub fn sum_up(alloc: Global, problem: &Problem) -> Result<Summary, AllocError>
+pub(crate) fn sum_up(alloc: Global, problem: &Problem) -> Result<Summary, AllocError>
     requires { IsInstance problem.now }
     ensures { IfOk result (IsSummary problem.now DEFAULT_BUDGET) }
 {
@@ -66,7 +66,7 @@ fn progress_of(alloc: Global, answer: &Answer, text: Vec<u8>) -> Row<u8>
 
 impl Summary {
     /// The six lines, and behind them the text of progress.
-    pub fn text(&self, alloc: Global) -> Result<Vec<u8>, AllocError>
+    pub(crate) fn text(&self, alloc: Global) -> Result<Vec<u8>, AllocError>
         ensures { IfOk result (λ text. text.items ≡ summary_text self.now) }
     {
         let mut out = self.sizes_text(alloc)?;

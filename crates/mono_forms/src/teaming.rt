@@ -17,7 +17,7 @@ use mono_steps::{Step, trimmed};
 use std::alloc::{AllocError, Global};
 
 /// What so many workers come to in so many rounds: a model, a refutation, or the board of all rounds.
-pub fn team_answer(
+pub(crate) fn team_answer(
     alloc: Global,
     problem: &Problem,
     workers: u32,

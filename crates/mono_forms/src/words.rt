@@ -16,7 +16,7 @@ use mono_text::{natural, signed};
 use std::alloc::{AllocError, Global};
 
 /// The command that the words behind the program's name are: `None` exactly where they are no command. Those take no memory.
-pub fn command(alloc: Global, words: &[String]) -> Result<Option<Command>, AllocError>
+pub(crate) fn command(alloc: Global, words: &[String]) -> Result<Option<Command>, AllocError>
     ensures form { IfOk result (λ found. found ≡ command_of (map string_bytes words.now)) }
     ensures ranges { IfOk result (λ found. IfSome found IsWithinRange) }
     ensures err { OnErr result (IsSome (command_of (map string_bytes words.now))) }
