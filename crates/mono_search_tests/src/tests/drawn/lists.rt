@@ -6,6 +6,7 @@ use super::trial::Trial;
 use mono_base::Lit;
 use mono_kinds::AnyTheory;
 use mono_problem::Problem;
+use mono_steps::Lemma;
 use mono_theory::{Finding, Force, Theory};
 use rand_core::utils::NextWord;
 use rand_pcg::Lcg64Xsh32;
@@ -26,6 +27,12 @@ struct Judged {
     quiet: bool,
 }
 
+/// An answer of Quiet.
+const QUIET: Judged = Judged {
+    right: true,
+    quiet: true,
+};
+
 /// A literal.
 fn drawn_literal(words: &mut Lcg64Xsh32) -> Option<Lit> {
     let var = (words.next_word() % GREATEST_VAR + 1) as i32;
@@ -33,43 +40,49 @@ fn drawn_literal(words: &mut Lcg64Xsh32) -> Option<Lit> {
     Lit::new(if value { var } else { -var })
 }
 
-/// Asks what is forced, and for its lemma once that and a drawn literal were seen too.
-fn force(
+/// Whether the atom forces the literal, and the lemma of it rests on the literals seen before.
+fn is_late_lemma(
     alloc: Global,
     problem: &Problem,
-    trial: &mut Trial<AnyTheory>,
+    before: &[Lit],
+    lemma: &Lemma,
+    atom: u32,
+    lit: Lit,
+) -> Result<bool, AllocError> {
+    Ok(
+        is_forced(alloc, problem, before, atom, lit)?
+            && is_justified(alloc, problem, lemma)?
+            && lemma.atom == atom
+            && explains(before, lemma.clause.lits(), lit),
+    )
+}
+
+/// Asks what is forced, and for its lemma once that and a drawn literal were seen too.
+fn force<T: Theory>(
+    alloc: Global,
+    problem: &Problem,
+    trial: &mut Trial<T>,
     words: &mut Lcg64Xsh32,
 ) -> Result<Judged, AllocError> {
-    let before = Vec::from_slice(alloc, trial.seen())?;
     let Force::Literal { atom, lit } = trial.force()? else {
-        return Ok(Judged {
-            right: true,
-            quiet: true,
-        });
+        return Ok(QUIET);
     };
+    let before = Vec::from_slice(alloc, trial.seen())?;
     let lemma = trial.late_lemma(atom, lit, drawn_literal(words))?;
-    let lits = before.as_slice();
-    let right = is_forced(alloc, problem, lits, atom, lit)?
-        && is_justified(alloc, problem, &lemma)?
-        && lemma.atom == atom
-        && explains(lits, lemma.clause.lits(), lit);
     Ok(Judged {
-        right,
+        right: is_late_lemma(alloc, problem, before.as_slice(), &lemma, atom, lit)?,
         quiet: false,
     })
 }
 
 /// Asks for the lemma of what is forced.
-fn propagate(
+fn propagate<T: Theory>(
     alloc: Global,
     problem: &Problem,
-    trial: &mut Trial<AnyTheory>,
+    trial: &mut Trial<T>,
 ) -> Result<Judged, AllocError> {
     let Finding::Lemma(lemma) = trial.propagate()? else {
-        return Ok(Judged {
-            right: true,
-            quiet: true,
-        });
+        return Ok(QUIET);
     };
     let right = is_justified(alloc, problem, &lemma)?
         && trial.theory().owns(lemma.atom)
@@ -81,10 +94,10 @@ fn propagate(
 }
 
 /// Makes a drawn call.
-fn call(
+fn call<T: Theory>(
     alloc: Global,
     problem: &Problem,
-    trial: &mut Trial<AnyTheory>,
+    trial: &mut Trial<T>,
     words: &mut Lcg64Xsh32,
 ) -> Result<Judged, AllocError> {
     let kind = words.next_word() % 8;
