@@ -11,6 +11,7 @@ ended as it should.
 from __future__ import annotations
 
 import argparse
+import ctypes
 import itertools
 import os
 import signal
@@ -27,6 +28,7 @@ from runs import MOST_STOPPED
 
 BASE = 4_000  # kB that a run takes without a file
 MOST_BYTES = 2**28  # of an input
+PR_SET_THP_DISABLE = 41  # Linux: no huge pages for a process and those that it begins
 FORMATS = Path(__file__).resolve().parents[1] / "docs" / "FORMATS.md"
 
 # Clauses 2 and 3 turn {1} into {2} and back, as often as a chain names them.
@@ -225,11 +227,17 @@ class Runs:
             print(f"{row}, {1_000 * (found.peak - BASE) / size:.1f} times" if size > 1_000_000 else row, flush=True)
 
 
+def use_small_pages() -> None:
+    """Has runs take memory in small pages: some machines hand out huge ones, of which all counts for one byte."""
+    ctypes.CDLL(None).prctl(PR_SET_THP_DISABLE, 1, 0, 0, 0)
+
+
 def main() -> None:
     parser = flags.parser(__doc__, limit=600)
     parser.add_argument("--large", action="store_true", help="texts 50 times as long, and a row for each")
     parser.add_argument("--only", metavar="NAME", help="the files of this name alone, as a row has it")
     args = parser.parse_args()
+    use_small_pages()
     long_answer = 300_000_000 if args.large else 6_000_000
     long_input = min(long_answer, MOST_BYTES - 100)
     with tempfile.TemporaryDirectory() as folder:
