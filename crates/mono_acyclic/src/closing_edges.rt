@@ -21,7 +21,6 @@ const FIRST_CREDIT: u32 = 2000;
 const CREDIT_OF_EDGE: u32 = 50;
 
 /// Edges that were found and weren't taken, and room to search for more.
-#[derive(Drop)]
 pub(crate) struct ClosingEdges {
     /// The nodes from which walks lead to the beginning of an edge.
     before: NodeSet,
@@ -30,6 +29,17 @@ pub(crate) struct ClosingEdges {
     found: Vec<u32>,
     /// How many searches are still to be made.
     credit: u32,
+}
+
+impl Drop for ClosingEdges {
+    fn drop(self) {
+        let ClosingEdges {
+            before: _,
+            after: _,
+            found: _,
+            credit: _,
+        } = self;
+    }
 }
 
 /// The beginnings of those of these edges that are present join.

@@ -33,7 +33,6 @@ pub struct Closing {
 }
 
 /// The surely present edges in an order, or a cycle that they have.
-#[derive(Drop)]
 pub struct OrderedEdges {
     alloc: Global,
     /// The edges of the literals before the one that closed a cycle, or of all.
@@ -43,6 +42,18 @@ pub struct OrderedEdges {
     closers: ClosingEdges,
     /// Through the edges of how many first literals they were looked for.
     searched: usize,
+}
+
+impl Drop for OrderedEdges {
+    fn drop(self) {
+        let OrderedEdges {
+            alloc: _,
+            ordered: _,
+            closing: _,
+            closers: _,
+            searched: _,
+        } = self;
+    }
 }
 
 impl Model for OrderedEdges {

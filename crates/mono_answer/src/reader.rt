@@ -23,7 +23,6 @@ use std::alloc::{AllocError, Global};
 use std::mem::replace;
 
 /// Room for the lists of a line.
-#[derive(Drop)]
 struct Room {
     alloc: Global,
     lits: Vec<Lit>,
@@ -32,6 +31,20 @@ struct Room {
     labels: Vec<Label>,
     amounts: Vec<Amount>,
     used: Vec<u64>,
+}
+
+impl Drop for Room {
+    fn drop(self) {
+        let Room {
+            alloc: _,
+            lits: _,
+            values: _,
+            names: _,
+            labels: _,
+            amounts: _,
+            used: _,
+        } = self;
+    }
 }
 
 /// Reads lines of answers, with room that is kept from line to line.

@@ -18,11 +18,20 @@ use std::marker::Model;
 
 /// Two parts by the values of the edges' variables: the edges whose variable is true, and those whose variable isn't
 /// false. At first no variable has a value.
-#[derive(Drop)]
 pub struct Bounds {
     vars: Index,
     under: Part,
     over: Part,
+}
+
+impl Drop for Bounds {
+    fn drop(self) {
+        let Bounds {
+            vars: _,
+            under: _,
+            over: _,
+        } = self;
+    }
 }
 
 impl Model for Bounds {

@@ -17,12 +17,21 @@ use std::marker::Model;
 
 /// The keys of some places, and the places of each key. Contracts see the key of each place, and the places in the order of
 /// their keys.
-#[derive(Drop)]
 pub struct Index {
     keys: Vec<u32>,
     entries: Entries,
     /// The places of the entries, in their order.
     places: Vec<u32>,
+}
+
+impl Drop for Index {
+    fn drop(self) {
+        let Index {
+            keys: _,
+            entries: _,
+            places: _,
+        } = self;
+    }
 }
 
 impl Model for Index {

@@ -18,7 +18,6 @@ use mono_trees::TreeFinder;
 use std::alloc::{AllocError, Global};
 
 /// The part of a problem's graph that an assignment enables, with room for searches.
-#[derive(Drop)]
 pub(crate) struct EnabledPart {
     /// The place of the graph.
     pub graph: u32,
@@ -29,6 +28,20 @@ pub(crate) struct EnabledPart {
     cycles: CycleFinder,
     /// Whether the part holds no cycle, once that was asked.
     acyclic: Option<bool>,
+}
+
+impl Drop for EnabledPart {
+    fn drop(self) {
+        let EnabledPart {
+            graph: _,
+            part: _,
+            walks: _,
+            flows: _,
+            trees: _,
+            cycles: _,
+            acyclic: _,
+        } = self;
+    }
 }
 
 impl EnabledPart {

@@ -24,7 +24,6 @@ use std::alloc::{AllocError, Global};
 ///
 /// Each line is judged as soon as it has ended. Then only what later lines are judged by is kept: the clauses of the
 /// steps, or the literals of a model.
-#[derive(Drop)]
 pub(crate) struct Judge {
     alloc: Global,
     reader: ItemReader,
@@ -33,6 +32,18 @@ pub(crate) struct Judge {
     lines: u64,
     /// The bytes of the next line that have come.
     unfinished: Vec<u8>,
+}
+
+impl Drop for Judge {
+    fn drop(self) {
+        let Judge {
+            alloc: _,
+            reader: _,
+            said: _,
+            lines: _,
+            unfinished: _,
+        } = self;
+    }
 }
 
 /// The verdict on the text of an answer to the problem, for all bytes.

@@ -18,7 +18,6 @@ use mono_steps::{Chain, Clause, Lemma, Step, StepChecker, StepFault};
 use std::alloc::{AllocError, Global};
 
 /// What the lines of steps have said so far.
-#[derive(Drop)]
 pub(crate) struct StepLines {
     checker: StepChecker,
     /// The clauses of the steps.
@@ -29,6 +28,18 @@ pub(crate) struct StepLines {
     last: Option<u64>,
     /// Whether the last step is a chain with the empty clause.
     ends_empty: bool,
+}
+
+impl Drop for StepLines {
+    fn drop(self) {
+        let StepLines {
+            checker: _,
+            earlier: _,
+            chains: _,
+            last: _,
+            ends_empty: _,
+        } = self;
+    }
 }
 
 fn reason(fault: StepFault) -> Reason

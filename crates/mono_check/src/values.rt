@@ -23,7 +23,6 @@ use mono_problem::Problem;
 use std::alloc::{AllocError, Global};
 
 /// What the lines of a model have said so far.
-#[derive(Drop)]
 pub(crate) struct Values {
     /// The literals.
     set: LitSet,
@@ -31,6 +30,16 @@ pub(crate) struct Values {
     end: Option<u64>,
     /// The last line.
     last: Option<u64>,
+}
+
+impl Drop for Values {
+    fn drop(self) {
+        let Values {
+            set: _,
+            end: _,
+            last: _,
+        } = self;
+    }
 }
 
 /// Whether the line has an ending 0.

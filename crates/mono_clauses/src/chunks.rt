@@ -15,7 +15,6 @@ use std::alloc::AllocError;
 pub const END: u32 = 0xffff_ffff;
 
 /// The pool of the chunks.
-#[derive(Drop)]
 pub struct Chunks {
     /// Watchers, eight cells a chunk.
     pub cells: Vec<u32>,
@@ -23,6 +22,16 @@ pub struct Chunks {
     pub links: Vec<u32>,
     /// The first places of the chunks in no stack.
     pub free: Vec<u32>,
+}
+
+impl Drop for Chunks {
+    fn drop(self) {
+        let Chunks {
+            cells: _,
+            links: _,
+            free: _,
+        } = self;
+    }
 }
 
 /// The place below one of a stack.

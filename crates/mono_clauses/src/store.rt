@@ -18,12 +18,21 @@ use std::marker::Model;
 ///
 /// Contracts see the number of variables, the clauses in the order in which they were added, and which literals are
 /// watched: what else the store must know about a trail is the relation `Follows`.
-#[derive(Drop)]
 pub struct ClauseStore {
     clauses: Clauses,
     watches: Watches,
     /// The places of the clauses that are looked at by the next propagation.
     due: Vec<usize>,
+}
+
+impl Drop for ClauseStore {
+    fn drop(self) {
+        let ClauseStore {
+            clauses: _,
+            watches: _,
+            due: _,
+        } = self;
+    }
 }
 
 impl Model for ClauseStore {

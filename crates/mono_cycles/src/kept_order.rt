@@ -21,7 +21,6 @@ use std::marker::Model;
 
 /// An order of the nodes of a graph. Contracts see it, and the cycle that an edge
 /// closed last. Only `new` takes memory.
-#[derive(Drop)]
 pub struct KeptOrder {
     order: Vec<u32>,
     /// By node: where it stands in the order.
@@ -30,6 +29,18 @@ pub struct KeptOrder {
     behind: Behind,
     buffer: Vec<u32>,
     cycle: Vec<u32>,
+}
+
+impl Drop for KeptOrder {
+    fn drop(self) {
+        let KeptOrder {
+            order: _,
+            ranks: _,
+            behind: _,
+            buffer: _,
+            cycle: _,
+        } = self;
+    }
 }
 
 impl Model for KeptOrder {

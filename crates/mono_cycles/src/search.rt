@@ -14,7 +14,6 @@ use mono_graph::{Graph, Part};
 use std::alloc::{AllocError, Global};
 
 /// What is known of the nodes so far.
-#[derive(Drop)]
 pub struct CycleSearch {
     /// By node: which of the edges that enter it is looked at next. Those before it are absent or begin at nodes that are done.
     pub next: Vec<usize>,
@@ -26,6 +25,19 @@ pub struct CycleSearch {
     /// By place on the path: the edge that was taken to it. There is none at the root.
     pub taken: Vec<u32>,
     pub order: Vec<u32>,
+}
+
+impl Drop for CycleSearch {
+    fn drop(self) {
+        let CycleSearch {
+            next: _,
+            on_path: _,
+            done: _,
+            path: _,
+            taken: _,
+            order: _,
+        } = self;
+    }
 }
 
 /// Which of these edges, from some place in the list on, is the first that is present and begins at a node that isn't done.

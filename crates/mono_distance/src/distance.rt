@@ -27,11 +27,20 @@ use std::alloc::{AllocError, Global};
 use std::marker::Model;
 
 /// Predicates on walks within a number of edges or a weight, with room to search graphs with one number of nodes.
-#[derive(Drop)]
 pub struct Distance {
     finder: WalkFinder,
     mender: WalkMender,
     table: LabelTable,
+}
+
+impl Drop for Distance {
+    fn drop(self) {
+        let Distance {
+            finder: _,
+            mender: _,
+            table: _,
+        } = self;
+    }
 }
 
 impl Model for Distance {

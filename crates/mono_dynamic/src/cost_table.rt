@@ -15,7 +15,6 @@ use std::alloc::{AllocError, Global};
 use std::marker::Model;
 
 /// A label for each node, from 0 to a cap, and the changes that led to them.
-#[derive(Drop)]
 pub struct CostTable {
     limit: Limit,
     cap: u64,
@@ -23,6 +22,18 @@ pub struct CostTable {
     /// By node: which change gave it its label, counted from 1.
     latest: Vec<usize>,
     changes: Vec<Change>,
+}
+
+impl Drop for CostTable {
+    fn drop(self) {
+        let CostTable {
+            limit: _,
+            cap: _,
+            labels: _,
+            latest: _,
+            changes: _,
+        } = self;
+    }
 }
 
 /// The label of a node after some steps, and which change gave it, counted from 1.

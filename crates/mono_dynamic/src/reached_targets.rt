@@ -27,12 +27,22 @@ use std::marker::Model;
 ///
 /// Contracts see the walks of the last search, the targets, since how many steps what the walks lack is known to be out of
 /// reach, and by which step an edge of the walks went.
-#[derive(Drop)]
 pub struct ReachedTargets {
     tree: SearchTree,
     targets: Vec<WalkTarget>,
     since: Option<u32>,
     lost: Option<u32>,
+}
+
+impl Drop for ReachedTargets {
+    fn drop(self) {
+        let ReachedTargets {
+            tree: _,
+            targets: _,
+            since: _,
+            lost: _,
+        } = self;
+    }
 }
 
 impl Model for ReachedTargets {

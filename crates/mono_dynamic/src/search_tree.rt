@@ -32,11 +32,16 @@ use std::marker::Model;
 /// it, and what walks to them cost at least.
 ///
 /// `new` and `search` take memory.
-#[derive(Drop)]
 pub struct SearchTree {
     kept: ReachedNodes,
     /// The least costs, where walks cost something.
     costs: Option<LeastCosts>,
+}
+
+impl Drop for SearchTree {
+    fn drop(self) {
+        let SearchTree { kept: _, costs: _ } = self;
+    }
 }
 
 impl Model for SearchTree {

@@ -21,11 +21,16 @@ use std::marker::Model;
 
 /// Room for searches in graphs with some number of nodes, which is kept from one search to the next. Contracts see that
 /// number.
-#[derive(Drop)]
 pub struct TreeSearch {
     found: ReachedNodes,
     /// Arrivals, each by way of the next.
     way: Vec<u32>,
+}
+
+impl Drop for TreeSearch {
+    fn drop(self) {
+        let TreeSearch { found: _, way: _ } = self;
+    }
 }
 
 impl Model for TreeSearch {

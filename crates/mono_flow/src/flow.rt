@@ -27,13 +27,24 @@ use std::alloc::{AllocError, Global};
 use std::marker::Model;
 
 /// Predicates on flows, with room to search graphs with one number of nodes, and flows with which searches begin.
-#[derive(Drop)]
 pub struct Flow {
     finder: FlowFinder,
     marks: NodeMarks,
     growth: CutGrowth,
     paths: NodePaths,
     kept: KeptFlows,
+}
+
+impl Drop for Flow {
+    fn drop(self) {
+        let Flow {
+            finder: _,
+            marks: _,
+            growth: _,
+            paths: _,
+            kept: _,
+        } = self;
+    }
 }
 
 impl Model for Flow {

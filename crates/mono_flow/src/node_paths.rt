@@ -31,7 +31,6 @@ struct NodeSide {
 }
 
 /// Paths that share no node, and room for finding them.
-#[derive(Drop)]
 pub(crate) struct NodePaths {
     /// By node: the edge by which a path enters it.
     entering: Vec<u32>,
@@ -48,6 +47,21 @@ pub(crate) struct NodePaths {
     credit: u32,
     /// Whether the graph's edges carry 1 at most, once that was looked at.
     light: Option<bool>,
+}
+
+impl Drop for NodePaths {
+    fn drop(self) {
+        let NodePaths {
+            entering: _,
+            leaving: _,
+            touched: _,
+            entered: _,
+            left: _,
+            sides: _,
+            credit: _,
+            light: _,
+        } = self;
+    }
 }
 
 /// The side at a place, if there is one.

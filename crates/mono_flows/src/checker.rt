@@ -18,7 +18,6 @@ use std::alloc::{AllocError, Global};
 use std::marker::Model;
 
 /// Tests flows and cuts in graphs with one number of nodes and one of edges, which is what contracts see of it.
-#[derive(Drop)]
 pub struct FlowChecker {
     /// By place: whether it was listed.
     listed: Vec<bool>,
@@ -26,6 +25,17 @@ pub struct FlowChecker {
     /// By node: whether it is in the set, and whether what leaves it was counted.
     inside: Vec<bool>,
     counted: Vec<bool>,
+}
+
+impl Drop for FlowChecker {
+    fn drop(self) {
+        let FlowChecker {
+            listed: _,
+            sums: _,
+            inside: _,
+            counted: _,
+        } = self;
+    }
 }
 
 impl Model for FlowChecker {

@@ -38,7 +38,6 @@ use std::mem;
 /// Finds flows in graphs with one number of nodes, which is what contracts see of it.
 ///
 /// It keeps the room of a search by node and by edge from one call to the next, and clears only what a call touched.
-#[derive(Drop)]
 pub struct FlowFinder {
     search: AugmentingSearch,
     levels: LevelGraph,
@@ -47,6 +46,19 @@ pub struct FlowFinder {
     room: EdgeRoom,
     /// Room for what edges carry while a kept flow is mended.
     mending: Vec<u64>,
+}
+
+impl Drop for FlowFinder {
+    fn drop(self) {
+        let FlowFinder {
+            search: _,
+            levels: _,
+            path: _,
+            sums: _,
+            room: _,
+            mending: _,
+        } = self;
+    }
 }
 
 impl Model for FlowFinder {

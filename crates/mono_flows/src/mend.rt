@@ -29,12 +29,21 @@ struct Imbalance {
 }
 
 /// What each edge carries, by place, and what is to be taken back still.
-#[derive(Drop)]
 struct Preflow {
     amounts: Vec<u64>,
     /// Edges with each one that carries something, perhaps more than once.
     touched: Vec<u32>,
     pending: Vec<Imbalance>,
+}
+
+impl Drop for Preflow {
+    fn drop(self) {
+        let Preflow {
+            amounts: _,
+            touched: _,
+            pending: _,
+        } = self;
+    }
 }
 
 /// A table of so many amounts: this one, if it has that length.

@@ -25,12 +25,22 @@ pub enum EdgeRefusal {
 /// A number of nodes and a list of edges with rising numbers.
 ///
 /// Nodes are counted from 0. Inside the graph an edge is named by its place in the list, from 0.
-#[derive(Drop)]
 pub struct Graph {
     nodes: u32,
     edges: Vec<Edge>,
     leaving: Buckets<u32>,
     entering: Buckets<u32>,
+}
+
+impl Drop for Graph {
+    fn drop(self) {
+        let Graph {
+            nodes: _,
+            edges: _,
+            leaving: _,
+            entering: _,
+        } = self;
+    }
 }
 
 impl Model for Graph {

@@ -23,13 +23,24 @@ struct Chosen {
 /// Contracts see its texts, the chosen name and the place in it, the most bytes that a read gives, how often
 /// a name was begun, and the plan of its faults: the calls so far, the numbers of those that are to fail, and
 /// how many have failed.
-#[derive(Drop)]
 pub struct MemoryShelf {
     texts: TextTable,
     chosen: Option<Chosen>,
     most: usize,
     begun: u64,
     plan: FaultPlan,
+}
+
+impl Drop for MemoryShelf {
+    fn drop(self) {
+        let MemoryShelf {
+            texts: _,
+            chosen: _,
+            most: _,
+            begun: _,
+            plan: _,
+        } = self;
+    }
 }
 
 impl Model for MemoryShelf {

@@ -11,7 +11,6 @@ use mono_tree::TreeTheory;
 use std::alloc::AllocError;
 
 /// A theory of any kind.
-#[derive(Drop)]
 pub enum AnyTheory {
     /// Predicates of reachability.
     Reach(ReachTheory),
@@ -23,6 +22,18 @@ pub enum AnyTheory {
     Tree(TreeTheory),
     /// Predicates on cycles.
     Acyclic(AcyclicTheory),
+}
+
+impl Drop for AnyTheory {
+    fn drop(self) {
+        match self {
+            AnyTheory::Reach(_) => {}
+            AnyTheory::Distance(_) => {}
+            AnyTheory::Flow(_) => {}
+            AnyTheory::Tree(_) => {}
+            AnyTheory::Acyclic(_) => {}
+        }
+    }
 }
 
 /// One call of the theory, whatever its kind.

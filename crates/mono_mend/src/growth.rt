@@ -15,7 +15,6 @@ use std::alloc::{AllocError, Global};
 const MOST_NODES: u32 = 2000;
 
 /// The nodes that were reached, and those that are to be looked at.
-#[derive(Drop)]
 pub(crate) struct Growth {
     /// By node.
     pub marks: Vec<Mark>,
@@ -25,6 +24,17 @@ pub(crate) struct Growth {
     pub front: Vec<u32>,
     /// The nodes from which the search from behind goes on, in order.
     pub behind: Vec<u32>,
+}
+
+impl Drop for Growth {
+    fn drop(self) {
+        let Growth {
+            marks: _,
+            reached: _,
+            front: _,
+            behind: _,
+        } = self;
+    }
 }
 
 /// No node was reached.

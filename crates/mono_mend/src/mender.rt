@@ -32,13 +32,23 @@ const LEAST_ROUNDS: u64 = 6;
 /// Mends walks in graphs with some number of nodes. Contracts see that number.
 ///
 /// It keeps its room from call to call, and clears what the call before has reached.
-#[derive(Drop)]
 pub struct WalkMender {
     growth: Growth,
     by_steps: Guide,
     by_weight: Guide,
     /// How many nodes the searches between two nodes that nothing guided have reached, up to the last value of the type.
     reached: u64,
+}
+
+impl Drop for WalkMender {
+    fn drop(self) {
+        let WalkMender {
+            growth: _,
+            by_steps: _,
+            by_weight: _,
+            reached: _,
+        } = self;
+    }
 }
 
 impl Model for WalkMender {

@@ -17,11 +17,16 @@ use std::marker::Model;
 /// Tests witnesses in graphs with some number of nodes. Contracts see that number.
 ///
 /// Its calls are those of the same names, for a caller that makes many. They take no memory.
-#[derive(Drop)]
 pub struct WalkChecker {
     table: LabelTable,
     /// By node: whether its edges have been looked at.
     seen: Vec<bool>,
+}
+
+impl Drop for WalkChecker {
+    fn drop(self) {
+        let WalkChecker { table: _, seen: _ } = self;
+    }
 }
 
 impl Model for WalkChecker {

@@ -20,11 +20,20 @@ use mono_graph::{Graph, Limit, Part};
 use std::alloc::{AllocError, Global};
 
 /// Labels, the visits that lowered them, and which of these wait.
-#[derive(Drop)]
 pub struct LabelSearch {
     pub labels: Labels,
     pub visits: Vec<Visit>,
     pub waiting: Waiting,
+}
+
+impl Drop for LabelSearch {
+    fn drop(self) {
+        let LabelSearch {
+            labels: _,
+            visits: _,
+            waiting: _,
+        } = self;
+    }
 }
 
 /// Sets the labels to the cap and that of the start to 0, and makes the one visit there.

@@ -26,7 +26,6 @@ use std::alloc::{AllocError, Global};
 use std::marker::Model;
 
 /// Workers that each search over a problem and the clauses that they took from the board.
-#[derive(Drop)]
 pub struct Team<'p> {
     alloc: Global,
     problem: &'p Problem,
@@ -34,6 +33,18 @@ pub struct Team<'p> {
     workers: Vec<Worker>,
     /// At most one problem that was built is kept, however many workers there are.
     built: Option<Built>,
+}
+
+impl<'p> Drop for Team<'p> {
+    fn drop(self) {
+        let Team {
+            alloc: _,
+            problem: _,
+            board: _,
+            workers: _,
+            built: _,
+        } = self;
+    }
 }
 
 impl<'p> Model for Team<'p> {

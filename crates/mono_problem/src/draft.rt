@@ -26,7 +26,6 @@ use std::marker::Model;
 /// A problem in the making. Contracts see the problem that was made so far.
 ///
 /// A call that adds a part answers `AllocError` for want of memory, and then leaves the draft as it was.
-#[derive(Drop)]
 pub struct Draft {
     var_count: u32,
     graphs: IndexMap<u32, Graph>,
@@ -35,6 +34,19 @@ pub struct Draft {
     homes: Vec<u32>,
     atoms: Vec<Atom>,
     clauses: ClauseList,
+}
+
+impl Drop for Draft {
+    fn drop(self) {
+        let Draft {
+            var_count: _,
+            graphs: _,
+            node_count: _,
+            homes: _,
+            atoms: _,
+            clauses: _,
+        } = self;
+    }
 }
 
 impl Model for Draft {

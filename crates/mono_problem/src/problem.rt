@@ -21,7 +21,6 @@ use std::marker::Model;
 ///
 /// Variables, edges, predicates and clauses are numbered from 1, graphs are named by their place in the order of
 /// declaration, from 0.
-#[derive(Drop)]
 pub struct Problem {
     pub(crate) var_count: u32,
     pub(crate) graphs: IndexMap<u32, Graph>,
@@ -29,6 +28,19 @@ pub struct Problem {
     pub(crate) atoms: Vec<Atom>,
     pub(crate) clauses: ClauseList,
     pub(crate) uses: UseTable,
+}
+
+impl Drop for Problem {
+    fn drop(self) {
+        let Problem {
+            var_count: _,
+            graphs: _,
+            homes: _,
+            atoms: _,
+            clauses: _,
+            uses: _,
+        } = self;
+    }
 }
 
 impl Model for Problem {

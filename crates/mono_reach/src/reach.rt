@@ -26,11 +26,20 @@ use std::alloc::{AllocError, Global};
 use std::marker::Model;
 
 /// Predicates on walks of any cost, with room to search graphs with one number of nodes.
-#[derive(Drop)]
 pub struct Reach {
     finder: WalkFinder,
     mender: WalkMender,
     marks: NodeMarks,
+}
+
+impl Drop for Reach {
+    fn drop(self) {
+        let Reach {
+            finder: _,
+            mender: _,
+            marks: _,
+        } = self;
+    }
 }
 
 impl Model for Reach {

@@ -37,7 +37,6 @@ enum Leaning {
 }
 
 /// What a search remembers of signs, by variable, variable 1 first.
-#[derive(Drop)]
 pub(crate) struct Memory {
     /// The sign on the longest quiet trail, where the variable stood there.
     longest: Vec<Option<bool>>,
@@ -50,6 +49,19 @@ pub(crate) struct Memory {
     probes: u32,
     /// Whether theories may prefer something.
     has_theories: bool,
+}
+
+impl Drop for Memory {
+    fn drop(self) {
+        let Memory {
+            longest: _,
+            len: _,
+            main: _,
+            leaning: _,
+            probes: _,
+            has_theories: _,
+        } = self;
+    }
 }
 
 impl Memory {

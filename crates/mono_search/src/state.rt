@@ -20,7 +20,6 @@ use std::alloc::{AllocError, Global};
 use std::marker::Model;
 
 /// A problem with its theories, and what was found out about it.
-#[derive(Drop)]
 pub struct State<'p, T: Theory> {
     pub(crate) theories: Theories<'p, T>,
     pub(crate) trail: Trail,
@@ -29,6 +28,19 @@ pub struct State<'p, T: Theory> {
     pub(crate) order: Order,
     /// What signs are saved at restarts: nothing of it is seen in contracts.
     pub(crate) memory: Memory,
+}
+
+impl<'p, T: Theory> Drop for State<'p, T> {
+    fn drop(self) {
+        let State {
+            theories: _,
+            trail: _,
+            store: _,
+            journal: _,
+            order: _,
+            memory: _,
+        } = self;
+    }
 }
 
 impl<'p, T: Theory> Model for State<'p, T> {
@@ -74,6 +86,14 @@ impl<'p, T: Theory> State<'p, T> {
     pub(crate) fn into_journal(self) -> Journal
         ensures { result ≡ self.entry.steps }
     {
-        self.journal
+        let State {
+            theories: _,
+            trail: _,
+            store: _,
+            journal,
+            order: _,
+            memory: _,
+        } = self;
+        journal
     }
 }

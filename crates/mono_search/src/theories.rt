@@ -43,7 +43,6 @@ fn one_more(number: usize, above: usize) -> usize
 }
 
 /// A problem and its theories.
-#[derive(Drop)]
 pub struct Theories<'p, T: Theory> {
     problem: &'p Problem,
     theories: Vec<T>,
@@ -60,6 +59,21 @@ pub struct Theories<'p, T: Theory> {
     handed: usize,
     /// How many of their lemmas were given to the clauses.
     given: usize,
+}
+
+impl<'p, T: Theory> Drop for Theories<'p, T> {
+    fn drop(self) {
+        let Theories {
+            problem: _,
+            theories: _,
+            concerned: _,
+            owners: _,
+            counts: _,
+            worklist: _,
+            handed: _,
+            given: _,
+        } = self;
+    }
 }
 
 impl<'p, T: Theory> Model for Theories<'p, T> {

@@ -33,11 +33,20 @@ use std::marker::Model;
 
 /// Checks steps over one problem, or another of the same size: as many variables, and graphs with as many nodes and edges.
 /// Contracts see the size.
-#[derive(Drop)]
 pub struct StepChecker {
     set: LitSet,
     graphs: Vec<GraphChecker>,
     placed: PlacedEdges,
+}
+
+impl Drop for StepChecker {
+    fn drop(self) {
+        let StepChecker {
+            set: _,
+            graphs: _,
+            placed: _,
+        } = self;
+    }
 }
 
 impl Model for StepChecker {

@@ -19,12 +19,22 @@ use std::alloc::{AllocError, Global};
 use std::marker::Model;
 
 /// Tests witnesses in graphs of one size, which is what contracts see of it.
-#[derive(Drop)]
 pub(crate) struct WitnessChecker {
     walks: WalkChecker,
     flows: FlowChecker,
     trees: TreeChecker,
     orders: OrderChecker,
+}
+
+impl Drop for WitnessChecker {
+    fn drop(self) {
+        let WitnessChecker {
+            walks: _,
+            flows: _,
+            trees: _,
+            orders: _,
+        } = self;
+    }
 }
 
 impl Model for WitnessChecker {

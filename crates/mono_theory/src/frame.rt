@@ -34,7 +34,6 @@ use std::marker::Model;
 /// A graph, atoms over it, the literals that were seen, and the bounds that they leave.
 ///
 /// Contracts see the graph, the atoms in their order and the literals in theirs. The literals are over different variables.
-#[derive(Drop)]
 pub struct Frame {
     graph: Graph,
     atoms: Vec<Atom>,
@@ -43,6 +42,20 @@ pub struct Frame {
     edges: SeenBounds,
     own: SeenBounds,
     vars: Vec<u32>,
+}
+
+impl Drop for Frame {
+    fn drop(self) {
+        let Frame {
+            graph: _,
+            atoms: _,
+            numbers: _,
+            lits: _,
+            edges: _,
+            own: _,
+            vars: _,
+        } = self;
+    }
 }
 
 impl Model for Frame {

@@ -94,7 +94,6 @@ fn first_wanted<K: Kind, S: Side<K>>(side: &S, frame: &Frame) -> Option<u32>
 ///
 /// Contracts see the graph, the atoms, the literals seen, and what is kept of the atoms with the surely present edges and with
 /// the possibly present ones.
-#[derive(Drop)]
 pub struct GraphTheory<K: Kind, S: Side<K> = KeptSide, P: Side<K> = KeptSide> {
     alloc: Global,
     frame: Frame,
@@ -104,6 +103,19 @@ pub struct GraphTheory<K: Kind, S: Side<K> = KeptSide, P: Side<K> = KeptSide> {
     possibly: P,
     /// How many literals it has explained, up to the last value of the type.
     explained: u32,
+}
+
+impl<K: Kind, S: Side<K>, P: Side<K>> Drop for GraphTheory<K, S, P> {
+    fn drop(self) {
+        let GraphTheory {
+            alloc: _,
+            frame: _,
+            kind: _,
+            surely: _,
+            possibly: _,
+            explained: _,
+        } = self;
+    }
 }
 
 impl<K: Kind, S: Side<K>, P: Side<K>> Model for GraphTheory<K, S, P> {

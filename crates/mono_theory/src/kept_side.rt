@@ -28,7 +28,6 @@ use std::alloc::{AllocError, Global};
 use std::marker::Model;
 
 /// What is kept of the atoms on one side, and which of it is known to be right.
-#[derive(Drop)]
 pub struct KeptSide {
     /// Whether the side is that of the possibly present edges.
     possible: bool,
@@ -40,6 +39,19 @@ pub struct KeptSide {
     stages: Stages,
     /// Whether the predicates of settled atoms are decided too.
     thorough: bool,
+}
+
+impl Drop for KeptSide {
+    fn drop(self) {
+        let KeptSide {
+            possible: _,
+            supports: _,
+            shown: _,
+            watchers: _,
+            stages: _,
+            thorough: _,
+        } = self;
+    }
 }
 
 impl Model for KeptSide {

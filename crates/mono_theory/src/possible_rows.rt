@@ -33,7 +33,6 @@ const MOST_CELLS: usize = 4_000_000;
 const LEAST_SHARED: usize = 4;
 
 /// The rows of the walks for which atoms ask, along the possibly present edges.
-#[derive(Drop)]
 pub struct PossibleRows {
     rows: TargetsBySource,
     /// By place of an atom its row.
@@ -42,6 +41,17 @@ pub struct PossibleRows {
     atoms: Index,
     /// By place of an atom where its walk is to lead.
     targets: Vec<WalkTarget>,
+}
+
+impl Drop for PossibleRows {
+    fn drop(self) {
+        let PossibleRows {
+            rows: _,
+            row_of: _,
+            atoms: _,
+            targets: _,
+        } = self;
+    }
 }
 
 impl Model for PossibleRows {

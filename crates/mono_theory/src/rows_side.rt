@@ -25,7 +25,6 @@ use std::marker::Model;
 /// Rows of what was found along the edges of one side, and the literals that they are of.
 ///
 /// Contracts see the part of the side that the literals looked at leave, how many these are, the rows, and which atoms are due.
-#[derive(Drop)]
 pub struct RowsSide<R> {
     /// The part of the side that the literals looked at leave.
     part: Part,
@@ -34,6 +33,17 @@ pub struct RowsSide<R> {
     rows: R,
     /// The atoms that may owe a literal. All others owe nothing.
     due: Worklist,
+}
+
+impl<R: Drop> Drop for RowsSide<R> {
+    fn drop(self) {
+        let RowsSide {
+            part: _,
+            looked: _,
+            rows: _,
+            due: _,
+        } = self;
+    }
 }
 
 impl<R> Model for RowsSide<R> {

@@ -15,7 +15,6 @@ use std::alloc::{AllocError, Global};
 use std::marker::Model;
 
 /// The stage of each atom. Contracts see the list of stages by atom.
-#[derive(Drop)]
 pub(crate) struct Stages {
     stages: Vec<Stage>,
     /// All atoms: those that show, then those that wait, then those that stand.
@@ -24,6 +23,17 @@ pub(crate) struct Stages {
     shown: usize,
     /// How many don't stand.
     border: usize,
+}
+
+impl Drop for Stages {
+    fn drop(self) {
+        let Stages {
+            stages: _,
+            ranking: _,
+            shown: _,
+            border: _,
+        } = self;
+    }
 }
 
 impl Model for Stages {

@@ -27,7 +27,6 @@ use std::alloc::{AllocError, Global};
 use std::marker::Model;
 
 /// Rows along the surely present edges, and by place of an atom its row and where its walk is to lead.
-#[derive(Drop)]
 pub struct SureRows<R> {
     rows: BySource<R>,
     /// By place of an atom its row.
@@ -36,6 +35,17 @@ pub struct SureRows<R> {
     targets: Vec<WalkTarget>,
     /// The atoms by their last nodes.
     lasts: Index,
+}
+
+impl<R: Drop> Drop for SureRows<R> {
+    fn drop(self) {
+        let SureRows {
+            rows: _,
+            row_of: _,
+            targets: _,
+            lasts: _,
+        } = self;
+    }
 }
 
 impl<R> Model for SureRows<R> {

@@ -29,7 +29,6 @@ const SCALE: u32 = 40;
 /// Which variables wait, and how active each one is.
 ///
 /// Contracts see of each variable, variable 1 first, whether it waits.
-#[derive(Drop)]
 pub struct Heap {
     /// All variables, counted from 0; those that wait come first.
     ranking: Ranking,
@@ -39,6 +38,17 @@ pub struct Heap {
     activities: Vec<u64>,
     /// What a bump adds.
     increment: u64,
+}
+
+impl Drop for Heap {
+    fn drop(self) {
+        let Heap {
+            ranking: _,
+            count: _,
+            activities: _,
+            increment: _,
+        } = self;
+    }
 }
 
 impl Model for Heap {

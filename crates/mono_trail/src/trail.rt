@@ -27,7 +27,6 @@ use std::mem;
 ///
 /// Contracts see the number of variables, the literals, their marks, the present level, and how many literals were
 /// given. No call but `new` takes memory.
-#[derive(Drop)]
 pub struct Trail {
     vars: u32,
     lits: Vec<Lit>,
@@ -42,6 +41,22 @@ pub struct Trail {
     given: usize,
     /// For a conflict analysis: by place, none marked between analyses.
     seen: Vec<bool>,
+}
+
+impl Drop for Trail {
+    fn drop(self) {
+        let Trail {
+            vars: _,
+            lits: _,
+            marks: _,
+            values: _,
+            places: _,
+            starts: _,
+            level: _,
+            given: _,
+            seen: _,
+        } = self;
+    }
 }
 
 impl Model for Trail {

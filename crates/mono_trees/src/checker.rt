@@ -19,12 +19,21 @@ use std::alloc::{AllocError, Global};
 use std::marker::Model;
 
 /// Tests spanning trees, splits and least trees of graphs with one number of nodes, which is its value.
-#[derive(Drop)]
 pub struct TreeChecker {
     /// By node: whether it is in the set, and whether its edges have been looked at.
     inside: Vec<bool>,
     seen: Vec<bool>,
     components: Components,
+}
+
+impl Drop for TreeChecker {
+    fn drop(self) {
+        let TreeChecker {
+            inside: _,
+            seen: _,
+            components: _,
+        } = self;
+    }
 }
 
 impl Model for TreeChecker {

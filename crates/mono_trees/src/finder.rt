@@ -33,10 +33,18 @@ pub enum TreeFound {
 ///
 /// The order of the edges by weight is kept from search to search: the first search in a graph sorts its edges, and those
 /// that follow in the same graph go over them in that order, in E + N log N steps among E edges and N nodes.
-#[derive(Drop)]
 pub struct TreeFinder {
     components: Components,
     order: EdgeOrder,
+}
+
+impl Drop for TreeFinder {
+    fn drop(self) {
+        let TreeFinder {
+            components: _,
+            order: _,
+        } = self;
+    }
 }
 
 impl Model for TreeFinder {
