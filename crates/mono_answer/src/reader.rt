@@ -17,7 +17,7 @@ use crate::word::{Word, word_named};
 use crate::{Item, ItemRefusal};
 use mono_base::{Lit, Row};
 use mono_graph::{Amount, Label};
-use mono_steps::{Chain, Clause, Lemma, Step, Witness};
+use mono_steps::{Chain, Clause, Lemma, Step, Witness, WitnessList};
 use mono_text::{Line, Tokens, is_comment};
 use std::alloc::{AllocError, Global};
 use std::mem::replace;
@@ -266,17 +266,10 @@ impl ItemReader {
 
     /// Takes the list of a witness back.
     pub fn reuse_witness(&mut self, witness: Witness) {
-        match witness {
-            Witness::Label(labels) => self.room.labels = labels.into_vec(),
-            Witness::Flow(amounts) => self.room.amounts = amounts.into_vec(),
-            Witness::Path(names) => self.room.names = names.into_vec(),
-            Witness::Cut(names) => self.room.names = names.into_vec(),
-            Witness::FlowCut(names) => self.room.names = names.into_vec(),
-            Witness::Tree(names) => self.room.names = names.into_vec(),
-            Witness::Split(names) => self.room.names = names.into_vec(),
-            Witness::Least(names) => self.room.names = names.into_vec(),
-            Witness::Cycle(names) => self.room.names = names.into_vec(),
-            Witness::Order(names) => self.room.names = names.into_vec(),
+        match witness.into_list() {
+            WitnessList::Numbers(names) => self.room.names = names.into_vec(),
+            WitnessList::Labels(labels) => self.room.labels = labels.into_vec(),
+            WitnessList::Amounts(amounts) => self.room.amounts = amounts.into_vec(),
         }
     }
 }

@@ -4,7 +4,7 @@ use Rattle.std.specs.Prelude.{ℤ, pos, slice_range, Option, Some, None, IsSome}
 use Rattle.std.specs.Option.{option_to_list}
 use Rattle.std.proofs.lemmas.List.{take-append-le, drop-append-le, get_or-take, get_or-drop, length-drop, length-take, map-append, get_or_append_left, get_or-append_right, take_all}
 use Rattle.std.proofs.Math.Seq.{drop-append_seam, get_or-append_seam, map-set_same}
-use Rattle.std.proofs.lemmas.List.{length-set, get_or-map}
+use Rattle.std.proofs.lemmas.List.{length-map, length-set, get_or-map, get_or_read}
 use Rattle.std.proofs.lemmas.Bool.{ltb-true, ltb-false}
 use Rattle.std.proofs.lemmas.Bool.Decides.{eqb_tells}
 use Rattle.mono_base.specs.Literal.{var_of, lit_at}
@@ -155,3 +155,30 @@ view_cached flat held k lit = map-set_same (clause_of flat) held k (record { num
 
 length_range : (flat : List ℤ) (s e : ℕ) → s ≤ e → e ≤ length flat → length (slice_range flat s e) ≡ e - s
 length_range flat s e a b = length-take (e - s) (drop s flat) ∙ (let l : length (drop s flat) ≡ length flat - s = length-drop s flat in let m : min (e - s) (length (drop s flat)) ≡ e - s = omega (arith, l, a, b) in m)
+
+-- what is known of the entry at a place, and of the clause that it makes
+pub record IsEntry (vars : ℕ) (flat : List ℤ) (v : ClausesView) (k : ℕ) (h : Entry) : Type 0 where
+  pub starts : h.start ≤ h.end
+  pub ends : h.end ≤ length flat
+  pub clause : clause_of flat h ≡ clause_at v.list k
+  pub len : h.end - h.start ≡ length (clause_at v.list k).lits
+  pub cached : 0 < length (clause_at v.list k).lits → Stands (clause_at v.list k).lits h.cached
+  pub ranged : AllVars v.vars (slice_range flat h.start h.end)
+
+pub entry_is : (vars : ℕ) (flat : List ℤ) (held : List Entry) (v : ClausesView) (k : ℕ) (h : Entry) → IsFlat vars flat held → record { vars = vars; list = map (clause_of flat) held } ≡ v
+    → k < length v.list → h ≡ get_or held k h → IsEntry vars flat v k h
+entry_is vars flat held v k h f at inside read =
+    let lt : k < length held = (let n = rw (← at) at inside in omega (arith, n, length-map held (clause_of flat))) in
+    let there : get_or held k no_entry ≡ h = sym (get_or_read held k h lt read no_entry) in
+    let clause : clause_of flat h ≡ clause_at v.list k = rw (← at, clause_is flat held k lt, there) refl in
+    let starts : h.start ≤ h.end = subst (λ (q : Entry). q.start ≤ q.end) there (f.starts k lt) in
+    let ends : h.end ≤ length flat = subst (λ (q : Entry). q.end ≤ length flat) there (f.ends k lt) in
+    let cached : 0 < length (clause_of flat h).lits → Stands (clause_of flat h).lits h.cached = subst (λ (q : Entry). 0 < length (clause_of flat q).lits → Stands (clause_of flat q).lits q.cached) there (f.are_cached k lt) in
+    record {
+      starts = starts;
+      ends = ends;
+      clause = clause;
+      len = subst (λ (q : Held). h.end - h.start ≡ length q.lits) clause (omega (arith, length-take (h.end - h.start) (drop h.start flat), length-drop h.start flat, starts, ends));
+      cached = subst (λ (q : Held). 0 < length q.lits → Stands q.lits h.cached) clause cached;
+      ranged = subst (λ (q : ClausesView). AllVars q.vars (slice_range flat h.start h.end)) at (range_within vars flat h.start h.end f.ranged starts ends);
+    }

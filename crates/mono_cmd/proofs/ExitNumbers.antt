@@ -9,7 +9,7 @@ use Rattle.mono_forms.specs.Endings.{status_of}
 use Rattle.mono_cmd.specs.Machines.{HasRun, Machine}
 use Rattle.mono_forms.specs.Runs.{ComesTo, Ends, IsOutOfMemory, Writes}
 use Rattle.mono_forms.specs.Statuses.{code_of}
-use Rattle.mono_forms.specs.declared.command.Command.{Command}
+use Rattle.mono_words.specs.declared.command.Command.{Command}
 use Rattle.mono_forms.proofs.Stages.{ends_cases}
 
 -- the one status of this number

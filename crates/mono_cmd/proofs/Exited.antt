@@ -4,10 +4,10 @@ use Rattle.std.specs.Prelude.{option_and_then}
 use Rattle.mono_io.specs.Faults.{counted}
 use Rattle.mono_io.specs.FileShelf.{FileState, shown_by}
 use Rattle.mono_io.specs.StdSink.{WriterState}
-use Rattle.mono_forms.specs.declared.command.Command.{Command}
+use Rattle.mono_words.specs.declared.command.Command.{Command}
 use Rattle.mono_forms.specs.declared.status.Status.{Status}
 use Rattle.mono_forms.specs.declared.status.Status.TheVariants.{Memory, WriteFault}
-use Rattle.mono_forms.specs.Commands.{command_of}
+use Rattle.mono_words.specs.Commands.{command_of}
 use Rattle.mono_cmd.specs.Machines.{Machine, HasExited}
 use Rattle.mono_cmd.specs.Promises.{IsRun}
 use Rattle.mono_forms.specs.Statuses.{code_of}

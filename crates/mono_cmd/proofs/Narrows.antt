@@ -11,9 +11,9 @@ use Rattle.mono_check.specs.Verdicts.{IsVerdict}
 use Rattle.mono_core.specs.declared.outcome.CoreOutcome.{CoreOutcome}
 use Rattle.mono_core.specs.declared.outcome.CoreOutcome.TheVariants as outcome
 use Rattle.mono_io.specs.Shelf.{ShelfView}
-use Rattle.mono_forms.specs.declared.command.Command.{Command}
-use Rattle.mono_forms.specs.declared.command.Command.TheVariants as command
-use Rattle.mono_forms.specs.declared.command.TheConstants.{DEFAULT_BUDGET}
+use Rattle.mono_words.specs.declared.command.Command.{Command}
+use Rattle.mono_words.specs.declared.command.Command.TheVariants as command
+use Rattle.mono_words.specs.declared.command.TheConstants.{DEFAULT_BUDGET}
 use Rattle.mono_forms.specs.declared.status.Status.{Status}
 use Rattle.mono_forms.specs.declared.status.Status.TheVariants as status
 use Rattle.mono_forms.specs.declared.ending.Ending.{Ending}

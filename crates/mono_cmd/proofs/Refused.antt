@@ -9,14 +9,14 @@ use Rattle.mono_gnf.specs.Stands.{Stands}
 use Rattle.mono_answer.specs.declared.version.Version.{Version}
 use Rattle.mono_check.specs.declared.verdict.Verdict.TheVariants as verdict
 use Rattle.mono_io.specs.Shelf.{ShelfView, told_text}
-use Rattle.mono_forms.specs.declared.command.TheConstants.{MAX_MIGRATED_BYTES}
-use Rattle.mono_forms.specs.declared.command.Command.{Command}
-use Rattle.mono_forms.specs.declared.command.Command.TheVariants as command
+use Rattle.mono_words.specs.declared.command.TheConstants.{MAX_MIGRATED_BYTES}
+use Rattle.mono_words.specs.declared.command.Command.{Command}
+use Rattle.mono_words.specs.declared.command.Command.TheVariants as command
 use Rattle.mono_forms.specs.declared.status.Status.{Status}
 use Rattle.mono_forms.specs.declared.status.Status.TheVariants as status
 use Rattle.mono_forms.specs.declared.ending.Ending.{Ending}
 use Rattle.mono_forms.specs.declared.ending.Ending.TheVariants as ending
-use Rattle.mono_forms.specs.Commands.{files_of}
+use Rattle.mono_words.specs.Commands.{files_of}
 use Rattle.mono_forms.specs.Endings.{answer_status, best_status, outcome_status, status_of, text_of, verdict_status}
 use Rattle.mono_cmd.specs.Refusals.{IsRefusal, IsUnaskedBy}
 use Rattle.mono_forms.specs.Runs.{ComesTo, EndsAtFile, EndsAtText, HasProblem, IsAsked, HasNoRoom, IsBounded, IsJudged, IsMigration, IsNarrowed, IsSolved, Runs, Writes}

@@ -20,8 +20,8 @@ use Rattle.mono_forms.specs.declared.asking.AskRefusal.TheVariants as refusal
 use Rattle.mono_forms.specs.BestTexts.{best_text, refusal_text}
 use Rattle.mono_check.proofs.Accepted.{refutation_has_no_model, model_satisfies}
 use Rattle.mono_io.specs.Shelf.{ShelfView}
-use Rattle.mono_forms.specs.declared.command.Command.{Command}
-use Rattle.mono_forms.specs.declared.command.Command.TheVariants as command
+use Rattle.mono_words.specs.declared.command.Command.{Command}
+use Rattle.mono_words.specs.declared.command.Command.TheVariants as command
 use Rattle.mono_forms.specs.declared.status.Status.{Status}
 use Rattle.mono_forms.specs.declared.status.Status.TheVariants as status
 use Rattle.mono_forms.specs.declared.ending.Ending.{Ending}

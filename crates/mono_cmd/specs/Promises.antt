@@ -14,11 +14,11 @@ use Rattle.mono_check.specs.Verdicts.{IsVerdict}
 use Rattle.mono_best.specs.Asking.{asking}
 use Rattle.mono_best.specs.Optimum.{IsNeverMet}
 use Rattle.mono_portfolio.specs.Outcomes.{IsBoardOfRounds}
-use Rattle.mono_forms.specs.declared.command.Command.{Command}
-use Rattle.mono_forms.specs.declared.command.TheConstants.{DEFAULT_BUDGET, MAX_MIGRATED_BYTES}
+use Rattle.mono_words.specs.declared.command.Command.{Command}
+use Rattle.mono_words.specs.declared.command.TheConstants.{DEFAULT_BUDGET, MAX_MIGRATED_BYTES}
 use Rattle.mono_forms.specs.declared.status.Status.{Status}
 use Rattle.mono_forms.specs.declared.status.Status.TheVariants as status
-use Rattle.mono_forms.specs.Commands.{files_of}
+use Rattle.mono_words.specs.Commands.{files_of}
 use Rattle.mono_cmd.specs.Refusals.{IsRefusal}
 use Rattle.mono_forms.specs.Runs.{IsOutOfMemory, IsSummaryBy, IsBestBy, IsCoreBy, IsVerdictBy, Bounds, Asks, CheckWrote, CheckWithWrote, EachReached, IsCarriedOut, IsHeld, IsHeldWithin, IsJudgmentBy, Judges, JudgesWith, Migrates, Narrows, Prints, Runs, Solves, SolvesGenerated, begun_for}
 use Rattle.mono_forms.specs.Teams.{IsTeamTextBy, PlaysTeam}

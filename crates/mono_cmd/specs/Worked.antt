@@ -3,7 +3,7 @@ use Rattle.std.specs.Prelude.{ℕ, List, [], ◌∷◌, ◌++◌, Option, Some, 
 use Rattle.mono_io.specs.Shelf.{ShelfView, Texts}
 use Rattle.mono_io.specs.Worked.{steady_shelf}
 use Rattle.mono_problem.specs.Instance.{Instance}
-use Rattle.mono_forms.specs.declared.command.Command.{Command}
+use Rattle.mono_words.specs.declared.command.Command.{Command}
 use Rattle.mono_forms.specs.declared.status.Status.{Status}
 use Rattle.mono_cmd.specs.Promises.{RunView}
 

@@ -3,7 +3,7 @@
 ghost use Rattle.std.specs.Prelude.{◌≡◌, IfOk, IfSome, IsSome, OnErr, map, option_and_then, string_bytes};
 ghost use Rattle.std.specs.Process.{exit_status};
 ghost use Rattle.mono_io.specs.FileShelf.{shown_by};
-ghost use Rattle.mono_forms.specs.Commands.{command_of};
+ghost use Rattle.mono_words.specs.Commands.{command_of};
 ghost use Rattle.mono_cmd.specs.Machines.{Machine, HasExited, untouched};
 
 use crate::given::{Words, WordsRefusal};

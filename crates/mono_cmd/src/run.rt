@@ -6,7 +6,7 @@
 
 ghost use Rattle.std.specs.Prelude.{◌≡◌, ◌≢◌, map, string_bytes};
 ghost use Rattle.mono_io.specs.Faults.{counted};
-ghost use Rattle.mono_forms.specs.Commands.{command_of};
+ghost use Rattle.mono_words.specs.Commands.{command_of};
 ghost use Rattle.mono_cmd.specs.Promises.{RunView, IsRun};
 
 use mono_forms::{Status, ending_of, write_ending};

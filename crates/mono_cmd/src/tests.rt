@@ -4,6 +4,7 @@ use crate::run::run;
 use mono_forms::Status;
 use mono_io::{MemoryShelf, MemorySink};
 use std::alloc::{AllocError, Global};
+use std::fmt::Debug;
 use std::process::Abort;
 use std::test::Fail;
 
@@ -114,10 +115,15 @@ fn outcome_of(
     outcome_by(alloc, line, input, answer, 1 << 16)
 }
 
+/// Both values are equal. In a function of its own, the assertion is proved once.
+fn assert_same<T: PartialEq + Debug + Drop>(rt: &impl Abort, got: T, want: T) {
+    assert_eq!(rt; got, want);
+}
+
 /// The run wrote this text, and ended so.
 fn assert_outcome(rt: &impl Abort, found: &Outcome, text: &[u8], status: Status) {
-    assert_eq!(rt; found.text.as_slice(), text);
-    assert_eq!(rt; found.status, status);
+    assert_same(rt, found.text.as_slice(), text);
+    assert_same(rt, found.status, status);
 }
 
 /// The run of `check f a` ends so, however the shelf cuts the files.

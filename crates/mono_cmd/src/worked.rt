@@ -12,11 +12,11 @@ ghost use Rattle.mono_check.specs.declared.verdict.Verdict.TheVariants as verdic
 ghost use Rattle.mono_problem.specs.Instance.{Instance};
 ghost use Rattle.mono_core.specs.Worked.{one_clause};
 ghost use Rattle.mono_best.specs.Worked.{weighed};
-ghost use Rattle.mono_forms.specs.declared.command.Command.TheVariants as command;
+ghost use Rattle.mono_words.specs.declared.command.Command.TheVariants as command;
 ghost use Rattle.mono_forms.specs.declared.status.Status.TheVariants as status;
 ghost use Rattle.mono_forms.specs.declared.ending.Ending.TheVariants as ending;
 ghost use Rattle.mono_answer.specs.declared.version.Version.TheVariants as version;
-ghost use Rattle.mono_forms.specs.Commands.{command_of, files_of};
+ghost use Rattle.mono_words.specs.Commands.{command_of, files_of};
 ghost use Rattle.mono_forms.specs.Statuses.{code_of};
 ghost use Rattle.mono_forms.specs.Endings.{status_of, text_of, progress_text, unread_ending, unjudged_ending, refused_ending};
 ghost use Rattle.mono_forms.specs.Runs.{Writes, CheckWrote, IsHeld, IsHeldWithin, HasNoFault, EachReached, IsCarriedOut, AreAlike, Migrates, Prints, Solves, SolvesGenerated, begun_for, summary_of};

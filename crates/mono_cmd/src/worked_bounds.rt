@@ -10,7 +10,7 @@ ghost use Rattle.mono_check.specs.declared.verdict.Verdict.TheVariants as verdic
 ghost use Rattle.mono_best.specs.Worked.{weighed, wide};
 ghost use Rattle.mono_best.specs.declared.outcome.BestOutcome.TheVariants as outcome;
 ghost use Rattle.mono_forms.specs.declared.asking.AskRefusal.TheVariants as refusal;
-ghost use Rattle.mono_forms.specs.declared.command.Command.TheVariants as command;
+ghost use Rattle.mono_words.specs.declared.command.Command.TheVariants as command;
 ghost use Rattle.mono_forms.specs.declared.status.Status.TheVariants as status;
 ghost use Rattle.mono_forms.specs.declared.ending.Ending.TheVariants as ending;
 ghost use Rattle.mono_forms.specs.Endings.{TakesMemory, status_of, text_of};

@@ -17,11 +17,11 @@ ghost use Rattle.mono_check.specs.declared.verdict.Verdict.TheVariants as verdic
 ghost use Rattle.mono_core.specs.Worked.{one_clause};
 ghost use Rattle.mono_core.specs.declared.outcome.Need.TheVariants as need;
 ghost use Rattle.mono_core.specs.declared.outcome.CoreOutcome.TheVariants as outcome;
-ghost use Rattle.mono_forms.specs.declared.command.Command.TheVariants as command;
-ghost use Rattle.mono_forms.specs.declared.command.TheConstants.{DEFAULT_BUDGET};
+ghost use Rattle.mono_words.specs.declared.command.Command.TheVariants as command;
+ghost use Rattle.mono_words.specs.declared.command.TheConstants.{DEFAULT_BUDGET};
 ghost use Rattle.mono_forms.specs.declared.status.Status.TheVariants as status;
 ghost use Rattle.mono_forms.specs.declared.ending.Ending.TheVariants as ending;
-ghost use Rattle.mono_forms.specs.Commands.{IsWithinRange, assumptions_of, command_of, lits_of};
+ghost use Rattle.mono_words.specs.Commands.{IsWithinRange, assumptions_of, command_of, lits_of};
 ghost use Rattle.mono_forms.specs.CoreTexts.{core_line, need_text, needs_text, outcome_text};
 ghost use Rattle.mono_forms.specs.Endings.{TakesMemory, status_of, text_of};
 ghost use Rattle.mono_forms.specs.Solved.{IsNarrowing, judged_under, outcome_verdict};

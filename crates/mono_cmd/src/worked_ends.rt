@@ -2,7 +2,7 @@
 
 ghost use Rattle.std.specs.Prelude.{◌≡◌, pos, Some, codes};
 ghost use Rattle.mono_base.specs.declared.limits.TheConstants.{MAX_INPUT_BYTES};
-ghost use Rattle.mono_forms.specs.declared.command.Command.TheVariants as command;
+ghost use Rattle.mono_words.specs.declared.command.Command.TheVariants as command;
 ghost use Rattle.mono_forms.specs.Runs.{EachReached};
 ghost use Rattle.mono_cmd.specs.Worked.{two_files};
 

@@ -6,9 +6,9 @@ ghost use Rattle.mono_gen.specs.declared.kind.GenKind.{GenKind};
 ghost use Rattle.mono_problem.specs.Instance.{Instance};
 ghost use Rattle.mono_steps.specs.WorkedLemmas.{minus};
 ghost use Rattle.mono_best.specs.Asking.{HasBoundedAtom};
-ghost use Rattle.mono_forms.specs.declared.command.Command.{Command as CommandOf};
-ghost use Rattle.mono_forms.specs.declared.command.Command.TheVariants as command;
-ghost use Rattle.mono_forms.specs.Commands.{IsWithinRange};
+ghost use Rattle.mono_words.specs.declared.command.Command.{Command as CommandOf};
+ghost use Rattle.mono_words.specs.declared.command.Command.TheVariants as command;
+ghost use Rattle.mono_words.specs.Commands.{IsWithinRange};
 ghost use Rattle.mono_cmd.specs.Machines.{HasExited, HasRun, Machine};
 ghost use Rattle.mono_cmd.specs.Refusals.{IsRefusal};
 

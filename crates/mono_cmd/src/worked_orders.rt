@@ -24,9 +24,9 @@ ghost use Rattle.mono_check.specs.declared.verdict.Verdict.TheVariants as verdic
 ghost use Rattle.mono_best.specs.Asking.{asking, predicate_of, HasBoundedAtom, HasRoomToAsk};
 ghost use Rattle.mono_best.specs.Bounds.{IsBoundOf};
 ghost use Rattle.mono_best.specs.declared.outcome.BestOutcome.{BestOutcome};
-ghost use Rattle.mono_forms.specs.declared.command.Command.{Command as CommandOf};
-ghost use Rattle.mono_forms.specs.declared.command.Command.TheVariants as command;
-ghost use Rattle.mono_forms.specs.declared.command.TheConstants.{DEFAULT_BUDGET, MAX_MIGRATED_BYTES};
+ghost use Rattle.mono_words.specs.declared.command.Command.{Command as CommandOf};
+ghost use Rattle.mono_words.specs.declared.command.Command.TheVariants as command;
+ghost use Rattle.mono_words.specs.declared.command.TheConstants.{DEFAULT_BUDGET, MAX_MIGRATED_BYTES};
 ghost use Rattle.mono_forms.specs.declared.ending.Ending.{Ending as EndingOf};
 ghost use Rattle.mono_forms.specs.declared.ending.Ending.TheVariants as ending;
 ghost use Rattle.mono_forms.specs.declared.status.Status.TheVariants as status;

@@ -21,7 +21,7 @@ ghost use Rattle.mono_best.specs.Worked.{weighed};
 ghost use Rattle.mono_best.specs.declared.outcome.BestOutcome.TheVariants as outcome;
 ghost use Rattle.mono_search.specs.Worked.{two_clauses};
 ghost use Rattle.mono_forms.specs.declared.asking.AskRefusal.TheVariants as refusal;
-ghost use Rattle.mono_forms.specs.declared.command.Command.TheVariants as command;
+ghost use Rattle.mono_words.specs.declared.command.Command.TheVariants as command;
 ghost use Rattle.mono_forms.specs.declared.ending.Ending.TheVariants as ending;
 ghost use Rattle.mono_forms.specs.declared.status.Status.TheVariants as status;
 ghost use Rattle.mono_forms.specs.declared.summary.Summary.{Summary};

@@ -23,8 +23,8 @@ ghost use Rattle.mono_check.specs.declared.verdict.Verdict.TheVariants as verdic
 ghost use Rattle.mono_core.specs.declared.outcome.CoreOutcome.{CoreOutcome};
 ghost use Rattle.mono_core.specs.declared.outcome.CoreOutcome.TheVariants as outcome;
 ghost use Rattle.mono_portfolio.specs.Outcomes.{IsBoardOfRounds};
-ghost use Rattle.mono_forms.specs.declared.command.Command.TheVariants as command;
-ghost use Rattle.mono_forms.specs.declared.command.TheConstants.{DEFAULT_BUDGET};
+ghost use Rattle.mono_words.specs.declared.command.Command.TheVariants as command;
+ghost use Rattle.mono_words.specs.declared.command.TheConstants.{DEFAULT_BUDGET};
 ghost use Rattle.mono_forms.specs.declared.ending.Ending.TheVariants as ending;
 ghost use Rattle.mono_forms.specs.declared.status.Status.TheVariants as status;
 ghost use Rattle.mono_forms.specs.declared.text.Text.TheVariants as text;

@@ -96,6 +96,35 @@ fn label_evidence(
     })
 }
 
+/// The evidence that labels are which are counted from `to`, where a search finds some.
+fn far_labels(
+    alloc: Global,
+    finder: &mut WalkFinder,
+    table: &mut LabelTable,
+    graph: &Graph,
+    part: &Part,
+    asked: Asked,
+) -> Result<Option<Evidence>, AllocError>
+    requires finder { finder.old ≡ graph.now.nodes }
+    requires table { table.old ≡ graph.now.nodes }
+    requires part { IsPartOf part.now graph.now }
+    requires from { asked.from < graph.now.nodes }
+    requires to { asked.to < graph.now.nodes }
+    requires limit { HasBound asked.limit }
+    ensures finder { finder.new ≡ finder.old }
+    ensures table { table.new ≡ table.old }
+    ensures evidence { IfOk result (λ far. IfSome far (IsEvidence graph.now part.now (predicate_of asked.from asked.to asked.limit))) }
+{
+    let wide = widened_for(alloc, graph, part, asked.to, asked.limit)?;
+    match finder.find_light(graph, &wide, asked.from, asked.to, asked.limit)? {
+        PathOrLabels::Path(_) => Ok(None),
+        PathOrLabels::Labels(others) => {
+            let far = label_evidence(alloc, table, graph, &wide, asked.limit, others)?;
+            Ok(Some(far))
+        }
+    }
+}
+
 /// The evidence that labels are by which each walk from `from` to `to` is beyond the limit: these, or those that are
 /// counted from `to`, whichever rest on fewer edges.
 fn least_labels(
@@ -123,18 +152,8 @@ fn least_labels(
     if near.edges.as_slice().len() < 2 {
         return Ok(near);
     }
-    let wide = widened_for(alloc, graph, part, asked.to, asked.limit)?;
-    match finder.find_light(graph, &wide, asked.from, asked.to, asked.limit)? {
-        PathOrLabels::Path(_) => Ok(near),
-        PathOrLabels::Labels(others) => {
-            let far = label_evidence(alloc, table, graph, &wide, asked.limit, others)?;
-            if far.edges.as_slice().len() < near.edges.as_slice().len() {
-                Ok(far)
-            } else {
-                Ok(near)
-            }
-        }
-    }
+    let far = far_labels(alloc, finder, table, graph, part, asked)?;
+    Ok(near.or_lighter(far))
 }
 
 /// The evidence that a walk near to these edges is, where one is found there.

@@ -1,9 +1,9 @@
 -- Rows that change one after another.
-use Rattle.std.proofs.Common.{◌≡◌, ℕ, suc, ◌+◌, ◌<◌, ◌≤◌, Bool, List, [], ◌∷◌, length, get_or, set, refl, sym, ap, subst, ◌∙◌, inl, inr, arith}
+use Rattle.std.proofs.Common.{◌≡◌, ℕ, suc, ◌+◌, ◌<◌, ◌≤◌, Bool, List, [], ◌∷◌, ◌++◌, length, map, take, get_or, set, refl, sym, ap, subst, ◌∙◌, inl, inr, arith}
 use Rattle.std.specs.Prelude.{All}
 use Rattle.std.specs.List.{AllZip, each_same}
 use Rattle.std.proofs.lemmas.Bool.{cases_lt, cases_eq}
-use Rattle.std.proofs.lemmas.List.{length-set, set-get_or, get_or-set_same, get_or-set_other, get_or_read}
+use Rattle.std.proofs.lemmas.List.{length-set, map-append, set-get_or, get_or-set_same, get_or-set_other, get_or_read, take_more}
 use Rattle.std.proofs.lemmas.List.Elements.{length_all_zip, AllZip-get_or}
 use Rattle.mono_graph.specs.Digraph.{Digraph}
 use Rattle.mono_dynamic.specs.BySource.{IsBack, OrSame}
@@ -67,3 +67,10 @@ rows_restored Fits Grown Undone g Q ks kept olds mids news fit grown back =
     let last : length mids ≡ length news = length_all_zip (IsBack Fits Grown Undone kept) mids news back in
     each_same olds news (all_zip_by (λ x y. y ≡ x) olds news (sym (first ∙ last))
     (λ j d lt. (AllZip-get_or (IsBack Fits Grown Undone kept) mids news j d d back (omega (arith, lt, first))).restored g Q ks (get_or olds j d) (fit j d lt) (AllZip-get_or (OrSame (Grown g Q ks kept)) olds mids j d d grown lt)))
+
+-- a row more, of the next of the sources
+pub mapped_more : {X Y : Type 0} (f : X → Y) (xs : List X) (i : ℕ) (d : X) (olds nows : List Y) (y : Y) → i < length xs → olds ≡ map f (take i xs) → y ≡ f (get_or xs i d) → nows ≡ olds ++ y ∷ [] → nows ≡ map f (take (i + 1) xs)
+mapped_more {X = X} {Y = Y} f xs i d olds nows y lt was is pushed =
+    let next : map f (take (i + 1) xs) ≡ map f (take i xs) ++ f (get_or xs i d) ∷ [] =
+    ap (λ (ys : List X). map f ys) (take_more xs i d lt) ∙ map-append f (take i xs) (get_or xs i d ∷ []) in
+    pushed ∙ ap (λ (ys : List Y). ys ++ y ∷ []) was ∙ ap (λ (z : Y). map f (take i xs) ++ z ∷ []) is ∙ sym next

@@ -15,6 +15,11 @@ rows_apart {slot = slot} {table = table} {rows = rows} h = record {
     number : (a b : ℕ) → Some a ≡ Some b → a ≡ b
     number a b e = cc
 
+-- the row of a slot that has one
+pub row_known : {X : Type 0} {slot : X → ℕ} {table : List (Option ℕ)} {rows : List X} (t r : ℕ) (o : Option ℕ) → t < length table → o ≡ get_or table t o → o ≡ Some r → IsRowTable slot table rows → (r < length rows) × ((d : X) → slot (get_or rows r d) ≡ t)
+row_known {X = X} {slot = slot} {table = table} {rows = rows} t r o lt is some h =
+    subst (λ (q : Option ℕ). IfSome q (λ k. (k < length rows) × ((d : X) → slot (get_or rows k d) ≡ t))) (sym (get_or_default table t o None lt) ∙ sym is ∙ some) (h.each t lt)
+
 -- ---- a row is joined
 
 pub more_joined : {X : Type 0} {slot amount : X → ℕ} (rows : List X) (r : ℕ) (x y : X) → r < length rows → x ≡ get_or rows r x → slot y ≡ slot x → amount x ≤ amount y → AreMore slot amount rows (set rows r y)
@@ -44,6 +49,13 @@ pub table_joined : {X : Type 0} {slot amount : X → ℕ} {table : List (Option 
 table_joined {slot = slot} {table = table} {olds = olds} {news = news} len m h = record {
   each = λ t low. some_like slot olds news t (get_or table t None) len m.slot_is (h.each t low);
   listed = λ r d low. (let inside : r < length olds = omega (arith, low, len) in ap (λ (t : ℕ). get_or table t None) (m.slot_is r d inside) ∙ h.listed r d inside);
+}
+
+pub served_joined : {X : Type 0} {slot amount : X → ℕ} (rows : List X) (r : ℕ) (x y : X) → r < length rows → slot y ≡ slot x → amount x ≤ amount y → IsServed slot amount x (set rows r y) r
+served_joined {X = X} {slot = slot} {amount = amount} rows r x y lt same more = record {
+  held = (let len = length-set rows r y in omega (arith, lt, len));
+  slot_is = λ d. ap slot (get_or-set_same rows r y d lt) ∙ same;
+  enough = λ d. subst (λ (z : X). amount x ≤ amount z) (sym (get_or-set_same rows r y d lt)) more;
 }
 
 -- ---- a row is added

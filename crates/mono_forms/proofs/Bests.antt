@@ -35,9 +35,9 @@ use Rattle.mono_best.proofs.Asked.{asking-instance}
 use Rattle.mono_best.proofs.Optimal.{next_in, weakest_in, optimal, never_met}
 use Rattle.mono_best.proofs.Outcomes.{beyond_flow, one_best, best_or_never, best_or_beyond, never_or_beyond}
 use Rattle.mono_io.specs.Shelf.{ShelfView}
-use Rattle.mono_forms.specs.declared.command.Command.{Command}
-use Rattle.mono_forms.specs.declared.command.Command.TheVariants as command
-use Rattle.mono_forms.specs.declared.command.TheConstants.{DEFAULT_BUDGET}
+use Rattle.mono_words.specs.declared.command.Command.{Command}
+use Rattle.mono_words.specs.declared.command.Command.TheVariants as command
+use Rattle.mono_words.specs.declared.command.TheConstants.{DEFAULT_BUDGET}
 use Rattle.mono_forms.specs.declared.status.Status.{Status}
 use Rattle.mono_forms.specs.declared.status.Status.TheVariants as status
 use Rattle.mono_forms.specs.declared.ending.Ending.{Ending}

@@ -3,7 +3,6 @@ mod CoreLines
 pub mod Cores
 mod Format
 mod Lines
-mod Literals
 mod NoteLines
 mod Notes
 mod OneEnding

@@ -9,8 +9,8 @@ use Rattle.mono_problem.specs.Instance.{Instance}
 use Rattle.mono_problem.specs.Assuming.{HasRoom}
 use Rattle.mono_check.specs.declared.refusal.CheckRefusal.{CheckRefusal}
 use Rattle.mono_check.specs.declared.refusal.CheckRefusal.TheVariants as judging
-use Rattle.mono_forms.specs.declared.command.Command.{Command}
-use Rattle.mono_forms.specs.declared.command.Command.TheVariants as command
+use Rattle.mono_words.specs.declared.command.Command.{Command}
+use Rattle.mono_words.specs.declared.command.Command.TheVariants as command
 use Rattle.mono_forms.specs.declared.status.Status.{Status}
 use Rattle.mono_forms.specs.declared.status.Status.TheVariants as status
 use Rattle.mono_forms.specs.declared.ending.Ending.{Ending}

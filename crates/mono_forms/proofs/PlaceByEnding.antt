@@ -4,9 +4,9 @@ use Rattle.mono_base.specs.declared.limits.TheConstants.{MAX_INPUT_BYTES, MAX_AN
 use Rattle.mono_io.specs.Faults.{counted}
 use Rattle.mono_io.specs.Reading.{IsTooLong}
 use Rattle.mono_io.specs.Shelf.{ShelfView}
-use Rattle.mono_forms.specs.declared.command.TheConstants.{MAX_MIGRATED_BYTES}
-use Rattle.mono_forms.specs.declared.command.Command.{Command}
-use Rattle.mono_forms.specs.declared.command.Command.TheVariants as command
+use Rattle.mono_words.specs.declared.command.TheConstants.{MAX_MIGRATED_BYTES}
+use Rattle.mono_words.specs.declared.command.Command.{Command}
+use Rattle.mono_words.specs.declared.command.Command.TheVariants as command
 use Rattle.mono_forms.specs.declared.ending.Ending.{Ending}
 use Rattle.mono_forms.specs.declared.ending.Ending.TheVariants as ending
 use Rattle.mono_forms.specs.Runs.{EndsAtText, EndsAtFile, Ends}

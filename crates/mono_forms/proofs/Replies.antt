@@ -13,7 +13,7 @@ use Rattle.mono_best.specs.declared.outcome.BestOutcome.TheVariants as bounded
 use Rattle.mono_core.specs.declared.outcome.CoreOutcome.{CoreOutcome}
 use Rattle.mono_core.specs.declared.outcome.CoreOutcome.TheVariants as outcome
 use Rattle.mono_io.specs.Shelf.{Texts, ShelfView, text_named, told_text}
-use Rattle.mono_forms.specs.declared.command.Command.{Command}
+use Rattle.mono_words.specs.declared.command.Command.{Command}
 use Rattle.mono_forms.specs.declared.status.Status.{Status}
 use Rattle.mono_forms.specs.declared.status.Status.TheVariants as status
 use Rattle.mono_forms.specs.declared.ending.Ending.{Ending}

@@ -13,12 +13,12 @@ use Rattle.mono_gnf.specs.declared.fault.GnfFault.TheVariants as fault
 use Rattle.mono_answer.specs.declared.version.Version.{Version}
 use Rattle.mono_check.specs.declared.verdict.Verdict.{Verdict}
 use Rattle.mono_check.specs.declared.verdict.Verdict.TheVariants as verdict
-use Rattle.mono_forms.specs.declared.command.TheConstants.{MAX_MIGRATED_BYTES}
-use Rattle.mono_forms.specs.declared.command.Command.{Command}
-use Rattle.mono_forms.specs.declared.command.Command.TheVariants as command
+use Rattle.mono_words.specs.declared.command.TheConstants.{MAX_MIGRATED_BYTES}
+use Rattle.mono_words.specs.declared.command.Command.{Command}
+use Rattle.mono_words.specs.declared.command.Command.TheVariants as command
 use Rattle.mono_forms.specs.declared.ending.Ending.{Ending}
 use Rattle.mono_forms.specs.declared.ending.Ending.TheVariants as ending
-use Rattle.mono_forms.specs.Commands.{files_of}
+use Rattle.mono_words.specs.Commands.{files_of}
 use Rattle.mono_forms.specs.Teams.{IsTeamed}
 use Rattle.mono_forms.specs.Runs.{EndsAtText, EndsAtFile, WithText, WithProblem, HasProblem, IsJudged, IsMigration, IsSolved, HasNoRoom, IsNarrowed, IsBounded, IsAsked, IsGenerated, ComesTo, Ends, IsOutOfMemory, begun_for}
 

@@ -1,4 +1,3 @@
-pub mod Commands
 pub mod CoreTexts
 pub mod BestTexts
 pub mod Statuses

@@ -23,14 +23,14 @@ use Rattle.mono_check.specs.declared.verdict.Verdict.TheVariants as verdict
 use Rattle.mono_check.specs.Verdicts.{IsVerdict}
 use Rattle.mono_check.specs.Migrations.{MigratesTo}
 use Rattle.mono_answer.specs.declared.version.Version.{Version}
-use Rattle.mono_forms.specs.declared.command.Command.{Command}
-use Rattle.mono_forms.specs.declared.command.Command.TheVariants as command
+use Rattle.mono_words.specs.declared.command.Command.{Command}
+use Rattle.mono_words.specs.declared.command.Command.TheVariants as command
 use Rattle.mono_forms.specs.declared.status.Status.{Status}
 use Rattle.mono_forms.specs.declared.status.Status.TheVariants as status
 use Rattle.mono_forms.specs.declared.summary.Summary.{Summary}
 use Rattle.mono_forms.specs.declared.ending.Ending.{Ending}
 use Rattle.mono_forms.specs.declared.ending.Ending.TheVariants as ending
-use Rattle.mono_forms.specs.declared.command.TheConstants.{DEFAULT_BUDGET, MAX_MIGRATED_BYTES}
+use Rattle.mono_words.specs.declared.command.TheConstants.{DEFAULT_BUDGET, MAX_MIGRATED_BYTES}
 use Rattle.mono_forms.specs.Endings.{status_of, text_of, TakesMemory, summary_lines, verdict_status, verdict_text}
 use Rattle.mono_steps.specs.New.{IsProgress}
 use Rattle.mono_problem.specs.Assuming.{assuming, HasRoom}

@@ -3,7 +3,7 @@ use Rattle.std.specs.Prelude.{◌≡◌, ◌++◌, ℕ, List, Option, Some}
 use Rattle.mono_io.specs.Shelf.{Texts, told_text}
 use Rattle.mono_problem.specs.Instance.{Instance}
 use Rattle.mono_gnf.specs.Stands.{Stands}
-use Rattle.mono_forms.specs.declared.command.Command.{Command}
+use Rattle.mono_words.specs.declared.command.Command.{Command}
 
 -- the command that `over` makes of FILE runs, and FILE is told and stands for the problem
 pub record RunsOver (found : Option Command) (over : List ℕ → Command) (texts : Option Texts) (p : Instance) : Type 0 where

@@ -6,18 +6,18 @@ ghost use Rattle.mono_best.specs.Asking.{HasBoundedAtom, HasRoomToAsk, predicate
 ghost use Rattle.mono_best.specs.Bounds.{IsBoundOf};
 ghost use Rattle.mono_gnf.specs.Printed.{printed as printed_form};
 ghost use Rattle.mono_forms.specs.declared.ending.Ending.TheVariants.{Printed};
-ghost use Rattle.mono_forms.specs.declared.command.TheConstants.{DEFAULT_BUDGET};
+ghost use Rattle.mono_words.specs.declared.command.TheConstants.{DEFAULT_BUDGET};
 ghost use Rattle.mono_forms.specs.BestTexts.{refusal_text};
 ghost use Rattle.mono_forms.specs.Runs.{IsAsked, IsBounded, IsUnasked};
 ghost use Rattle.mono_forms.specs.Solved.{IsBounding};
 
-use crate::command::DEFAULT_BUDGET;
 use crate::ending::Ending;
 use mono_base::Row;
 use mono_best::{BestOutcome, ask, best, has_bounded_atom, has_room_to_ask, is_bound_of};
 use mono_gnf::print_gnf;
 use mono_kinds::all_theories;
 use mono_problem::Problem;
+use mono_words::command::DEFAULT_BUDGET;
 use std::alloc::{AllocError, Global};
 
 /// Why a bound can't be asked for.

@@ -2,9 +2,10 @@
 //!
 //! It is also the error of each step that may end a run, so that `?` ends it there.
 
-ghost use Rattle.std.specs.Prelude.{◌≡◌, ◌≢◌, IfOk, OnErr, OnOk};
+ghost use Rattle.std.specs.Prelude.{◌≡◌, ◌≢◌, IfOk};
 ghost use Rattle.mono_forms.specs.Endings.{status_of, text_of, TakesMemory, unread_ending, unjudged_ending, refused_ending, answer_status as status_of_answer, best_status as status_of_best, outcome_status as status_of_outcome, verdict_status as status_of_verdict, verdict_text as text_of_verdict};
-ghost use Rattle.mono_forms.specs.Texts.{bytes_of};
+ghost use Rattle.mono_forms.specs.Texts.{IsTextOf, bytes_of};
+ghost use Rattle.mono_forms.specs.declared.ending.Ending.{Ending as EndingOf};
 ghost use Rattle.mono_forms.specs.declared.ending.Ending.TheVariants.{Memory};
 
 use crate::asking::AskRefusal;
@@ -123,9 +124,7 @@ impl Ending {
     /// The text that is due, unless no memory was found: then none is. No memory is wanting for a text of constants or of one line, nor
     /// for one that is there already.
     pub fn into_text(self, alloc: Global) -> Result<Text, AllocError>
-        ensures ok { IfOk result (λ text. bytes_of text ≡ text_of self) }
-        ensures err { OnErr result (TakesMemory self) }
-        ensures found { OnOk result (self ≢ Ending.Memory) }
+        ensures { IsTextOf self result }
     {
         match self {
             Ending::Words => Ok(Text::Fixed(USAGE)),
@@ -133,15 +132,22 @@ impl Ending {
             Ending::Memory => Err(AllocError),
             Ending::TooLong => Ok(Text::Fixed(b"too long\n")),
             Ending::Refused { line, fault } => Ok(Text::Line(refused_line(line, fault))),
-            Ending::Solved(answer) => Ok(Text::Owned(print_answer(alloc, &answer)?)),
+            Ending::Solved(answer) => owned(print_answer(alloc, &answer)),
             Ending::Judged(verdict) => Ok(verdict_text(verdict)),
-            Ending::Summed(summary) => Ok(Text::Owned(summary.text(alloc)?)),
+            Ending::Summed(summary) => owned(summary.text(alloc)),
             Ending::Printed(text) => Ok(Text::Owned(text.into_vec())),
-            Ending::Narrowed(outcome) => Ok(Text::Owned(print_outcome(alloc, &outcome)?)),
-            Ending::Bounded(outcome) => Ok(Text::Owned(print_best(alloc, &outcome)?)),
+            Ending::Narrowed(outcome) => owned(print_outcome(alloc, &outcome)),
+            Ending::Bounded(outcome) => owned(print_best(alloc, &outcome)),
             Ending::Unasked(refusal) => Ok(Text::Fixed(refusal.text())),
         }
     }
+}
+
+/// The text of an ending that takes memory for it, where the memory was found.
+fn owned(text: Result<Vec<u8>, AllocError>) -> Result<Text, AllocError>
+    ensures { (e : EndingOf) → TakesMemory e → e ≢ Ending.Memory → IfOk text (λ bytes. bytes.items ≡ text_of e) → IsTextOf e result }
+{
+    Ok(Text::Owned(text?))
 }
 
 /// How a run ends that comes to this answer.

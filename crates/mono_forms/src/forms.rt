@@ -9,19 +9,17 @@ ghost use Rattle.mono_io.specs.Shelf.{ShelfView};
 ghost use Rattle.mono_problem.specs.Instance.{Instance};
 ghost use Rattle.mono_gnf.specs.Faults.{first_fault};
 ghost use Rattle.mono_gnf.specs.Stands.{Stands};
-ghost use Rattle.mono_forms.specs.declared.command.TheConstants.{DEFAULT_BUDGET, MAX_ROUNDS, MAX_WORKERS};
+ghost use Rattle.mono_words.specs.declared.command.TheConstants.{DEFAULT_BUDGET, MAX_ROUNDS, MAX_WORKERS};
 ghost use Rattle.mono_forms.specs.declared.summary.Summary.{Summary as SummaryOf};
 ghost use Rattle.mono_forms.specs.Solved.{IsSummary};
-ghost use Rattle.mono_forms.specs.Commands.{command_of};
+ghost use Rattle.mono_words.specs.Commands.{IsWithinRange, command_of};
 ghost use Rattle.mono_forms.specs.Runs.{Ends, EndsAtFile, HasProblem, IsGenerated};
 
 use crate::asking::{ask_ending, best_ending, printed};
-use crate::command::{Command, MAX_MIGRATED_BYTES};
 use crate::ending::Ending;
 use crate::solving::{answer_to, core_of};
 use crate::summary::sum_up;
 use crate::teaming::team_answer;
-use crate::words::command;
 use mono_answer::Version;
 use mono_base::limits::{MAX_ANSWER_BYTES, MAX_INPUT_BYTES};
 use mono_base::{Lit, Row};
@@ -31,6 +29,8 @@ use mono_gen::{GenKind, generate};
 use mono_gnf::{GnfFault, GnfRefusal, read_gnf};
 use mono_io::{Shelf, read_whole};
 use mono_problem::Problem;
+use mono_words::command::{Command, MAX_MIGRATED_BYTES};
+use mono_words::words::command;
 use std::alloc::Global;
 
 /// What the run of these words over this shelf comes to, with nothing written yet.
@@ -52,30 +52,34 @@ fn carry_out<S: Shelf>(alloc: Global, words: &[String], shelf: &mut S) -> Result
 {
     match command(alloc, words)? {
         None => Ok(Ending::Words),
-        Some(Command::Solve { file, budget }) => solve(alloc, shelf, file.as_str(), budget),
-        Some(Command::Check { file, answer }) => {
-            check(alloc, shelf, file.as_str(), answer.as_str())
-        }
-        Some(
-            Command::Migrate {
-                file,
-                answer,
-                version,
-            },
-        ) => migration(alloc, shelf, file.as_str(), answer.as_str(), version),
-        Some(Command::Print { file }) => print(alloc, shelf, file.as_str()),
-        Some(
-            Command::Gen {
-                kind,
-                size,
-                seed,
-                solve,
-            },
-        ) => generated(alloc, kind, size, seed, solve),
-        Some(Command::Core { file, lits }) => narrow(alloc, shelf, file.as_str(), lits.as_slice()),
-        Some(Command::Best { file, atom }) => best(alloc, shelf, file.as_str(), atom),
-        Some(Command::Ask { file, atom, bound }) => asked(alloc, shelf, file.as_str(), atom, bound),
-        Some(Command::CheckWith { file, answer, lits }) => {
+        Some(command) => obey(alloc, shelf, &command),
+    }
+}
+
+/// What a command comes to. It only borrows the command, so that dropping it, a value of many forms, is written out once.
+fn obey<S: Shelf>(alloc: Global, shelf: &mut S, command: &Command) -> Result<Ending, Ending>
+    requires { IsWithinRange command.now }
+    ensures { let ends = Ends (Some command.now) (S.seen shelf.old) (S.seen shelf.new) in MatchResult result ends ends }
+{
+    match command {
+        Command::Solve { file, budget } => solve(alloc, shelf, file.as_str(), *budget),
+        Command::Check { file, answer } => check(alloc, shelf, file.as_str(), answer.as_str()),
+        Command::Migrate {
+            file,
+            answer,
+            version,
+        } => migration(alloc, shelf, file.as_str(), answer.as_str(), *version),
+        Command::Print { file } => print(alloc, shelf, file.as_str()),
+        Command::Gen {
+            kind,
+            size,
+            seed,
+            solve,
+        } => generated(alloc, *kind, *size, *seed, *solve),
+        Command::Core { file, lits } => narrow(alloc, shelf, file.as_str(), lits.as_slice()),
+        Command::Best { file, atom } => best(alloc, shelf, file.as_str(), *atom),
+        Command::Ask { file, atom, bound } => asked(alloc, shelf, file.as_str(), *atom, *bound),
+        Command::CheckWith { file, answer, lits } => {
             check_with(
                 alloc,
                 shelf,
@@ -84,13 +88,11 @@ fn carry_out<S: Shelf>(alloc: Global, words: &[String], shelf: &mut S) -> Result
                 lits.as_slice(),
             )
         }
-        Some(
-            Command::Team {
-                file,
-                workers,
-                rounds,
-            },
-        ) => team(alloc, shelf, file.as_str(), workers, rounds),
+        Command::Team {
+            file,
+            workers,
+            rounds,
+        } => team(alloc, shelf, file.as_str(), *workers, *rounds),
     }
 }
 

@@ -5,9 +5,9 @@ ghost use Rattle.mono_base.specs.declared.limits.TheConstants.{MAX_INPUT_BYTES, 
 ghost use Rattle.mono_io.specs.Faults.{counted};
 ghost use Rattle.mono_io.specs.Shelf.{Texts, ShelfView};
 ghost use Rattle.mono_answer.specs.declared.version.Version.{Version};
-ghost use Rattle.mono_forms.specs.declared.command.TheConstants.{MAX_MIGRATED_BYTES};
-ghost use Rattle.mono_forms.specs.declared.command.Command.{Command as CommandOf};
-ghost use Rattle.mono_forms.specs.declared.command.Command.TheVariants as command;
+ghost use Rattle.mono_words.specs.declared.command.TheConstants.{MAX_MIGRATED_BYTES};
+ghost use Rattle.mono_words.specs.declared.command.Command.{Command as CommandOf};
+ghost use Rattle.mono_words.specs.declared.command.Command.TheVariants as command;
 ghost use Rattle.mono_forms.specs.declared.ending.Ending.{Ending as EndingOf};
 ghost use Rattle.mono_forms.specs.declared.ending.Ending.TheVariants as ending;
 ghost use Rattle.mono_forms.specs.Runs.{Ends, AreAlike, IsSolving};

@@ -8,8 +8,6 @@
 pub mod asking;
 /// What `best` writes.
 mod best_text;
-/// Commands.
-pub mod command;
 /// What `core` writes.
 mod core_text;
 /// What a run comes to, and the text that it writes.
@@ -30,13 +28,11 @@ pub mod summary;
 mod teaming;
 /// The text that a run writes.
 pub mod text;
-/// The words of a command line.
-mod words;
 /// The last step of a run.
 mod writing;
 
-pub use command::Command;
 pub use ending::Ending;
 pub use forms::ending_of;
+pub use mono_words::Command;
 pub use status::Status;
 pub use writing::write_ending;

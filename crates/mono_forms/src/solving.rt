@@ -7,16 +7,16 @@ ghost use Rattle.mono_problem.specs.Instance.{Instance};
 ghost use Rattle.mono_problem.specs.WellFormed.{IsInstance};
 ghost use Rattle.mono_search.specs.Solving.{IsSolved};
 ghost use Rattle.mono_problem.specs.Assuming.{HasRoom};
-ghost use Rattle.mono_forms.specs.declared.command.TheConstants.{DEFAULT_BUDGET};
+ghost use Rattle.mono_words.specs.declared.command.TheConstants.{DEFAULT_BUDGET};
 ghost use Rattle.mono_forms.specs.Solved.{IsSolution, IsNarrowing};
 
-use crate::command::DEFAULT_BUDGET;
 use mono_answer::Answer;
 use mono_base::Lit;
 use mono_core::{CoreOutcome, core};
 use mono_kinds::all_theories;
 use mono_problem::Problem;
 use mono_search::{Solved, solve};
+use mono_words::command::DEFAULT_BUDGET;
 use std::alloc::{AllocError, Global};
 
 /// What the search comes to when it may learn so many clauses: a model, a refutation, or as much progress.

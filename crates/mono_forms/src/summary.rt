@@ -3,12 +3,11 @@
 ghost use Rattle.std.specs.Prelude.{◌≡◌, ◌++◌, ◌∷◌, [], IfOk, OnOk, codes, decimal};
 ghost use Rattle.mono_text.specs.Text.{spaced};
 ghost use Rattle.mono_problem.specs.WellFormed.{IsInstance};
-ghost use Rattle.mono_forms.specs.declared.command.TheConstants.{DEFAULT_BUDGET};
+ghost use Rattle.mono_words.specs.declared.command.TheConstants.{DEFAULT_BUDGET};
 ghost use Rattle.mono_answer.specs.Printed.{answer_text};
-ghost use Rattle.mono_forms.specs.Endings.{result_word as word_of, summary_text, progress_text};
+ghost use Rattle.mono_forms.specs.Endings.{result_word as word_of, summary_text, progress_text, verdict_text as text_of_verdict};
 ghost use Rattle.mono_forms.specs.Solved.{IsSummary};
 
-use crate::command::DEFAULT_BUDGET;
 use crate::ending::verdict_text;
 use crate::solving::answer_to;
 use mono_answer::{Answer, print_answer};
@@ -16,6 +15,7 @@ use mono_base::Row;
 use mono_check::Verdict;
 use mono_check::judge::verdict;
 use mono_problem::Problem;
+use mono_words::command::DEFAULT_BUDGET;
 use std::alloc::{AllocError, Global};
 
 /// The sizes of a problem, an answer to it, and the checker's verdict on the answer's text.
@@ -70,10 +70,8 @@ impl Summary {
         ensures { IfOk result (λ text. text.items ≡ summary_text self.now) }
     {
         let mut out = self.sizes_text(alloc)?;
-        out.extend_from_slice(b"result ")?;
-        out.extend_from_slice(result_word(&self.answer))?;
-        out.extend_from_slice(b"\nverdict ")?;
-        out.extend_from_slice(verdict_text(self.verdict).as_slice())?;
+        push_result(&mut out, &self.answer)?;
+        push_verdict(&mut out, self.verdict)?;
         out.extend_from_slice(self.progress.as_slice())?;
         Ok(out)
     }
@@ -99,6 +97,25 @@ fn push_size(alloc: Global, out: &mut Vec<u8>, word: &str, size: u32) -> Result<
 {
     let line = format!(in alloc; "{word} {size}\n")?;
     out.extend_from_slice(line.as_bytes())?;
+    Ok(())
+}
+
+/// The fifth line: the word that it says of an answer.
+fn push_result(out: &mut Vec<u8>, answer: &Answer) -> Result<(), AllocError>
+    ensures { OnOk result (out.new.items ≡ out.old.items ++ spaced (codes "result" ∷ word_of answer.now ∷ [])) }
+{
+    out.extend_from_slice(b"result ")?;
+    out.extend_from_slice(result_word(answer))?;
+    out.push(b'\n')?;
+    Ok(())
+}
+
+/// The sixth line: the verdict's text ends it.
+fn push_verdict(out: &mut Vec<u8>, verdict: Verdict) -> Result<(), AllocError>
+    ensures { OnOk result (out.new.items ≡ out.old.items ++ (codes "verdict " ++ text_of_verdict verdict)) }
+{
+    out.extend_from_slice(b"verdict ")?;
+    out.extend_from_slice(verdict_text(verdict).as_slice())?;
     Ok(())
 }
 

@@ -5,7 +5,7 @@ ghost use Rattle.mono_problem.specs.WellFormed.{IsInstance};
 ghost use Rattle.mono_steps.specs.Steps.{is_refutation};
 ghost use Rattle.mono_portfolio.specs.Ends.{IsRefutationOfTurn};
 ghost use Rattle.mono_portfolio.specs.Outcomes.{IsTeamOutcome};
-ghost use Rattle.mono_forms.specs.declared.command.TheConstants.{MAX_WORKERS};
+ghost use Rattle.mono_words.specs.declared.command.TheConstants.{MAX_WORKERS};
 ghost use Rattle.mono_forms.specs.Teams.{IsTeamSolution};
 
 use mono_answer::Answer;

@@ -25,6 +25,18 @@ taken_more old new limit taken before after buffer other count k chosen given wi
       taken = more k.bytes k.taken;
     }
 
+-- ---- the place after a piece
+
+-- no further than that
+pub place_within : (old new : Option ℕ) (taken count most : ℕ) → old ≡ Some taken → new ≡ advanced count old → taken + count ≤ most → IfSome new (λ place. place ≤ most)
+place_within old new taken count most is place within = subst (λ (p : Option ℕ). IfSome p (λ at. at ≤ most)) (sym (place ∙ ap (advanced count) is)) within
+
+-- and not there
+pub place_before : (old new : Option ℕ) (taken count limit : ℕ) → old ≡ Some taken → new ≡ advanced count old → taken + count ≤ limit → new ≡ Some (limit + 1) → ⊥
+place_before old new taken count limit is place within past =
+    let e : taken + count ≡ limit + 1 = let same : Some (taken + count) ≡ Some (limit + 1) = sym (place ∙ ap (advanced count) is) ∙ past in cc in
+    omega (arith, e)
+
 -- ---- the text that was read
 
 found : (o : Option (List ℕ)) (bytes : List ℕ) → (IsNone o → false ≡ true) → IfSome o (λ text. bytes ≡ text) → o ≡ Some bytes

@@ -1,4 +1,3 @@
-pub mod Kinds
 pub mod Sharing
 pub mod Slots
 pub mod Worked

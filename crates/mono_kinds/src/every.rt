@@ -2,13 +2,13 @@
 
 ghost use Rattle.std.specs.Prelude.{◌≡◌, ◌<◌, [], IfOk, All, length};
 ghost use Rattle.mono_theory.specs.Owners.{facts_of, fact_of, OwnsEach};
-ghost use Rattle.mono_kinds.specs.Kinds.{graph_of, atoms_of, seen_of};
+ghost use Rattle.mono_any.specs.Kinds.{graph_of, atoms_of, seen_of};
 ghost use Rattle.mono_kinds.specs.Sharing.{AreByGraphAndKind};
 ghost use Rattle.mono_kinds.specs.Slots.{AreMade, AreSlots, made_of, numbers_in, slot_count as count_of_slots};
 
-use crate::AnyTheory;
 use crate::slots::{KINDS, slot_count, slots_of};
 use mono_acyclic::AcyclicTheory;
+use mono_any::AnyTheory;
 use mono_base::Buckets;
 use mono_distance::DistanceTheory;
 use mono_flow::FlowTheory;

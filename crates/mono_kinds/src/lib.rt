@@ -1,8 +1,6 @@
-//! Theories of every kind that a problem has, behind one type.
+//! The theories of a problem, of every kind that it has.
 #![tactic(auto)]
 
-/// A theory of any kind.
-mod any;
 /// The theories of a problem.
 mod every;
 /// Atoms by graph and kind.
@@ -10,5 +8,5 @@ mod slots;
 /// Worked rows of the definitions.
 pub mod worked;
 
-pub use any::AnyTheory;
 pub use every::all_theories;
+pub use mono_any::AnyTheory;

@@ -73,6 +73,35 @@ fn cut_evidence(
     })
 }
 
+/// The evidence that a set is which is nearest to `to`, where a search finds one.
+fn far_cut(
+    alloc: Global,
+    finder: &mut WalkFinder,
+    marks: &mut NodeMarks,
+    graph: &Graph,
+    part: &Part,
+    from: u32,
+    to: u32,
+) -> Result<Option<Evidence>, AllocError>
+    requires finder { finder.old ≡ graph.now.nodes }
+    requires marks { marks.old ≡ graph.now.nodes }
+    requires part { IsPartOf part.now graph.now }
+    requires from { from < graph.now.nodes }
+    requires to { to < graph.now.nodes }
+    ensures finder { finder.new ≡ finder.old }
+    ensures marks { marks.new ≡ marks.old }
+    ensures evidence { IfOk result (λ far. IfSome far (IsEvidence graph.now part.now (Predicate.Reach from to))) }
+{
+    let wide = widened_for(alloc, graph, part, to)?;
+    match finder.find_path(graph, &wide, from, to)? {
+        PathOrCut::Path(_) => Ok(None),
+        PathOrCut::Cut(others) => {
+            let far = cut_evidence(alloc, marks, graph, &wide, others)?;
+            Ok(Some(far))
+        }
+    }
+}
+
 /// The evidence that a set is which has `from` and lacks `to`, and which no present edge leaves: this one, or the one
 /// nearest to `to`, whichever rests on fewer edges.
 fn least_cut(
@@ -100,18 +129,8 @@ fn least_cut(
     if near.edges.as_slice().len() < 2 {
         return Ok(near);
     }
-    let wide = widened_for(alloc, graph, part, to)?;
-    match finder.find_path(graph, &wide, from, to)? {
-        PathOrCut::Path(_) => Ok(near),
-        PathOrCut::Cut(others) => {
-            let far = cut_evidence(alloc, marks, graph, &wide, others)?;
-            if far.edges.as_slice().len() < near.edges.as_slice().len() {
-                Ok(far)
-            } else {
-                Ok(near)
-            }
-        }
-    }
+    let far = far_cut(alloc, finder, marks, graph, part, from, to)?;
+    Ok(near.or_lighter(far))
 }
 
 /// The evidence that a walk near to these edges is, where one is found there.

@@ -85,7 +85,7 @@ current_front b lits n e s = subst (λ (m : ℕ). All (IsCurrent (take m lits)) 
 
 -- ---- lemmas
 
-if_ok : {T E : Type 0} (r : Result T E) (P Q : T → Type 0) → IfOk r P → ((x : T) → P x → Q x) → IfOk r Q
+pub if_ok : {T E : Type 0} (r : Result T E) (P Q : T → Type 0) → IfOk r P → ((x : T) → P x → Q x) → IfOk r Q
 if_ok (Ok x) P Q h f = f x h
 if_ok (Err e) P Q h f = h
 

@@ -34,6 +34,14 @@ more_learned p t old new r l = more_chain old new (lemma_steps l.lemmas) (step.C
 pub more_refuted : (p : Instance) (old new : List Step) (n : ℕ) → Refutes p old new n → HasMoreSteps old new
 more_refuted p old new n r = more_chain old new (lemma_steps r.lemmas) (step.Chain (record { clause = []; used = r.used })) r.pushed
 
+-- more joined, and then more again
+pub more_after : {u v w : List Step} → HasMoreSteps u v → HasMoreSteps v w → HasMoreSteps u w
+more_after {u = u} first second =
+    record { more = first.more ++ second.more; joined = second.joined ∙ ap (λ (steps : List Step). steps ++ second.more) first.joined ∙ append_assoc u first.more second.more }
+
+pub more_same : {u v w : List Step} → w ≡ v → HasMoreSteps u v → HasMoreSteps u w
+more_same same h = record { more = h.more; joined = same ∙ h.joined }
+
 -- ---- the chains among them
 
 pub count_lemmas : (old new : List Step) → AddsLemmas old new → chain_count new ≡ chain_count old

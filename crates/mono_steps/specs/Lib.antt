@@ -3,6 +3,7 @@ pub mod ChainSteps
 pub mod Current
 pub mod Faults
 pub mod Steps
+pub mod WitnessLists
 pub mod Witnesses
 pub mod Worked
 pub mod WorkedLemmas

@@ -11,9 +11,14 @@ use std::marker::Model;
 const INLINE: usize = 4;
 
 /// A list of literals, read as a set (DIMACS CNF). Contracts see the list.
-#[derive(Drop)]
 pub struct Clause {
     items: SmallVec<Lit, INLINE>,
+}
+
+impl Drop for Clause {
+    fn drop(self) {
+        let Clause { items: _ } = self;
+    }
 }
 
 impl Model for Clause {

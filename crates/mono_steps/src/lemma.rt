@@ -1,6 +1,7 @@
 //! Lemmas: clauses that a predicate over a graph makes true, and what shows it (Bayless et al. 2015).
 
 ghost use Rattle.std.specs.Prelude.{◌≡◌, IfOk};
+ghost use Rattle.mono_steps.specs.WitnessLists.{list_of};
 
 use crate::Clause;
 use mono_base::Row;
@@ -11,7 +12,6 @@ use std::alloc::{AllocError, Global};
 ///
 /// `Path`, `Flow` and `Tree` show that it holds where some edges are present, and `Cycle` that it fails there. `Order` shows
 /// that it holds where some edges are absent, and the others that it fails there.
-#[derive(Drop)]
 pub enum Witness {
     /// The edges of a walk, in order, for a predicate on walks.
     Path(Row<u32>),
@@ -33,6 +33,34 @@ pub enum Witness {
     Cycle(Row<u32>),
     /// Each node once, so that each edge begins before it ends in the list, for the predicate that there is no cycle.
     Order(Row<u32>),
+}
+
+impl Drop for Witness {
+    fn drop(self) {
+        match self {
+            Witness::Path(_) => {}
+            Witness::Cut(_) => {}
+            Witness::Label(_) => {}
+            Witness::Flow(_) => {}
+            Witness::FlowCut(_) => {}
+            Witness::Tree(_) => {}
+            Witness::Split(_) => {}
+            Witness::Least(_) => {}
+            Witness::Cycle(_) => {}
+            Witness::Order(_) => {}
+        }
+    }
+}
+
+/// The list that a witness consists of, whatever it shows.
+#[derive(Drop)]
+pub enum WitnessList {
+    /// Edges or nodes.
+    Numbers(Row<u32>),
+    /// The labels of nodes.
+    Labels(Row<Label>),
+    /// The amounts of edges.
+    Amounts(Row<Amount>),
 }
 
 /// A clause that follows from what one predicate says of its graph.
@@ -68,6 +96,24 @@ impl Witness {
             Witness::Least(edges) => Ok(Witness::Least(copy_row(alloc, edges)?)),
             Witness::Cycle(edges) => Ok(Witness::Cycle(copy_row(alloc, edges)?)),
             Witness::Order(nodes) => Ok(Witness::Order(copy_row(alloc, nodes)?)),
+        }
+    }
+
+    /// Its list, so that another can be written in its room.
+    pub fn into_list(self) -> WitnessList
+        ensures { result ≡ list_of self }
+    {
+        match self {
+            Witness::Path(edges) => WitnessList::Numbers(edges),
+            Witness::Cut(nodes) => WitnessList::Numbers(nodes),
+            Witness::Label(labels) => WitnessList::Labels(labels),
+            Witness::Flow(amounts) => WitnessList::Amounts(amounts),
+            Witness::FlowCut(nodes) => WitnessList::Numbers(nodes),
+            Witness::Tree(edges) => WitnessList::Numbers(edges),
+            Witness::Split(nodes) => WitnessList::Numbers(nodes),
+            Witness::Least(edges) => WitnessList::Numbers(edges),
+            Witness::Cycle(edges) => WitnessList::Numbers(edges),
+            Witness::Order(nodes) => WitnessList::Numbers(nodes),
         }
     }
 }

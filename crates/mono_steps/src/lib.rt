@@ -57,7 +57,7 @@ pub use clause::Clause;
 pub use examining::examine;
 pub use fault::StepFault;
 pub use journal::Journal;
-pub use lemma::{Lemma, Witness};
+pub use lemma::{Lemma, Witness, WitnessList};
 pub use mono_graph::{Amount, Label};
 pub use renumbering::{named_by, new_numbers, renumber_steps};
 pub use step::{Chain, Step};

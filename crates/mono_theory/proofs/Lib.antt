@@ -1,9 +1,11 @@
 pub mod SortedOnce
 pub mod FramesStay
 pub mod EvidenceDecides
+pub mod Lighter
 pub mod ForcedAndExplained
 pub mod PlacesOfAtoms
 pub mod NothingChanges
+pub mod AtEachNode
 pub mod AtomsByNumber
 pub mod WalksAsEvidence
 pub mod RestingOnAbsent

@@ -3,7 +3,7 @@
 //! A witness has a sign, what it shows of the predicate, and rests on edges of one value, present or absent. For most
 //! predicates what rests on present edges shows that they hold; for those that fall as edges come it shows that they fail.
 
-ghost use Rattle.std.specs.Prelude.{◌≡◌, ◌<◌, ◌∷◌, map, length, IfOk, All};
+ghost use Rattle.std.specs.Prelude.{◌≡◌, ◌<◌, ◌⊎◌, ◌∷◌, map, length, IfOk, All, Some};
 ghost use Rattle.mono_graph.specs.Digraph.{edge_at};
 ghost use Rattle.mono_steps.specs.Switching.{literal_of};
 ghost use Rattle.mono_steps.specs.Witnesses.{is_positive as is_positive_witness, rests_on_present as rests_on_present_witness};
@@ -66,6 +66,20 @@ impl Evidence {
             witness,
             edges: Row::from_vec(edges),
         })
+    }
+
+    /// This, or the other, where that is there and rests on fewer edges.
+    pub fn or_lighter(self, other: Option<Evidence>) -> Evidence
+        ensures { (result ≡ self) ⊎ (other ≡ Some result) }
+    {
+        match other {
+            None => self,
+            Some(other) => if other.edges.as_slice().len() < self.edges.as_slice().len() {
+                other
+            } else {
+                self
+            },
+        }
     }
 }
 

@@ -4,7 +4,7 @@
 //! the label with the shorter list, so a node is relabelled at most log N times among N nodes. At first each list is
 //! empty, so that no memory is asked for node by node: a label's own node is added only when the label is rewritten.
 
-ghost use Rattle.std.specs.Prelude.{◌≡◌, ◌≢◌, ◌==◌, ◌<◌, ◌^◌, ◌++◌, ◌∷◌, [], ℕ, All, List, IfOk, OnOk, OnErr, if◌then◌else◌, length, slice_index, slice_index_or, slice_set};
+ghost use Rattle.std.specs.Prelude.{◌≡◌, ◌≢◌, ◌⊎◌, ◌==◌, ◌<◌, ◌^◌, ◌++◌, ◌∷◌, [], ℕ, All, List, IfOk, OnOk, OnErr, if◌then◌else◌, length, slice_index, slice_index_or, slice_set};
 ghost use Rattle.std.specs.List.{list_all, range_with_len};
 ghost use Rattle.mono_graph.specs.declared.edge.Edge.{Edge};
 ghost use Rattle.mono_graph.specs.Digraph.{has};
@@ -77,6 +77,28 @@ fn empty_lists(alloc: Global, count: u32) -> Result<Vec<Vec<u32>>, AllocError>
     Ok(lists)
 }
 
+/// Two labels, the one with the shorter list first.
+fn shorter_first(labels: &[u32], lists: &[Vec<u32>], first: u32, second: u32) -> (u32, u32)
+    requires first { first < length labels.now }
+    requires second { second < length labels.now }
+    requires lists { length labels.now ≡ length lists.now }
+    requires own_first { slice_index labels.now first ≡ first }
+    requires own_second { slice_index labels.now second ≡ second }
+    requires apart { first ≢ second }
+    ensures small { result.0 < length labels.now }
+    ensures large { result.1 < length labels.now }
+    ensures own_small { slice_index labels.now result.0 ≡ result.0 }
+    ensures own_large { slice_index labels.now result.1 ≡ result.1 }
+    ensures apart { result.0 ≢ result.1 }
+    ensures either { ((result.0 ≡ first) × (result.1 ≡ second)) ⊎ ((result.0 ≡ second) × (result.1 ≡ first)) }
+{
+    if lists[first as usize].len() < lists[second as usize].len() {
+        (first, second)
+    } else {
+        (second, first)
+    }
+}
+
 /// Rewrites one label to another. The nodes are moved with it, and the memory of their list stays where it was.
 fn merge(
     alloc: Global,
@@ -109,6 +131,31 @@ fn merge(
             Err(error)
         }
     }
+}
+
+/// Adds an edge between two nodes: what [`Components::join`] does, to the labels and their lists.
+fn join_labels(
+    alloc: Global,
+    labels: &mut [u32],
+    lists: &mut [Vec<u32>],
+    u: u32,
+    v: u32,
+) -> Result<(), AllocError>
+    requires kept { AreLists labels.old (lists_of lists.old) }
+    requires u { u < length labels.old }
+    requires v { v < length labels.old }
+    ensures kept { AreLists labels.new (lists_of lists.new) }
+    ensures tells { OnOk result ((es : List Edge) (e : Edge) → e.from ≡ u → e.to ≡ v → Tells es labels.old → Tells (es ++ e ∷ []) labels.new) }
+    ensures err { OnErr result (labels.new ≡ labels.old) }
+{
+    let first = labels[u as usize];
+    let second = labels[v as usize];
+    if first == second {
+        return Ok(());
+    }
+    let (small, large) = shorter_first(labels, lists, first, second);
+    merge(alloc, labels, lists, small, large)?;
+    Ok(())
 }
 
 /// Each node as its own label.
@@ -206,16 +253,7 @@ impl Components {
         ensures err { OnErr result (self.new ≡ self.old) }
     {
         let alloc = *self.lists.allocator();
-        let first = self.labels[u as usize];
-        let second = self.labels[v as usize];
-        if first == second {
-            return Ok(());
-        }
-        if self.lists[first as usize].len() < self.lists[second as usize].len() {
-            merge(alloc, &mut self.labels, &mut self.lists, first, second)?;
-        } else {
-            merge(alloc, &mut self.labels, &mut self.lists, second, first)?;
-        }
+        join_labels(alloc, &mut self.labels, &mut self.lists, u, v)?;
         Ok(())
     }
 }

@@ -1,6 +1,6 @@
 //! Cores of assumptions, each handed to `check-with`.
 
-use super::{Outcome, USAGE, assert_outcome, outcome_of};
+use super::{Outcome, USAGE, assert_outcome, assert_same, outcome_of};
 use mono_forms::Status;
 use std::alloc::{AllocError, Global};
 use std::process::Abort;
@@ -74,7 +74,7 @@ fn cores_are_accepted_under_their_literals(rt: HostRuntime) -> Result<(), Fail> 
     ];
     for (literals, beginning, status, judged_under, verdict) in rows {
         let found = core_of(rt.alloc(), literals)?;
-        assert_eq!(rt; found.status, *status);
+        assert_same(&rt, found.status, *status);
         assert!(rt; found.text.as_slice().starts_with(beginning));
         let judged = judged_with(rt.alloc(), found.text.as_slice(), judged_under)?;
         assert_outcome(&rt, &judged, verdict, Status::Accepted);
@@ -109,8 +109,8 @@ fn refutations_rest_on_their_assumptions(rt: HostRuntime) -> Result<(), Fail> {
         NO_ROUTE,
         found.text.as_slice(),
     )?;
-    assert_eq!(rt; alone.status, Status::Rejected);
+    assert_same(&rt, alone.status, Status::Rejected);
     let fewer = judged_with(rt.alloc(), found.text.as_slice(), &["1"])?;
-    assert_eq!(rt; fewer.status, Status::Rejected);
+    assert_same(&rt, fewer.status, Status::Rejected);
     Ok(())
 }

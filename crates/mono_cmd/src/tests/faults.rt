@@ -1,6 +1,6 @@
 //! Files that can't be read, and outputs that can't be written.
 
-use super::{put_files, run_words, shelf_of};
+use super::{assert_same, put_files, run_words, shelf_of};
 use mono_forms::Status;
 use mono_io::{MemoryShelf, MemorySink};
 use std::alloc::{AllocError, Global};
@@ -34,8 +34,8 @@ fn ends_in(
     status: Status,
 ) -> Result<(), Fail> {
     let found = run_words(rt.alloc(), line, shelf, out)?;
-    assert_eq!(rt; out.bytes(), text);
-    assert_eq!(rt; found, status);
+    assert_same(rt, out.bytes(), text);
+    assert_same(rt, found, status);
     Ok(())
 }
 

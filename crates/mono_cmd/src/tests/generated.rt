@@ -1,6 +1,6 @@
 //! Inputs that are generated, solved and summed up, how large they are, and what one conflict teaches.
 
-use super::{assert_outcome, checks, outcome_of};
+use super::{assert_outcome, assert_same, checks, outcome_of};
 use mono_forms::Status;
 use mono_gnf::read_gnf;
 use mono_problem::Problem;
@@ -24,7 +24,7 @@ fn writes(
 fn begins(rt: &(impl Abort + AllocGlobal), line: &[&str], start: &[u8]) -> Result<(), Fail> {
     let found = outcome_of(rt.alloc(), line, b"", b"")?;
     assert!(rt; found.text.as_slice().starts_with(start));
-    assert_eq!(rt; found.status, Status::Printed);
+    assert_same(rt, found.status, Status::Printed);
     Ok(())
 }
 
@@ -37,7 +37,7 @@ fn solves(
 ) -> Result<(), Fail> {
     let input = outcome_of(rt.alloc(), line, b"", b"")?;
     let found = outcome_of(rt.alloc(), &["solve", "f"], input.text.as_slice(), b"")?;
-    assert_eq!(rt; found.status, status);
+    assert_same(rt, found.status, status);
     checks(
         rt,
         input.text.as_slice(),
@@ -120,10 +120,10 @@ fn assert_counts(
     edges: u32,
     predicates: u32,
 ) {
-    assert_eq!(rt; problem.vars(), variables);
-    assert_eq!(rt; problem.clause_count(), clauses);
-    assert_eq!(rt; problem.edge_count(), edges);
-    assert_eq!(rt; problem.atom_count(), predicates);
+    assert_same(rt, problem.vars(), variables);
+    assert_same(rt, problem.clause_count(), clauses);
+    assert_same(rt, problem.edge_count(), edges);
+    assert_same(rt, problem.atom_count(), predicates);
 }
 
 #[test]
@@ -175,7 +175,7 @@ fn has_one_chain_of_two(text: &[u8]) -> bool {
 fn one_conflict_teaches_a_clause_of_two_literals(rt: HostRuntime) -> Result<(), Fail> {
     let line = ["solve", "f", "--conflicts", "1"];
     let found = outcome_of(rt.alloc(), &line, EIGHT, b"")?;
-    assert_eq!(rt; found.status, Status::Unknown);
+    assert_same(&rt, found.status, Status::Unknown);
     assert!(rt; found.text.as_slice().starts_with(b"s UNKNOWN\n"));
     assert!(rt; has_one_chain_of_two(found.text.as_slice()));
     Ok(())

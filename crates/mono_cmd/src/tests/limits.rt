@@ -2,6 +2,7 @@
 
 ghost use Rattle.std.specs.Prelude.{◌≤◌};
 
+use super::assert_same;
 use super::faults::{INPUT, MODEL, ends_within, ends_without_answer};
 use mono_check::{CheckRefusal, Reason, Verdict, verdict_from};
 use mono_forms::Status;
@@ -140,15 +141,17 @@ fn an_answer_beyond_its_limit_is_told_before_its_faults(rt: HostRuntime) -> Resu
         reason: Reason::NotAnswer,
     });
     let line = b"x                    ";
-    assert_eq!(rt; verdict_within(rt.alloc(), b"", 0), rejected);
-    assert_eq!(rt;
+    assert_same(&rt, verdict_within(rt.alloc(), b"", 0), rejected);
+    assert_same(
+        &rt,
         verdict_within(rt.alloc(), b" ", 0),
-        Err(CheckRefusal::TooLong)
+        Err(CheckRefusal::TooLong),
     );
-    assert_eq!(rt;
+    assert_same(
+        &rt,
         verdict_within(rt.alloc(), line, 20),
-        Err(CheckRefusal::TooLong)
+        Err(CheckRefusal::TooLong),
     );
-    assert_eq!(rt; verdict_within(rt.alloc(), line, 21), rejected);
+    assert_same(&rt, verdict_within(rt.alloc(), line, 21), rejected);
     Ok(())
 }

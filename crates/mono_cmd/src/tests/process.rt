@@ -1,5 +1,6 @@
 //! The process itself: its words, and what it exits with.
 
+use super::assert_same;
 use crate::exit::run_over;
 use crate::given::{SystemWords, Words, WordsRefusal};
 use mono_io::SystemFiles;
@@ -15,7 +16,7 @@ use std::test::Fail;
 fn words_that_are_no_command_exit_with_2(rt: HostRuntime) -> Result<(), Fail> {
     let words = SystemWords::new(&rt);
     let run = run_over(rt.alloc(), &words, SystemFiles::new(&rt), io::writer(&rt));
-    assert_eq!(rt; run.exit().code(), 2);
+    assert_same(&rt, run.exit().code(), 2);
     Ok(())
 }
 
@@ -56,7 +57,7 @@ fn words_of(alloc: Global, byte: u8) -> Option<usize> {
 /// A byte that begins no character is no text.
 #[test]
 fn a_word_that_is_no_text_is_told(rt: HostRuntime) -> Result<(), Fail> {
-    assert_eq!(rt; words_of(rt.alloc(), b'x'), Some(1));
-    assert_eq!(rt; words_of(rt.alloc(), 0xff), None);
+    assert_same(&rt, words_of(rt.alloc(), b'x'), Some(1));
+    assert_same(&rt, words_of(rt.alloc(), 0xff), None);
     Ok(())
 }

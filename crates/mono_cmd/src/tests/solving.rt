@@ -3,7 +3,7 @@
 use super::acyclic::{
     BESIDE, DENIED, NO_EDGE, ONE_WAY, OWN_EDGE, OWN_LOOP, PARALLEL, ROUND_TRIP, TWO_GRAPHS,
 };
-use super::{assert_outcome, checks, outcome_of};
+use super::{assert_outcome, assert_same, checks, outcome_of};
 use mono_forms::Status;
 use std::alloc::{AllocError, Global};
 use std::process::Abort;
@@ -59,7 +59,7 @@ fn answers(
     verdict: &[u8],
 ) -> Result<(), Fail> {
     let found = outcome_of(rt.alloc(), line, input, b"")?;
-    assert_eq!(rt; found.status, status);
+    assert_same(rt, found.status, status);
     checks(rt, input, found.text.as_slice(), verdict, Status::Accepted)
 }
 
@@ -340,7 +340,7 @@ fn writes_the_same(
 ) -> Result<(), Fail> {
     let first = outcome_of(rt.alloc(), &["solve", "f"], input, b"")?;
     let second = outcome_of(rt.alloc(), &["solve", "f"], input, b"")?;
-    assert_eq!(rt; first.status, status);
+    assert_same(rt, first.status, status);
     assert_outcome(rt, &second, first.text.as_slice(), status);
     Ok(())
 }

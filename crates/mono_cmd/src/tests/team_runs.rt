@@ -1,6 +1,6 @@
 //! Runs of `team`, each judged by `check`.
 
-use super::{Outcome, assert_outcome, outcome_of};
+use super::{Outcome, assert_outcome, assert_same, outcome_of};
 use mono_forms::Status;
 use std::alloc::{AllocError, Global};
 use std::process::Abort;
@@ -68,7 +68,7 @@ fn answers_of_teams_are_accepted(rt: HostRuntime) -> Result<(), Fail> {
     ];
     for (input, workers, rounds, status, beginning, verdict) in rows {
         let found = played(rt.alloc(), input, workers, rounds)?;
-        assert_eq!(rt; found.status, *status);
+        assert_same(&rt, found.status, *status);
         assert!(rt; found.text.as_slice().starts_with(beginning));
         let judged = outcome_of(
             rt.alloc(),

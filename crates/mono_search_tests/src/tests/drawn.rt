@@ -1,6 +1,7 @@
 //! Drawn lists of calls of the theories. Each answer, and what is kept behind it, is compared with what the searches for one
 //! predicate find in the parts that the literals seen leave, which are made anew for it.
 
+use super::assert_same;
 use mono_kinds::{AnyTheory, all_theories};
 use mono_problem::Problem;
 use rand_pcg::Lcg64Xsh32;
@@ -69,20 +70,20 @@ fn first_wrong(alloc: Global, each: u32, share: bool) -> Result<Option<u64>, Fai
 #[test]
 fn one_atom_of_each_kind(rt: HostRuntime) -> Result<(), Fail> {
     let wrong = first_wrong(rt.alloc(), 1, false)?;
-    assert_eq!(rt; wrong, None);
+    assert_same(&rt, wrong, None);
     Ok(())
 }
 
 #[test]
 fn atoms_that_share_their_first_node(rt: HostRuntime) -> Result<(), Fail> {
     let wrong = first_wrong(rt.alloc(), 4, false)?;
-    assert_eq!(rt; wrong, None);
+    assert_same(&rt, wrong, None);
     Ok(())
 }
 
 #[test]
 fn edges_and_atoms_that_share_variables(rt: HostRuntime) -> Result<(), Fail> {
     let wrong = first_wrong(rt.alloc(), 2, true)?;
-    assert_eq!(rt; wrong, None);
+    assert_same(&rt, wrong, None);
     Ok(())
 }

@@ -6,6 +6,7 @@ ghost use Rattle.std.specs.Prelude.{◌≡◌, length, IsTrue};
 ghost use Rattle.mono_problem.specs.Read.{atom_numbered};
 ghost use Rattle.mono_reach.specs.Reaches.{is_reach};
 
+use super::assert_same;
 use mono_base::Lit;
 use mono_gnf::read_gnf;
 use mono_problem::{Predicate, Problem};
@@ -136,7 +137,7 @@ fn a_wrapped_theory_is_searched(rt: HostRuntime) -> Result<(), Fail> {
     ] {
         let problem = read_gnf(rt.alloc(), input.as_bytes())?;
         let found = is_satisfiable(rt.alloc(), &problem)?;
-        assert_eq!(rt; found, Some(satisfiable));
+        assert_same(&rt, found, Some(satisfiable));
     }
     Ok(())
 }

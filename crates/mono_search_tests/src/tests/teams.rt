@@ -1,5 +1,6 @@
 //! Teams of workers: lists of events that meet each reply, and drawn ones beside a plain model of the state.
 
+use super::assert_same;
 use mono_gnf::read_gnf;
 use mono_kinds::all_theories;
 use mono_portfolio::{Event, Reply, Team, play};
@@ -48,27 +49,61 @@ fn replies_to(alloc: Global, input: &[u8], events: &[Event]) -> Result<Vec<&'sta
     Ok(names)
 }
 
+/// The names of the replies begin with these, and there is one for each event.
+fn assert_replies(
+    rt: &impl Abort,
+    alloc: Global,
+    input: &[u8],
+    events: &[Event],
+    expected: &[&'static str],
+) -> Result<(), Fail> {
+    let mut replies = replies_to(alloc, input, events)?;
+    assert_same(rt, replies.len(), events.len());
+    replies.truncate(expected.len());
+    assert_same(rt, replies.as_slice(), expected);
+    Ok(())
+}
+
+/// A problem with as many literals as an input may have takes no further one.
+fn assert_full(rt: &impl Abort, alloc: Global) -> Result<(), Fail> {
+    let input = full_input(alloc)?;
+    assert_replies(
+        rt,
+        alloc,
+        input.as_slice(),
+        &[run_of(0, 1), give_of(0), take_of(1, 10), take_of(0, 10)],
+        &["Slice", "Given 1", "Full", "Full"],
+    )
+}
+
+/// What was made before a model is found is gone.
+fn assert_model(rt: &impl Abort, alloc: Global) -> Result<(), Fail> {
+    assert_replies(
+        rt,
+        alloc,
+        b"1 2 0\n-1 2 0\n",
+        &[run_of(1, 1), give_of(1), run_of(0, 7)],
+        &["Model", "NothingMade", "Model"],
+    )
+}
+
 /// Each reply of a team of two.
 #[test]
 fn each_reply_is_met(rt: HostRuntime) -> Result<(), Fail> {
-    let replies = replies_to(
-        rt.alloc(),
-        EIGHT,
-        &[
-            run_of(0, 1),
-            give_of(0),
-            take_of(1, 9),
-            run_of(1, 1),
-            give_of(1),
-            take_of(1, 9),
-            run_of(5, 1),
-            run_of(0, 0),
-            give_of(0),
-            take_of(0, 1),
-            run_of(0, 100),
-            give_of(0),
-        ],
-    )?;
+    let events = [
+        run_of(0, 1),
+        give_of(0),
+        take_of(1, 9),
+        run_of(1, 1),
+        give_of(1),
+        take_of(1, 9),
+        run_of(5, 1),
+        run_of(0, 0),
+        give_of(0),
+        take_of(0, 1),
+        run_of(0, 100),
+        give_of(0),
+    ];
     let expected = [
         "Slice",
         "Given 1",
@@ -82,32 +117,9 @@ fn each_reply_is_met(rt: HostRuntime) -> Result<(), Fail> {
         "NoStep",
         "Unsat",
     ];
-    assert!(rt; replies.as_slice().starts_with(&expected));
-    assert_eq!(rt; replies.len(), 12);
-
-    // A problem with as many literals as an input may have takes no further one.
-    let input = full_input(rt.alloc())?;
-    let full = replies_to(
-        rt.alloc(),
-        input.as_slice(),
-        &[run_of(0, 1), give_of(0), take_of(1, 10), take_of(0, 10)],
-    )?;
-    assert_eq!(rt;
-        full.as_slice(),
-        ["Slice", "Given 1", "Full", "Full"].as_slice()
-    );
-
-    // What was made before a model is found is gone.
-    let found = replies_to(
-        rt.alloc(),
-        b"1 2 0\n-1 2 0\n",
-        &[run_of(1, 1), give_of(1), run_of(0, 7)],
-    )?;
-    assert_eq!(rt;
-        found.as_slice(),
-        ["Model", "NothingMade", "Model"].as_slice()
-    );
-    Ok(())
+    assert_replies(&rt, rt.alloc(), EIGHT, &events, &expected)?;
+    assert_full(&rt, rt.alloc())?;
+    assert_model(&rt, rt.alloc())
 }
 
 /// An event for one of five workers, of which three are there.
@@ -161,6 +173,6 @@ fn first_wrong(alloc: Global) -> Result<Option<u64>, Fail> {
 #[test]
 fn drawn_lists_agree_with_a_plain_model(rt: HostRuntime) -> Result<(), Fail> {
     let wrong = first_wrong(rt.alloc())?;
-    assert_eq!(rt; wrong, None);
+    assert_same(&rt, wrong, None);
     Ok(())
 }

@@ -1,3 +1,4 @@
+use super::assert_same;
 use mono_answer::{
     Answer, Item, ItemReader, ItemRefusal, is_version_line, print_answer, read_item,
 };
@@ -31,7 +32,7 @@ fn every_word_is_read_and_printed(rt: HostRuntime) -> Result<(), Fail> {
         Err(_) => assert!(rt; false),
         Ok(steps) => {
             let printed = print_answer(rt.alloc(), &Answer::Refutation(Row::from_vec(steps)))?;
-            assert_eq!(rt; printed.as_slice(), want.as_slice());
+            assert_same(&rt, printed.as_slice(), want.as_slice());
         }
     }
     Ok(())
@@ -70,6 +71,6 @@ fn version_lines(rt: HostRuntime) {
     ];
     for (text, found) in table {
         let line = Line { number: 1, text };
-        assert_eq!(rt; is_version_line(&line), found);
+        assert_same(&rt, is_version_line(&line), found);
     }
 }

@@ -3,6 +3,7 @@
 ghost use Rattle.std.specs.Prelude.{◌≡◌, ◌≤◌};
 ghost use Rattle.mono_base.specs.Literal.{var_of};
 
+use super::{assert_same, assert_same_at};
 use mono_base::{Lit, LitSet, Name, Row};
 use std::process::Abort;
 use std::test::Fail;
@@ -28,13 +29,10 @@ fn small(rt: &impl Abort, number: i32) -> Lit
 fn assert_members(rt: &impl Abort, set: &LitSet, members: &[i32])
     requires { set.now.vars ≡ 3 }
 {
-    assert_eq!(rt; set.members().len(), members.len());
+    assert_same(rt, set.members().len(), members.len());
     for number in [-3, -2, -1, 1, 2, 3] {
-        assert_eq!(rt;
-            set.has(small(rt, number)),
-            members.contains(&number),
-            "at {number}"
-        );
+        let is_member = set.has(small(rt, number));
+        assert_same_at(rt, &number, is_member, members.contains(&number));
     }
 }
 
@@ -51,7 +49,7 @@ fn numbers_that_are_literals(rt: HostRuntime) {
         (i32::MAX, false),
         (i32::MIN, false),
     ] {
-        assert_eq!(rt; Lit::new(number).is_some(), is_literal, "at {number}");
+        assert_same_at(&rt, &number, Lit::new(number).is_some(), is_literal);
     }
 }
 
@@ -65,23 +63,19 @@ fn parts_of_literals(rt: HostRuntime) {
         (-1_000_000, 1_000_000, false, 1_000_000),
     ] {
         let lit = Lit::new(number).expect(&rt, "a literal");
-        assert_eq!(rt; lit.number(), number);
-        assert_eq!(rt; lit.var(), var, "the variable of {number}");
-        assert_eq!(rt; lit.is_positive(), is_positive, "the sign of {number}");
-        assert_eq!(rt;
-            lit.negated().number(),
-            opposite,
-            "the opposite of {number}"
-        );
+        assert_same(&rt, lit.number(), number);
+        assert_same_at(&rt, &number, lit.var(), var);
+        assert_same_at(&rt, &number, lit.is_positive(), is_positive);
+        assert_same_at(&rt, &number, lit.negated().number(), opposite);
     }
 }
 
 #[test]
 fn rows_keep_their_items(rt: HostRuntime) -> Result<(), Fail> {
     let row = Row::from_vec(vec![in rt.alloc(); 3u32, 1, 3]?);
-    assert_eq!(rt; row.as_slice(), [3, 1, 3].as_slice());
+    assert_same(&rt, row.as_slice(), [3, 1, 3].as_slice());
     let items = row.into_vec();
-    assert_eq!(rt; items.as_slice(), [3, 1, 3].as_slice());
+    assert_same(&rt, items.as_slice(), [3, 1, 3].as_slice());
     Ok(())
 }
 
@@ -89,7 +83,7 @@ fn rows_keep_their_items(rt: HostRuntime) -> Result<(), Fail> {
 fn names_keep_their_text(rt: HostRuntime) -> Result<(), Fail> {
     for text in ["", "p cnf 3 2", "größer"] {
         let name = Name::from_string(String::from_str(rt.alloc(), text)?);
-        assert_eq!(rt; name.as_str(), text);
+        assert_same(&rt, name.as_str(), text);
     }
     Ok(())
 }
@@ -136,6 +130,6 @@ fn sets_at_the_limits(rt: HostRuntime) -> Result<(), Fail> {
     assert!(rt; all.has(last.negated()));
     assert!(rt; !all.has(last));
     all.insert(last);
-    assert_eq!(rt; all.members().len(), 2);
+    assert_same(&rt, all.members().len(), 2);
     Ok(())
 }

@@ -2,6 +2,7 @@
 
 ghost use Rattle.std.specs.Prelude.{◌+◌, ◌≤◌, IsTrue, OnOk, length};
 
+use super::{assert_same, assert_same_at};
 use mono_answer::{Item, read_item};
 use mono_check::{Checker, MOST_FED, Verdict};
 use mono_gen::{GenKind, generate};
@@ -72,7 +73,7 @@ fn lemmas_of_each_word_are_examined(rt: HostRuntime) -> Result<(), Fail> {
         ),
         (ROUND_TRIP, "path 1 3 0", Some(StepFault::WrongKind)),
     ] {
-        assert_eq!(rt; found_in(rt.alloc(), input, line)?, fault, "{line}");
+        assert_same_at(&rt, &line, found_in(rt.alloc(), input, line)?, fault);
     }
     Ok(())
 }
@@ -114,7 +115,7 @@ fn assert_verdicts(rt: &impl Abort, alloc: Global, problem: &Problem) -> Result<
         ("s UNKNOWN\n", "", Verdict::Progress(0)),
     ] {
         let found = verdict_on(alloc, problem, first.as_bytes(), second.as_bytes())?;
-        assert_eq!(rt; found, Some((true, verdict)));
+        assert_same(rt, found, Some((true, verdict)));
     }
     Ok(())
 }
@@ -128,9 +129,10 @@ fn a_checker_is_fed_in_pieces(rt: HostRuntime) -> Result<(), Fail> {
 #[test]
 fn a_text_is_generated(rt: HostRuntime) -> Result<(), Fail> {
     let text = generate(rt.alloc(), GenKind::Wall, 2, 7)?;
-    assert_eq!(rt;
+    assert_same(
+        &rt,
         text.as_slice(),
-        b"p gnf 9 3\ndigraph int 4 8 0\nedge 0 0 1 1 1\nedge 0 0 2 2 2\nedge 0 1 3 3 9\nedge 0 1 0 4 3\nedge 0 2 3 5 5\nedge 0 2 0 6 2\nedge 0 3 2 7 6\nedge 0 3 1 8 3\nreach 0 0 3 9\n9 0\n-1 0\n-5 0\n".as_slice()
+        b"p gnf 9 3\ndigraph int 4 8 0\nedge 0 0 1 1 1\nedge 0 0 2 2 2\nedge 0 1 3 3 9\nedge 0 1 0 4 3\nedge 0 2 3 5 5\nedge 0 2 0 6 2\nedge 0 3 2 7 6\nedge 0 3 1 8 3\nreach 0 0 3 9\n9 0\n-1 0\n-5 0\n".as_slice(),
     );
     Ok(())
 }

@@ -7,6 +7,7 @@ ghost use Rattle.mono_base.specs.Partial.{is_open_in};
 ghost use Rattle.mono_clauses.specs.Propagation.{FoundIs};
 ghost use Rattle.mono_clauses.specs.Store.{Follows};
 
+use super::assert_same;
 use mono_base::{Lit, Value};
 use mono_clauses::{ClauseStore, Found, laws};
 use mono_trail::Trail;
@@ -154,11 +155,11 @@ fn assert_found(
     found: Found,
 ) -> Result<(), AllocError> {
     let is_false = plain.close(known)?;
-    assert_eq!(rt; found != Found::Quiet, is_false);
+    assert_same(rt, found != Found::Quiet, is_false);
     if is_false {
         return Ok(());
     }
-    assert_eq!(rt; trail.lits().len(), known.len());
+    assert_same(rt, trail.lits().len(), known.len());
     for lit in trail.lits() {
         assert!(rt; known.contains(&lit.number()));
     }
@@ -348,7 +349,7 @@ fn clauses_worked_by_hand(rt: HostRuntime) -> Result<(), Fail> {
             [1].as_slice(),
         ),
     ] {
-        assert_eq!(rt; after(&rt, rt.alloc(), 3, calls)?.as_slice(), trail);
+        assert_same(&rt, after(&rt, rt.alloc(), 3, calls)?.as_slice(), trail);
     }
     Ok(())
 }
@@ -382,11 +383,12 @@ impl Draw {
 
     /// A clause of up to four literals, seldom of none.
     fn clause(&mut self, alloc: Global, vars: u32) -> Result<Vec<i32>, AllocError> {
+        let count = match self.below(40) {
+            0 => 0,
+            _ => self.below(4).wrapping_add(1),
+        };
         let mut clause = Vec::new(alloc);
-        if self.below(40) == 0 {
-            return Ok(clause);
-        }
-        for _ in 0..self.below(4).wrapping_add(1) {
+        for _ in 0..count {
             clause.push(self.number(vars))?;
         }
         Ok(clause)

@@ -1,4 +1,5 @@
 //! A text that was read by hand, and the limits of an input.
+use super::{assert_count, assert_same};
 use mono_base::Lit;
 use mono_gnf::{GnfFault, GnfRefusal, read_gnf};
 use mono_graph::{Edge, Graph};
@@ -28,8 +29,8 @@ mst_weight_lt 0 8 0\n\
 
 /// The first graph has its edges, in the order of their lines.
 fn assert_first_graph(rt: &impl Abort, graph: &Graph) {
-    assert_eq!(rt; graph.nodes(), 3);
-    assert_eq!(rt; graph.edge_count(), 2);
+    assert_same(rt, graph.nodes(), 3);
+    assert_count(rt, graph.edge_count(), 2);
     let late = Edge {
         number: 2,
         from: 1,
@@ -37,17 +38,17 @@ fn assert_first_graph(rt: &impl Abort, graph: &Graph) {
         var: 2,
         weight: 9,
     };
-    assert_eq!(rt; graph.edge(0).weight, 1);
-    assert_eq!(rt; graph.edge(1), late);
+    assert_same(rt, graph.edge(0).weight, 1);
+    assert_same(rt, graph.edge(1), late);
 }
 
 /// The problem has its variables and its graphs.
 fn assert_graphs(rt: &impl Abort, problem: &Problem) {
-    assert_eq!(rt; problem.vars(), 12);
-    assert_eq!(rt; problem.graph_count(), 2);
-    assert_eq!(rt; problem.edge_count(), 3);
-    assert_eq!(rt; problem.graph_id(0), 7);
-    assert_eq!(rt; problem.graph_id(1), 0);
+    assert_same(rt, problem.vars(), 12);
+    assert_count(rt, problem.graph_count(), 2);
+    assert_same(rt, problem.edge_count(), 3);
+    assert_same(rt, problem.graph_id(0), 7);
+    assert_same(rt, problem.graph_id(1), 0);
     assert_first_graph(rt, problem.graph(0));
 }
 
@@ -79,7 +80,7 @@ fn assert_predicates(rt: &impl Abort, problem: &Problem) {
         },
         Predicate::Tree { most: -1 },
     ];
-    assert_eq!(rt; problem.atom_count(), 5);
+    assert_count(rt, problem.atom_count(), 5);
     for place in 0..5u32 {
         let atom = Atom {
             number: place + 1,
@@ -87,7 +88,7 @@ fn assert_predicates(rt: &impl Abort, problem: &Problem) {
             var: place + 4,
             predicate: predicates[place as usize],
         };
-        assert_eq!(rt; problem.atom(place + 1), atom);
+        assert_same(rt, problem.atom(place + 1), atom);
     }
 }
 
@@ -100,16 +101,16 @@ fn every_predicate(rt: HostRuntime) -> Result<(), Fail> {
 
 /// The literals have these numbers.
 fn assert_numbers(rt: &impl Abort, clause: &[Lit], numbers: &[i32]) {
-    assert_eq!(rt; clause.len(), numbers.len());
+    assert_same(rt, clause.len(), numbers.len());
     for (lit, number) in clause.iter().zip(numbers.iter()) {
-        assert_eq!(rt; lit.number(), *number);
+        assert_same(rt, lit.number(), *number);
     }
 }
 
 /// The problem has a clause over two lines, the empty one, and one with both signs of a variable.
 fn assert_clauses(rt: &impl Abort, problem: &Problem) {
     let clauses: [&[i32]; 3] = [&[1, -2, 3], &[], &[-8, 8]];
-    assert_eq!(rt; problem.clause_count(), 3);
+    assert_count(rt, problem.clause_count(), 3);
     for place in 0..3u32 {
         assert_numbers(rt, problem.clause(place + 1), clauses[place as usize]);
     }
@@ -124,8 +125,8 @@ fn every_clause(rt: HostRuntime) -> Result<(), Fail> {
 
 #[test]
 fn names(rt: HostRuntime) {
-    assert_eq!(rt; GnfFault::UnknownWord.name(), "UnknownWord");
-    assert_eq!(rt; GnfFault::TooMany.name(), "TooMany");
+    assert_same(&rt, GnfFault::UnknownWord.name(), "UnknownWord");
+    assert_same(&rt, GnfFault::TooMany.name(), "TooMany");
 }
 
 /// Why a text is refused, if it is.
@@ -155,9 +156,10 @@ fn refusals(rt: HostRuntime) {
         ),
     ];
     for (text, line, fault) in table {
-        assert_eq!(rt;
+        assert_same(
+            &rt,
             refused(rt.alloc(), text),
-            Some(GnfRefusal::At { line, fault })
+            Some(GnfRefusal::At { line, fault }),
         );
     }
 }
@@ -179,61 +181,69 @@ fn too_many(line: u64) -> Option<GnfRefusal> {
     })
 }
 
+/// The text is read, and with more behind it there is too much, in this line.
+fn assert_full(
+    rt: &impl Abort,
+    alloc: Global,
+    text: &mut Vec<u8>,
+    more: &[u8],
+    line: u64,
+) -> Result<(), Fail> {
+    assert_same(rt, refused(alloc, text), None);
+    text.extend_from_slice(more)?;
+    assert_same(rt, refused(alloc, text), too_many(line));
+    Ok(())
+}
+
+/// Adds a graph of this number.
+fn push_graph(text: &mut Vec<u8>, id: u64) -> Result<(), AllocError> {
+    text.extend_from_slice(b"digraph int 1 0 ")?;
+    push_natural(text, id)?;
+    text.push(b'\n')?;
+    Ok(())
+}
+
 #[test]
 fn graph_limit(rt: HostRuntime) -> Result<(), Fail> {
     let mut text = Vec::new(rt.alloc());
     for id in 0..1024u64 {
-        text.extend_from_slice(b"digraph int 1 0 ")?;
-        push_natural(&mut text, id)?;
-        text.push(b'\n')?;
+        push_graph(&mut text, id)?;
     }
-    assert_eq!(rt; refused(rt.alloc(), &text), None);
-    text.extend_from_slice(b"digraph int 1 0 1024\n")?;
-    assert_eq!(rt; refused(rt.alloc(), &text), too_many(1025));
-    Ok(())
+    assert_full(&rt, rt.alloc(), &mut text, b"digraph int 1 0 1024\n", 1025)
 }
 
 #[test]
 fn edge_limit(rt: HostRuntime) -> Result<(), Fail> {
     let mut text = repeated(rt.alloc(), b"digraph 1 0 0\n", b"edge 0 0 0 1\n", 1_000_000)?;
-    assert_eq!(rt; refused(rt.alloc(), &text), None);
-    text.extend_from_slice(b"edge 0 0 0 1")?;
-    assert_eq!(rt; refused(rt.alloc(), &text), too_many(1_000_002));
-    Ok(())
+    assert_full(&rt, rt.alloc(), &mut text, b"edge 0 0 0 1", 1_000_002)
 }
 
 #[test]
 fn predicate_limit(rt: HostRuntime) -> Result<(), Fail> {
     let mut text = repeated(rt.alloc(), b"digraph 1 0 0\n", b"reach 0 0 0 1\n", 100_000)?;
-    assert_eq!(rt; refused(rt.alloc(), &text), None);
-    text.extend_from_slice(b"reach 0 0 0 1")?;
-    assert_eq!(rt; refused(rt.alloc(), &text), too_many(100_002));
-    Ok(())
+    assert_full(&rt, rt.alloc(), &mut text, b"reach 0 0 0 1", 100_002)
 }
 
 #[test]
 fn clause_limit(rt: HostRuntime) -> Result<(), Fail> {
     let mut text = repeated(rt.alloc(), b"", b"0\n", 8_000_000)?;
-    assert_eq!(rt; refused(rt.alloc(), &text), None);
-    text.push(b'0')?;
-    assert_eq!(rt; refused(rt.alloc(), &text), too_many(8_000_001));
-    Ok(())
+    assert_full(&rt, rt.alloc(), &mut text, b"0", 8_000_001)
+}
+
+/// The text ends within a clause, and once that clause has ended, one literal more is too much.
+fn assert_full_of_literals(rt: &impl Abort, alloc: Global, text: &mut Vec<u8>) -> Result<(), Fail> {
+    text.extend_from_slice(b"1 1 1\n")?;
+    let unfinished = GnfRefusal::At {
+        line: 4_000_000,
+        fault: GnfFault::UnfinishedClause,
+    };
+    assert_same(rt, refused(alloc, text), Some(unfinished));
+    text.extend_from_slice(b"1 0 0")?;
+    assert_full(rt, alloc, text, b" 1", 4_000_001)
 }
 
 #[test]
 fn literal_limit(rt: HostRuntime) -> Result<(), Fail> {
     let mut text = repeated(rt.alloc(), b"", b"1 -2 3 4 0\n", 3_999_999)?;
-    text.extend_from_slice(b"1 1 1\n")?;
-    assert_eq!(rt;
-        refused(rt.alloc(), &text),
-        Some(GnfRefusal::At {
-            line: 4_000_000,
-            fault: GnfFault::UnfinishedClause
-        })
-    );
-    text.extend_from_slice(b"1 0 0")?;
-    assert_eq!(rt; refused(rt.alloc(), &text), None);
-    text.extend_from_slice(b" 1")?;
-    assert_eq!(rt; refused(rt.alloc(), &text), too_many(4_000_001));
-    Ok(())
+    assert_full_of_literals(&rt, rt.alloc(), &mut text)
 }

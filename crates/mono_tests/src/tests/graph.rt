@@ -1,6 +1,7 @@
 ghost use Rattle.std.specs.Prelude.{◌≡◌, ◌≤◌, IfOk, [], ◌∷◌, length};
 ghost use Rattle.mono_graph.specs.Worked.{edge_of};
 
+use super::{assert_count, assert_same, assert_same_at};
 use mono_base::Buckets;
 use mono_graph::{Edge, EdgeRefusal, Graph, Part, mark, unmark};
 use std::alloc::Global;
@@ -41,12 +42,12 @@ fn star(alloc: Global) -> Result<Graph, EdgeRefusal>
 }
 
 fn assert_nodes(rt: &impl Abort, graph: &Graph) {
-    assert_eq!(rt; graph.nodes(), 3);
-    assert_eq!(rt; graph.edge_count(), 3);
-    assert_eq!(rt; graph.leaving(0), [0, 1].as_slice());
-    assert_eq!(rt; graph.entering(0), [2].as_slice());
-    assert_eq!(rt; graph.leaving(1).len(), 0);
-    assert_eq!(rt; graph.entering(2), [1].as_slice());
+    assert_count(rt, graph.nodes(), 3);
+    assert_same(rt, graph.edge_count(), 3);
+    assert_same(rt, graph.leaving(0), [0, 1].as_slice());
+    assert_same(rt, graph.entering(0), [2].as_slice());
+    assert_same(rt, graph.leaving(1).len(), 0);
+    assert_same(rt, graph.entering(2), [1].as_slice());
 }
 
 #[test]
@@ -65,16 +66,16 @@ fn assert_places(rt: &impl Abort, graph: &Graph) {
         (9, Some(2)),
         (10, None),
     ] {
-        assert_eq!(rt; graph.place(number), want, "at {number}");
+        assert_same_at(rt, &number, graph.place(number), want);
     }
 }
 
 fn assert_edges(rt: &impl Abort, graph: &Graph)
     requires { length graph.now.edges ≡ 3 }
 {
-    assert_eq!(rt; graph.edge(1).weight, 18446744073709551615);
-    assert_eq!(rt; graph.edge(2).from, 2);
-    assert_eq!(rt; graph.weight_of(&[0, 1, 1]), 36893488147419103235);
+    assert_same(rt, graph.edge(1).weight, 18446744073709551615);
+    assert_same(rt, graph.edge(2).from, 2);
+    assert_same(rt, graph.weight_of(&[0, 1, 1]), 36893488147419103235);
 }
 
 #[test]
@@ -118,12 +119,12 @@ fn assert_refused(rt: &impl Abort, graph: &mut Graph)
     requires edges { graph.old.edges ≡ edge_of 1 1 0 1 7 ∷ [] }
 {
     let from = graph.add_edge(joining(2, 2, 0));
-    assert_eq!(rt; from, Err(EdgeRefusal::NodeOutOfRange));
+    assert_same(rt, from, Err(EdgeRefusal::NodeOutOfRange));
     let to = graph.add_edge(joining(2, 0, 2));
-    assert_eq!(rt; to, Err(EdgeRefusal::NodeOutOfRange));
-    assert_eq!(rt; graph.edge_count(), 1);
-    assert_eq!(rt; graph.leaving(0).len(), 0);
-    assert_eq!(rt; graph.leaving(1), [0].as_slice());
+    assert_same(rt, to, Err(EdgeRefusal::NodeOutOfRange));
+    assert_same(rt, graph.edge_count(), 1);
+    assert_same(rt, graph.leaving(0).len(), 0);
+    assert_same(rt, graph.leaving(1), [0].as_slice());
 }
 
 #[test]
@@ -139,10 +140,10 @@ fn assert_apart(rt: &impl Abort, graph: &mut Graph, copy: &Graph) -> Result<(), 
     requires copy { length copy.now.edges ≡ 1 }
 {
     graph.add_edge(joining(5, 0, 1))?;
-    assert_eq!(rt; copy.edge_count(), 1);
-    assert_eq!(rt; copy.edge(0).number, 4);
-    assert_eq!(rt; copy.leaving(0), [0].as_slice());
-    assert_eq!(rt; graph.leaving(0), [0, 1].as_slice());
+    assert_same(rt, copy.edge_count(), 1);
+    assert_same(rt, copy.edge(0).number, 4);
+    assert_same(rt, copy.leaving(0), [0].as_slice());
+    assert_same(rt, graph.leaving(0), [0, 1].as_slice());
     Ok(())
 }
 
@@ -183,10 +184,10 @@ fn lists_by_key(rt: HostRuntime) -> Result<(), Fail> {
     lists.push(1, 'a')?;
     lists.push(1, 'b')?;
     lists.push(0, 'c')?;
-    assert_eq!(rt; lists.list(1), ['a', 'b'].as_slice());
+    assert_same(&rt, lists.list(1), ['a', 'b'].as_slice());
     lists.pop(1);
-    assert_eq!(rt; lists.list(1), ['a'].as_slice());
-    assert_eq!(rt; lists.copy()?.list(0), ['c'].as_slice());
+    assert_same(&rt, lists.list(1), ['a'].as_slice());
+    assert_same(&rt, lists.copy()?.list(0), ['c'].as_slice());
     Ok(())
 }
 
@@ -194,8 +195,12 @@ fn lists_by_key(rt: HostRuntime) -> Result<(), Fail> {
 fn marks_of_a_list(rt: HostRuntime) -> Result<(), Fail> {
     let mut marks = vec![in rt.alloc(); false; 4]?;
     mark(&mut marks, &[2, 0, 2]);
-    assert_eq!(rt; marks.as_slice(), [true, false, true, false].as_slice());
+    assert_same(&rt, marks.as_slice(), [true, false, true, false].as_slice());
     unmark(&mut marks, &[2, 0, 2]);
-    assert_eq!(rt; marks.as_slice(), [false, false, false, false].as_slice());
+    assert_same(
+        &rt,
+        marks.as_slice(),
+        [false, false, false, false].as_slice(),
+    );
     Ok(())
 }

@@ -1,5 +1,6 @@
 ghost use Rattle.std.specs.Prelude.{◌≤◌};
 
+use super::{assert_same, assert_same_at};
 use mono_io::{
     Failed, FileShelf, MemoryShelf, MemorySink, ReadRefusal, Shelf, Sink, StdSink, SystemFiles,
     read_whole, write_whole,
@@ -77,10 +78,10 @@ fn a_text_is_put_and_replaced(rt: HostRuntime) -> Result<(), Fail> {
 fn a_text_is_read_in_turn(rt: HostRuntime) -> Result<(), Fail> {
     let mut shelf = digits(rt.alloc())?;
     let mut buffer = [0u8; 4];
-    assert_eq!(rt; shelf.begin("digits"), Ok(()));
+    assert_same(&rt, shelf.begin("digits"), Ok(()));
     for (count, bytes) in [(4, *b"0123"), (4, *b"4567"), (2, *b"8967"), (0, *b"8967")] {
-        assert_eq!(rt; shelf.read(&mut buffer), Ok(count));
-        assert_eq!(rt; buffer, bytes);
+        assert_same(&rt, shelf.read(&mut buffer), Ok(count));
+        assert_same(&rt, buffer, bytes);
     }
     Ok(())
 }
@@ -89,28 +90,52 @@ fn a_text_is_read_in_turn(rt: HostRuntime) -> Result<(), Fail> {
 fn only_a_text_that_was_begun_is_read(rt: HostRuntime) -> Result<(), Fail> {
     let mut shelf = digits(rt.alloc())?;
     let mut buffer = [0u8; 4];
-    assert_eq!(rt; shelf.begin("digits"), Ok(()));
+    assert_same(&rt, shelf.begin("digits"), Ok(()));
     shelf.put("digits", b"none")?;
-    assert_eq!(rt; shelf.read(&mut buffer), Err(Failed));
-    assert_eq!(rt; shelf.begin("letters"), Err(Failed));
-    assert_eq!(rt; shelf.read(&mut buffer), Err(Failed));
+    assert_same(&rt, shelf.read(&mut buffer), Err(Failed));
+    assert_same(&rt, shelf.begin("letters"), Err(Failed));
+    assert_same(&rt, shelf.read(&mut buffer), Err(Failed));
     Ok(())
+}
+
+/// Whether all digits are read, and no more.
+fn are_digits<S: Shelf>(alloc: Global, shelf: &mut S, limit: u8) -> Result<bool, ReadRefusal> {
+    let bytes = read_whole(alloc, shelf, "digits", u64::from(limit))?;
+    Ok(bytes.as_slice() == DIGITS)
 }
 
 #[test]
 fn a_text_beyond_its_limit_is_too_long(rt: HostRuntime) -> Result<(), Fail> {
     let alloc = rt.alloc();
-    for (limit, is_read) in [(0u8, false), (9, false), (10, true), (11, true)] {
+    for (limit, want) in [
+        (0u8, Err(ReadRefusal::TooLong)),
+        (9, Err(ReadRefusal::TooLong)),
+        (10, Ok(true)),
+        (11, Ok(true)),
+    ] {
         let mut shelf = digits(alloc)?;
-        match read_whole(alloc, &mut shelf, "digits", u64::from(limit)) {
-            Ok(bytes) => assert!(rt; is_read && bytes.as_slice() == DIGITS, "at {limit}"),
-            Err(refusal) => {
-                assert_eq!(rt; refusal, ReadRefusal::TooLong, "at {limit}");
-                assert!(rt; !is_read, "at {limit}");
-            }
-        }
+        assert_same_at(&rt, &limit, are_digits(alloc, &mut shelf, limit), want);
     }
     Ok(())
+}
+
+/// In pieces of four, the shelf fails at a call, if that is one of the first reading. After that the digits are read.
+fn expect_failure(
+    rt: &impl Abort,
+    alloc: Global,
+    shelf: &mut MemoryShelf,
+    call: u64,
+    fails: bool,
+) -> Result<(), Fail> {
+    shelf.pieces(4);
+    shelf.fail_at(call)?;
+    let found = are_digits(alloc, shelf, 100);
+    if !fails {
+        assert_same_at(rt, &call, found, Ok(true));
+        return Ok(());
+    }
+    assert_same_at(rt, &call, found, Err(ReadRefusal::Fault));
+    expect_read(rt, alloc, shelf, "digits", DIGITS)
 }
 
 /// In pieces of four, call 1 begins the text, calls 2 to 4 read it and call 5 finds its end.
@@ -127,16 +152,7 @@ fn a_shelf_fails_at_each_call_in_turn(rt: HostRuntime) -> Result<(), Fail> {
         (6, false),
     ] {
         let mut shelf = digits(alloc)?;
-        shelf.pieces(4);
-        shelf.fail_at(call)?;
-        match read_whole(alloc, &mut shelf, "digits", 100) {
-            Ok(bytes) => assert!(rt; !fails && bytes.as_slice() == DIGITS, "at {call}"),
-            Err(refusal) => {
-                assert_eq!(rt; refusal, ReadRefusal::Fault, "at {call}");
-                assert!(rt; fails, "at {call}");
-                expect_read(&rt, alloc, &mut shelf, "digits", DIGITS)?;
-            }
-        }
+        expect_failure(&rt, alloc, &mut shelf, call, fails)?;
     }
     Ok(())
 }
@@ -153,10 +169,10 @@ fn a_sink_fails_at_each_write_in_turn(rt: HostRuntime) -> Result<(), Fail> {
         let mut sink = MemorySink::new(rt.alloc(), 10)?;
         sink.pieces(4);
         sink.fail_at(call)?;
-        assert_eq!(rt; sink.write(b""), Ok(0));
+        assert_same(&rt, sink.write(b""), Ok(0));
         let result = write_whole(&mut sink, DIGITS);
-        assert_eq!(rt; result.is_ok(), written.len() == 10, "at {call}");
-        assert_eq!(rt; sink.bytes(), written, "at {call}");
+        assert_same_at(&rt, &call, result.is_ok(), written.len() == 10);
+        assert_same_at(&rt, &call, sink.bytes(), written);
     }
     Ok(())
 }
@@ -164,10 +180,10 @@ fn a_sink_fails_at_each_write_in_turn(rt: HostRuntime) -> Result<(), Fail> {
 #[test]
 fn a_sink_fails_where_it_is_full(rt: HostRuntime) -> Result<(), Fail> {
     let mut sink = MemorySink::new(rt.alloc(), 9)?;
-    assert_eq!(rt; write_whole(&mut sink, DIGITS), Err(Failed));
-    assert_eq!(rt; sink.bytes(), b"012345678".as_slice());
-    assert_eq!(rt; sink.write(b""), Ok(0));
-    assert_eq!(rt; sink.write(b"9"), Err(Failed));
+    assert_same(&rt, write_whole(&mut sink, DIGITS), Err(Failed));
+    assert_same(&rt, sink.bytes(), b"012345678".as_slice());
+    assert_same(&rt, sink.write(b""), Ok(0));
+    assert_same(&rt, sink.write(b"9"), Err(Failed));
     Ok(())
 }
 
@@ -195,7 +211,7 @@ fn expect_refusal<S: Shelf>(
 ) {
     match read_whole(alloc, shelf, name, 100) {
         Ok(_) => assert!(rt; false, "{name} was read"),
-        Err(refusal) => assert_eq!(rt; refusal, want, "at {name}"),
+        Err(refusal) => assert_same_at(rt, &name, refusal, want),
     }
 }
 
@@ -217,7 +233,7 @@ fn expect_files<S: Shelf>(
     text: &[u8],
 ) -> Result<(), Fail> {
     let mut buffer = [0u8; 4];
-    assert_eq!(rt; shelf.read(&mut buffer), Err(Failed));
+    assert_same(rt, shelf.read(&mut buffer), Err(Failed));
     expect_read(rt, alloc, shelf, "long", text)?;
     expect_read(rt, alloc, shelf, "empty", b"")?;
     expect_refusals(rt, alloc, shelf);
@@ -236,6 +252,10 @@ fn files_are_read(rt: HostRuntime) -> Result<(), Fail> {
 #[test]
 fn the_standard_output_is_written(rt: HostRuntime) {
     let mut sink = StdSink::new(io::writer(&rt));
-    assert_eq!(rt; sink.write(b""), Ok(0));
-    assert_eq!(rt; write_whole(&mut sink, b"ten digits: 0123456789\n"), Ok(()));
+    assert_same(&rt, sink.write(b""), Ok(0));
+    assert_same(
+        &rt,
+        write_whole(&mut sink, b"ten digits: 0123456789\n"),
+        Ok(()),
+    );
 }

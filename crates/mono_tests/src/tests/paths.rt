@@ -1,7 +1,8 @@
-ghost use Rattle.std.specs.Prelude.{◌≡◌, IfOk, length};
+ghost use Rattle.std.specs.Prelude.{◌≡◌, length};
 
-use super::edge;
-use mono_graph::{EdgeRefusal, Graph, Part};
+use super::{assert_same, first_graph};
+use mono_gnf::read_gnf;
+use mono_graph::{Graph, Part};
 use mono_paths::{
     Label, Limit, PathOrCut, PathOrLabels, find_light, find_path, is_cut, is_labelling, is_path,
 };
@@ -11,22 +12,13 @@ use std::test::Fail;
 
 /// Node 0 has an edge to itself, and two lead from there to node 1. Between nodes 1 and 2 edges of weight 0 lead there and
 /// back. Nothing leads to node 3.
-fn small_graph(alloc: Global) -> Result<Graph, EdgeRefusal>
-    ensures nodes { IfOk result (λ g. g.nodes ≡ 4) }
-    ensures edges { IfOk result (λ g. length g.edges ≡ 6) }
-{
-    let mut graph = match Graph::new(alloc, 4) {
-        Ok(graph) => graph,
-        Err(_) => return Err(EdgeRefusal::Memory),
-    };
-    graph.add_edge(edge(1, 0, 0, 5))?;
-    graph.add_edge(edge(2, 0, 1, 3))?;
-    graph.add_edge(edge(3, 0, 1, 2))?;
-    graph.add_edge(edge(4, 1, 2, 0))?;
-    graph.add_edge(edge(5, 2, 1, 0))?;
-    graph.add_edge(edge(6, 3, 0, 1))?;
-    Ok(graph)
-}
+const SMALL: &[u8] = b"digraph int 4 6 0\n\
+edge 0 0 0 1 5\n\
+edge 0 0 1 2 3\n\
+edge 0 0 1 3 2\n\
+edge 0 1 2 4 0\n\
+edge 0 2 1 5 0\n\
+edge 0 3 0 6 1\n";
 
 /// Walks may go round, and by the heavier of two parallel edges.
 fn assert_walks(rt: &impl Abort, alloc: Global, graph: &Graph) -> Result<(), Fail>
@@ -42,24 +34,26 @@ fn assert_walks(rt: &impl Abort, alloc: Global, graph: &Graph) -> Result<(), Fai
 
 #[test]
 fn walks_within_limits(rt: HostRuntime) -> Result<(), Fail> {
-    let graph = small_graph(rt.alloc())?;
-    assert_walks(&rt, rt.alloc(), &graph)
+    let problem = read_gnf(rt.alloc(), SMALL)?;
+    assert_walks(&rt, rt.alloc(), first_graph(&rt, &problem, 4, 6))
 }
 
 /// What is found is a walk by these edges.
 fn assert_path(rt: &impl Abort, found: &PathOrCut, walk: &[u32]) {
-    match found {
-        PathOrCut::Path(edges) => assert_eq!(rt; edges.as_slice(), walk),
-        PathOrCut::Cut(_) => assert!(rt; false),
-    }
+    let edges = match found {
+        PathOrCut::Path(edges) => Some(edges.as_slice()),
+        PathOrCut::Cut(_) => None,
+    };
+    assert_same(rt, edges, Some(walk));
 }
 
 /// What is found is a cut round these nodes.
 fn assert_cut(rt: &impl Abort, found: &PathOrCut, inside: &[u32]) {
-    match found {
-        PathOrCut::Path(_) => assert!(rt; false),
-        PathOrCut::Cut(nodes) => assert_eq!(rt; nodes.as_slice(), inside),
-    }
+    let nodes = match found {
+        PathOrCut::Path(_) => None,
+        PathOrCut::Cut(nodes) => Some(nodes.as_slice()),
+    };
+    assert_same(rt, nodes, Some(inside));
 }
 
 fn assert_walk_or_cut(rt: &impl Abort, alloc: Global, graph: &Graph) -> Result<(), Fail>
@@ -77,24 +71,26 @@ fn assert_walk_or_cut(rt: &impl Abort, alloc: Global, graph: &Graph) -> Result<(
 
 #[test]
 fn walk_or_cut(rt: HostRuntime) -> Result<(), Fail> {
-    let graph = small_graph(rt.alloc())?;
-    assert_walk_or_cut(&rt, rt.alloc(), &graph)
+    let problem = read_gnf(rt.alloc(), SMALL)?;
+    assert_walk_or_cut(&rt, rt.alloc(), first_graph(&rt, &problem, 4, 6))
 }
 
 /// What is found is a walk by these edges.
 fn assert_light(rt: &impl Abort, found: &PathOrLabels, walk: &[u32]) {
-    match found {
-        PathOrLabels::Path(edges) => assert_eq!(rt; edges.as_slice(), walk),
-        PathOrLabels::Labels(_) => assert!(rt; false),
-    }
+    let edges = match found {
+        PathOrLabels::Path(edges) => Some(edges.as_slice()),
+        PathOrLabels::Labels(_) => None,
+    };
+    assert_same(rt, edges, Some(walk));
 }
 
 /// What is found are so many labels.
 fn assert_labels(rt: &impl Abort, found: &PathOrLabels, count: usize) {
-    match found {
-        PathOrLabels::Path(_) => assert!(rt; false),
-        PathOrLabels::Labels(labels) => assert_eq!(rt; labels.len(), count),
-    }
+    let labels = match found {
+        PathOrLabels::Path(_) => None,
+        PathOrLabels::Labels(labels) => Some(labels.len()),
+    };
+    assert_same(rt, labels, Some(count));
 }
 
 fn assert_walk_or_labels(rt: &impl Abort, alloc: Global, graph: &Graph) -> Result<(), Fail>
@@ -111,8 +107,8 @@ fn assert_walk_or_labels(rt: &impl Abort, alloc: Global, graph: &Graph) -> Resul
 
 #[test]
 fn walk_or_labels(rt: HostRuntime) -> Result<(), Fail> {
-    let graph = small_graph(rt.alloc())?;
-    assert_walk_or_labels(&rt, rt.alloc(), &graph)
+    let problem = read_gnf(rt.alloc(), SMALL)?;
+    assert_walk_or_labels(&rt, rt.alloc(), first_graph(&rt, &problem, 4, 6))
 }
 
 fn assert_answers(rt: &impl Abort, alloc: Global, graph: &Graph) -> Result<(), Fail>
@@ -128,6 +124,6 @@ fn assert_answers(rt: &impl Abort, alloc: Global, graph: &Graph) -> Result<(), F
 
 #[test]
 fn tests_answer(rt: HostRuntime) -> Result<(), Fail> {
-    let graph = small_graph(rt.alloc())?;
-    assert_answers(&rt, rt.alloc(), &graph)
+    let problem = read_gnf(rt.alloc(), SMALL)?;
+    assert_answers(&rt, rt.alloc(), first_graph(&rt, &problem, 4, 6))
 }

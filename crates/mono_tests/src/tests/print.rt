@@ -1,4 +1,5 @@
 //! Texts that were printed by hand.
+use super::assert_same;
 use mono_gnf::{print_gnf, read_gnf};
 use mono_problem::Problem;
 use std::alloc::Global;
@@ -47,7 +48,7 @@ fn assert_printed(
     want: &[u8],
 ) -> Result<(), Fail> {
     let printed = print_gnf(alloc, problem)?;
-    assert_eq!(rt; printed.as_slice(), want);
+    assert_same(rt, printed.as_slice(), want);
     Ok(())
 }
 

@@ -1,5 +1,6 @@
 //! Each call once, on a small problem that has something of each kind.
 
+use super::{add_clause, assert_count, assert_same};
 use mono_base::Lit;
 use mono_problem::{Draft, Predicate, Problem, Totals, Use};
 use std::alloc::{AllocError, Global};
@@ -17,13 +18,9 @@ fn clause(alloc: Global, numbers: &[i32]) -> Result<Vec<Lit>, AllocError> {
 }
 
 /// Adds the clause of these numbers, where there is room.
-fn add(draft: &mut Draft, alloc: Global, numbers: &[i32]) -> Result<Option<u32>, AllocError> {
+fn add(draft: &mut Draft, alloc: Global, numbers: &[i32]) -> Result<(), AllocError> {
     let lits = clause(alloc, numbers)?;
-    let totals = draft.totals();
-    if totals.clauses < 8_000_000 && totals.literals as usize + lits.len() <= 16_000_000 {
-        return Ok(Some(draft.add_clause(lits.as_slice())?));
-    }
-    Ok(None)
+    add_clause(draft, lits.as_slice())
 }
 
 /// Declares a graph, where it is new and there is room.
@@ -128,18 +125,18 @@ fn a_draft_counts_what_it_was_given(rt: HostRuntime) -> Result<(), Fail> {
         clauses: 3,
         literals: 5,
     };
-    assert_eq!(rt; sample(rt.alloc())?.totals(), totals);
+    assert_same(&rt, sample(rt.alloc())?.totals(), totals);
     Ok(())
 }
 
 fn assert_graphs(rt: &impl Abort, problem: &Problem) {
-    assert_eq!(rt; problem.vars(), 11);
-    assert_eq!(rt; problem.graph_count(), 2);
-    assert_eq!(rt; problem.graph_id(1), 4);
-    assert_eq!(rt; problem.graph(0).nodes(), 3);
-    assert_eq!(rt; problem.edge_count(), 3);
-    assert_eq!(rt; problem.edge_home(2), 1);
-    assert_eq!(rt; problem.edge_home(3), 0);
+    assert_same(rt, problem.vars(), 11);
+    assert_count(rt, problem.graph_count(), 2);
+    assert_same(rt, problem.graph_id(1), 4);
+    assert_same(rt, problem.graph(0).nodes(), 3);
+    assert_count(rt, problem.edge_count(), 3);
+    assert_same(rt, problem.edge_home(2), 1);
+    assert_same(rt, problem.edge_home(3), 0);
 }
 
 #[test]
@@ -150,18 +147,19 @@ fn a_problem_has_its_graphs(rt: HostRuntime) -> Result<(), Fail> {
 }
 
 fn assert_atoms(rt: &impl Abort, problem: &Problem) {
-    assert_eq!(rt; problem.atom_count(), 2);
-    assert_eq!(rt; problem.atom(2).var, 2);
-    assert_eq!(rt;
+    assert_count(rt, problem.atom_count(), 2);
+    assert_same(rt, problem.atom(2).var, 2);
+    assert_same(
+        rt,
         problem.atom(1).predicate,
-        Predicate::Reach { from: 0, to: 2 }
+        Predicate::Reach { from: 0, to: 2 },
     );
 }
 
 fn assert_clauses(rt: &impl Abort, problem: &Problem) {
-    assert_eq!(rt; problem.clause_count(), 3);
-    assert_eq!(rt; problem.clause(3).len(), 3);
-    assert_eq!(rt; problem.clause(2).len(), 0);
+    assert_count(rt, problem.clause_count(), 3);
+    assert_same(rt, problem.clause(3).len(), 3);
+    assert_same(rt, problem.clause(2).len(), 0);
 }
 
 #[test]
@@ -178,13 +176,14 @@ fn assert_uses(rt: &impl Abort, problem: &Problem) {
         Use::Edge { graph: 1, place: 0 },
         Use::Atom { number: 2 },
     ];
-    assert_eq!(rt; problem.uses(2), two.as_slice());
-    assert_eq!(rt;
+    assert_same(rt, problem.uses(2), two.as_slice());
+    assert_same(
+        rt,
         problem.uses(3),
-        [Use::Edge { graph: 0, place: 1 }].as_slice()
+        [Use::Edge { graph: 0, place: 1 }].as_slice(),
     );
-    assert_eq!(rt; problem.uses(9), [Use::Atom { number: 1 }].as_slice());
-    assert_eq!(rt; problem.uses(12).len(), 0);
+    assert_same(rt, problem.uses(9), [Use::Atom { number: 1 }].as_slice());
+    assert_same(rt, problem.uses(12).len(), 0);
 }
 
 #[test]
@@ -209,10 +208,10 @@ fn choice(alloc: Global) -> Result<Problem, AllocError> {
 }
 
 fn assert_first_false(rt: &impl Abort, problem: &Problem) {
-    assert_eq!(rt; problem.vars(), 2);
-    assert_eq!(rt; problem.first_false_clause(&[false, true]), None);
-    assert_eq!(rt; problem.first_false_clause(&[true, true]), Some(2));
-    assert_eq!(rt; problem.first_false_clause(&[false, false]), Some(1));
+    assert_count(rt, problem.vars(), 2);
+    assert_same(rt, problem.first_false_clause(&[false, true]), None);
+    assert_same(rt, problem.first_false_clause(&[true, true]), Some(2));
+    assert_same(rt, problem.first_false_clause(&[false, false]), Some(1));
 }
 
 #[test]

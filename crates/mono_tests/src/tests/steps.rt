@@ -1,9 +1,11 @@
 //! Tables that were worked by hand. Clauses are written as DIMACS CNF does: a 0 ends one.
 
+use super::{add_clause, assert_same_at};
 use mono_base::{Lit, Row};
 use mono_problem::{Draft, Problem};
 use mono_steps::{Chain, Clause, Step, StepFault, examine};
 use std::alloc::{AllocError, Global};
+use std::process::Abort;
 use std::test::Fail;
 
 /// Three clauses that no assignment makes true.
@@ -33,15 +35,6 @@ fn clause_numbers(alloc: Global, text: &str) -> Result<Vec<u64>, AllocError> {
     Ok(numbers)
 }
 
-/// Adds a clause, where there is room.
-fn add(draft: &mut Draft, lits: &[Lit]) -> Result<(), AllocError> {
-    let totals = draft.totals();
-    if totals.clauses < 8_000_000 && totals.literals as usize + lits.len() <= 16_000_000 {
-        draft.add_clause(lits)?;
-    }
-    Ok(())
-}
-
 /// Adds these clauses.
 fn add_all(draft: &mut Draft, alloc: Global, text: &str) -> Result<(), AllocError> {
     let mut lits = Vec::new(alloc);
@@ -50,7 +43,7 @@ fn add_all(draft: &mut Draft, alloc: Global, text: &str) -> Result<(), AllocErro
             if let Some(lit) = Lit::new(number) {
                 lits.push(lit)?;
             } else {
-                add(draft, lits.as_slice())?;
+                add_clause(draft, lits.as_slice())?;
                 lits.clear();
             }
         }
@@ -107,10 +100,22 @@ fn fault_of(
     fault_in(alloc, &problem, clause, used)
 }
 
+/// Each row has clauses, a chain's clause and the numbers that it names, and the fault of that chain as the first step.
+fn assert_faults(
+    rt: &impl Abort,
+    alloc: Global,
+    rows: &[(&str, &str, &str, Option<StepFault>)],
+) -> Result<(), Fail> {
+    for (clauses, clause, used, fault) in rows {
+        let found = fault_of(alloc, clauses, clause, used)?;
+        assert_same_at(rt, &(*clauses, *used), found, *fault);
+    }
+    Ok(())
+}
+
 #[test]
 fn chains_are_examined(rt: HostRuntime) -> Result<(), Fail> {
-    let alloc = rt.alloc();
-    for (clauses, clause, used, fault) in [
+    let rows = [
         (REFUTED, "2", "1 2", None),
         (REFUTED, "", "1 2 3", None),
         (REFUTED, "", "1 2", Some(StepFault::NotCovered)),
@@ -134,20 +139,13 @@ fn chains_are_examined(rt: HostRuntime) -> Result<(), Fail> {
         ),
         ("", "", "1", Some(StepFault::UnknownNumber)),
         (REFUTED, "3", "1 2", Some(StepFault::UnknownNumber)),
-    ] {
-        assert_eq!(rt;
-            fault_of(alloc, clauses, clause, used)?,
-            fault,
-            "{clauses} by {used}"
-        );
-    }
-    Ok(())
+    ];
+    assert_faults(&rt, rt.alloc(), &rows)
 }
 
 #[test]
 fn clauses_are_sets(rt: HostRuntime) -> Result<(), Fail> {
-    let alloc = rt.alloc();
-    for (clauses, clause, used, fault) in [
+    let rows = [
         // Repeated literals.
         ("1 1 0 -1 -1 0", "", "1 2", None),
         (REFUTED, "1 2 -2 2 1", "1", None),
@@ -177,14 +175,8 @@ fn clauses_are_sets(rt: HostRuntime) -> Result<(), Fail> {
         ),
         ("1 2 3 4 5 0", "5 4 3 2 1", "1", None),
         ("1 2 3 4 5 0", "1 2 3 4", "1", Some(StepFault::NotCovered)),
-    ] {
-        assert_eq!(rt;
-            fault_of(alloc, clauses, clause, used)?,
-            fault,
-            "{clauses} by {used}"
-        );
-    }
-    Ok(())
+    ];
+    assert_faults(&rt, rt.alloc(), &rows)
 }
 
 /// Four literals stand in a clause itself, and five in an allocation.
@@ -194,9 +186,9 @@ fn clauses_keep_their_literals(rt: HostRuntime) -> Result<(), Fail> {
     for text in ["", "1", "1 -2 3 -4", "1 -2 3 -4 5", "1 1 -1 -1 1 -1000000"] {
         let lits = literals(alloc, text)?;
         let clause = Clause::from_lits(alloc, lits.as_slice())?;
-        assert_eq!(rt; clause.lits(), lits.as_slice(), "{text}");
+        assert_same_at(&rt, &text, clause.lits(), lits.as_slice());
         let copy = clause.copy()?;
-        assert_eq!(rt; copy.lits(), lits.as_slice(), "{text}");
+        assert_same_at(&rt, &text, copy.lits(), lits.as_slice());
     }
     Ok(())
 }

@@ -1,22 +1,35 @@
 //! Tables that were worked by hand, from the rules of lines, tokens and numbers.
+use super::assert_same;
 use mono_text::{
     FieldRefusal, Line, Lines, NumberRefusal, fields, natural, push_natural, push_signed, signed,
 };
 use std::alloc::{AllocError, Global};
 
-/// Each line as its number, `=`, its bytes, its tokens in brackets, and `;`.
+/// The token in brackets.
+fn push_token(out: &mut Vec<u8>, token: &[u8]) -> Result<(), AllocError> {
+    out.push(b'[')?;
+    out.extend_from_slice(token)?;
+    out.push(b']')?;
+    Ok(())
+}
+
+/// The line's number, `=`, its bytes, its tokens in brackets, and `;`.
+fn push_line(out: &mut Vec<u8>, line: &Line<'_>) -> Result<(), AllocError> {
+    push_natural(out, line.number)?;
+    out.push(b'=')?;
+    out.extend_from_slice(line.text)?;
+    for token in line.tokens() {
+        push_token(out, token)?;
+    }
+    out.push(b';')?;
+    Ok(())
+}
+
+/// Each line as `push_line` shows it.
 fn shown(alloc: Global, text: &[u8]) -> Result<Vec<u8>, AllocError> {
     let mut out = Vec::new(alloc);
     for line in Lines::new(text) {
-        push_natural(&mut out, line.number)?;
-        out.push(b'=')?;
-        out.extend_from_slice(line.text)?;
-        for token in line.tokens() {
-            out.push(b'[')?;
-            out.extend_from_slice(token)?;
-            out.push(b']')?;
-        }
-        out.push(b';')?;
+        push_line(&mut out, &line)?;
     }
     Ok(out)
 }
@@ -46,7 +59,7 @@ fn lines_and_tokens(rt: HostRuntime) -> Result<(), AllocError> {
     ];
     for (text, want) in table {
         let got = shown(rt.alloc(), text)?;
-        assert_eq!(rt; got.as_slice(), want);
+        assert_same(&rt, got.as_slice(), want);
     }
     Ok(())
 }
@@ -88,7 +101,7 @@ fn naturals(rt: HostRuntime) {
         ),
     ];
     for (token, limit, want) in table {
-        assert_eq!(rt; natural(token, limit), want);
+        assert_same(&rt, natural(token, limit), want);
     }
 }
 
@@ -122,7 +135,7 @@ fn signed_numbers(rt: HostRuntime) {
         ),
     ];
     for (token, limit, want) in table {
-        assert_eq!(rt; signed(token, limit), want);
+        assert_same(&rt, signed(token, limit), want);
     }
 }
 
@@ -130,11 +143,11 @@ fn signed_numbers(rt: HostRuntime) {
 fn long_numbers(rt: HostRuntime) -> Result<(), AllocError> {
     let mut token = Vec::from_elem(rt.alloc(), b'0', 5000)?;
     token.push(b'7')?;
-    assert_eq!(rt; natural(&token, 7), Ok(7));
-    assert_eq!(rt; natural(&token, 6), Err(NumberRefusal::TooLarge));
-    assert_eq!(rt; signed(&token, 7), Ok(7));
+    assert_same(&rt, natural(&token, 7), Ok(7));
+    assert_same(&rt, natural(&token, 6), Err(NumberRefusal::TooLarge));
+    assert_same(&rt, signed(&token, 7), Ok(7));
     token.push(b'x')?;
-    assert_eq!(rt; natural(&token, 7), Err(NumberRefusal::NotNumber));
+    assert_same(&rt, natural(&token, 7), Err(NumberRefusal::NotNumber));
     Ok(())
 }
 
@@ -156,52 +169,73 @@ fn fields_of_lines(rt: HostRuntime) {
         (b"5 -9", Err(FieldRefusal::NotNumber(1))),
     ];
     for (text, want) in pairs {
-        assert_eq!(rt; fields(&line_of(text), 0, &[5, 9]), want);
+        assert_same(&rt, fields(&line_of(text), 0, &[5, 9]), want);
     }
-    assert_eq!(rt; fields(&line_of(b"a 5 09"), 1, &[5, 9]), Ok([5, 9]));
-    assert_eq!(rt; fields(&line_of(b" "), 0, &[]), Ok([]));
-    assert_eq!(rt; fields(&line_of(b"a"), 0, &[]), Err(FieldRefusal::Count));
+    assert_same(&rt, fields(&line_of(b"a 5 09"), 1, &[5, 9]), Ok([5, 9]));
+    assert_same(&rt, fields(&line_of(b" "), 0, &[]), Ok([]));
+    assert_same(
+        &rt,
+        fields(&line_of(b"a"), 0, &[]),
+        Err(FieldRefusal::Count),
+    );
 }
 
 #[test]
 fn numbers_of_tokens(rt: HostRuntime) {
     let line = line_of(b" 12\t-7 99999999999999999 100000000000000000 18446744073709551616 1x 4");
     let mut tokens = line.tokens();
-    assert_eq!(rt; tokens.left(), 7);
-    assert_eq!(rt; tokens.first_byte(), Some(b'1'));
-    assert_eq!(rt; tokens.next_natural(12), Some(Ok(12)));
-    assert_eq!(rt; tokens.next_signed(6), Some(Err(NumberRefusal::TooLarge)));
-    assert_eq!(rt;
+    assert_same(&rt, tokens.left(), 7);
+    assert_same(&rt, tokens.first_byte(), Some(b'1'));
+    assert_same(&rt, tokens.next_natural(12), Some(Ok(12)));
+    assert_same(
+        &rt,
+        tokens.next_signed(6),
+        Some(Err(NumberRefusal::TooLarge)),
+    );
+    assert_same(
+        &rt,
         tokens.next_signed(1 << 62),
-        Some(Ok(99_999_999_999_999_999))
+        Some(Ok(99_999_999_999_999_999)),
     );
-    assert_eq!(rt;
+    assert_same(
+        &rt,
         tokens.next_natural(u64::MAX),
-        Some(Ok(100_000_000_000_000_000))
+        Some(Ok(100_000_000_000_000_000)),
     );
-    assert_eq!(rt;
+    assert_same(
+        &rt,
         tokens.next_natural(u64::MAX),
-        Some(Err(NumberRefusal::TooLarge))
+        Some(Err(NumberRefusal::TooLarge)),
     );
-    assert_eq!(rt; tokens.next_signed(9), Some(Err(NumberRefusal::NotNumber)));
-    assert_eq!(rt; tokens.next_signed(9), Some(Ok(4)));
-    assert_eq!(rt; tokens.first_byte(), None);
-    assert_eq!(rt; tokens.next_natural(9), None);
+    assert_same(
+        &rt,
+        tokens.next_signed(9),
+        Some(Err(NumberRefusal::NotNumber)),
+    );
+    assert_same(&rt, tokens.next_signed(9), Some(Ok(4)));
+    assert_same(&rt, tokens.first_byte(), None);
+    assert_same(&rt, tokens.next_natural(9), None);
+}
+
+/// Numbers without and with a sign, each with a blank behind it.
+fn push_numbers(out: &mut Vec<u8>) -> Result<(), AllocError> {
+    for n in [0, 9, 10, u64::MAX] {
+        push_natural(out, n)?;
+        out.push(b' ')?;
+    }
+    for n in [0, -1, 10, i64::MAX, i64::MIN] {
+        push_signed(out, n)?;
+        out.push(b' ')?;
+    }
+    Ok(())
 }
 
 #[test]
 fn numbers_are_written(rt: HostRuntime) -> Result<(), AllocError> {
     let mut out = Vec::new(rt.alloc());
-    for n in [0, 9, 10, u64::MAX] {
-        push_natural(&mut out, n)?;
-        out.push(b' ')?;
-    }
-    for n in [0, -1, 10, i64::MAX, i64::MIN] {
-        push_signed(&mut out, n)?;
-        out.push(b' ')?;
-    }
+    push_numbers(&mut out)?;
     let want = b"0 9 10 18446744073709551615 0 -1 10 9223372036854775807 -9223372036854775808 ";
-    assert_eq!(rt; out.as_slice(), want.as_slice());
+    assert_same(&rt, out.as_slice(), want.as_slice());
     Ok(())
 }
 
@@ -218,7 +252,7 @@ fn skipped_lines(rt: HostRuntime) {
         (b"1 c", false),
     ];
     for (text, want) in table {
-        assert_eq!(rt; line_of(text).is_skipped(), want);
+        assert_same(&rt, line_of(text).is_skipped(), want);
     }
 }
 
@@ -228,7 +262,7 @@ fn many_blanks(rt: HostRuntime) -> Result<(), AllocError> {
     let mut text = Vec::from_elem(rt.alloc(), b' ', 1_000_000)?;
     text.push(b'x')?;
     let line = line_of(&text);
-    assert_eq!(rt; line.tokens().left(), 1);
-    assert_eq!(rt; line.tokens().next(), Some(b"x".as_slice()));
+    assert_same(&rt, line.tokens().left(), 1);
+    assert_same(&rt, line.tokens().next(), Some(b"x".as_slice()));
     Ok(())
 }

@@ -5,6 +5,7 @@ mod draws;
 mod order;
 mod trail;
 
+use super::{assert_same, assert_same_at};
 use mono_trail::luby;
 
 #[test]
@@ -13,15 +14,16 @@ fn luby_by_its_first_terms(rt: HostRuntime) {
         1, 1, 2, 1, 1, 2, 4, 1, 1, 2, 1, 1, 2, 4, 8, 1, 1, 2, 1, 1, 2, 4, 1, 1, 2, 1, 1, 2, 4, 8,
         16,
     ];
-    for (before, term) in terms.into_iter().enumerate() {
-        let k = (before as u64).saturating_add(1);
+    let mut k = 0u64;
+    for term in terms {
+        k = k.saturating_add(1);
         assert!(rt; k > 0);
-        assert_eq!(rt; luby(k), term, "term {k}");
+        assert_same_at(&rt, &k, luby(k), term);
     }
 }
 
 #[test]
 fn luby_at_the_limits(rt: HostRuntime) {
-    assert_eq!(rt; luby(u64::MAX), 1 << 63);
-    assert_eq!(rt; luby(u64::MAX - 1), 1 << 62);
+    assert_same(&rt, luby(u64::MAX), 1 << 63);
+    assert_same(&rt, luby(u64::MAX - 1), 1 << 62);
 }

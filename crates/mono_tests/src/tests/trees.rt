@@ -1,45 +1,37 @@
-ghost use Rattle.std.specs.Prelude.{◌≡◌, IfOk, length};
+ghost use Rattle.std.specs.Prelude.{◌≡◌, length};
 
-use super::edge;
-use mono_graph::{EdgeRefusal, Graph, Part};
+use super::{assert_same, first_graph};
+use mono_gnf::read_gnf;
+use mono_graph::{Graph, Part};
 use mono_trees::{TreeFound, find_tree, is_least, is_split, is_tree};
 use std::alloc::Global;
 use std::process::Abort;
 use std::test::Fail;
 
 /// A triangle of the nodes 0, 1 and 2, an edge from 2 to 3, and one from 3 to itself.
-fn kite(alloc: Global) -> Result<Graph, EdgeRefusal>
-    ensures nodes { IfOk result (λ g. g.nodes ≡ 4) }
-    ensures edges { IfOk result (λ g. length g.edges ≡ 5) }
-{
-    let mut graph = match Graph::new(alloc, 4) {
-        Ok(graph) => graph,
-        Err(_) => return Err(EdgeRefusal::Memory),
-    };
-    graph.add_edge(edge(1, 0, 1, 2))?;
-    graph.add_edge(edge(2, 2, 1, 3))?;
-    graph.add_edge(edge(3, 2, 0, 4))?;
-    graph.add_edge(edge(4, 2, 3, 1))?;
-    graph.add_edge(edge(5, 3, 3, 0))?;
-    Ok(graph)
-}
+const KITE: &[u8] = b"digraph int 4 5 0\n\
+edge 0 0 1 1 2\n\
+edge 0 2 1 2 3\n\
+edge 0 2 0 3 4\n\
+edge 0 2 3 4 1\n\
+edge 0 3 3 5 0\n";
 
 /// What is found is a tree of these edges.
 fn assert_tree(rt: &impl Abort, found: &TreeFound, tree: &[u32]) {
-    match found {
-        TreeFound::Tree(edges) => assert_eq!(rt; edges.as_slice(), tree),
-        TreeFound::Split(_) => assert!(rt; false),
-        TreeFound::Least(_) => assert!(rt; false),
-    }
+    let edges = match found {
+        TreeFound::Tree(edges) => Some(edges.as_slice()),
+        TreeFound::Split(_) | TreeFound::Least(_) => None,
+    };
+    assert_same(rt, edges, Some(tree));
 }
 
 /// What is found is a lightest tree of so many edges.
 fn assert_lightest(rt: &impl Abort, found: &TreeFound, count: usize) {
-    match found {
-        TreeFound::Tree(_) => assert!(rt; false),
-        TreeFound::Split(_) => assert!(rt; false),
-        TreeFound::Least(edges) => assert_eq!(rt; edges.len(), count),
-    }
+    let edges = match found {
+        TreeFound::Least(edges) => Some(edges.len()),
+        TreeFound::Tree(_) | TreeFound::Split(_) => None,
+    };
+    assert_same(rt, edges, Some(count));
 }
 
 /// What is found of a bound, over all edges.
@@ -52,21 +44,21 @@ fn found_of(alloc: Global, graph: &Graph, most: i64) -> Result<TreeFound, Fail>
 }
 
 /// What is found in the kite with all edges present.
-fn found_in_kite(alloc: Global, most: i64) -> Result<TreeFound, Fail> {
-    let graph = kite(alloc)?;
-    found_of(alloc, &graph, most)
+fn found_in_kite(rt: &impl Abort, alloc: Global, most: i64) -> Result<TreeFound, Fail> {
+    let problem = read_gnf(alloc, KITE)?;
+    found_of(alloc, first_graph(rt, &problem, 4, 5), most)
 }
 
 #[test]
 fn tree_within_the_bound(rt: HostRuntime) -> Result<(), Fail> {
-    let found = found_in_kite(rt.alloc(), 6)?;
+    let found = found_in_kite(&rt, rt.alloc(), 6)?;
     assert_tree(&rt, &found, &[3, 0, 1]);
     Ok(())
 }
 
 #[test]
 fn lightest_tree_above_the_bound(rt: HostRuntime) -> Result<(), Fail> {
-    let found = found_in_kite(rt.alloc(), 5)?;
+    let found = found_in_kite(&rt, rt.alloc(), 5)?;
     assert_lightest(&rt, &found, 3);
     Ok(())
 }

@@ -1,4 +1,4 @@
-use Rattle.std.proofs.Common.{◌≡◌, ◌+◌, ◌-◌, ◌≤◌, ◌∙◌, ap, subst, arith, length, All, List, Bool, ℕ}
+use Rattle.std.proofs.Common.{◌≡◌, ◌+◌, ◌-◌, ◌≤◌, ◌∙◌, refl, ap, subst, arith, rules, length, All, List, Bool, ℕ}
 use Rattle.mono_base.specs.declared.limits.TheConstants.{MAX_BOUND}
 use Rattle.mono_base.specs.Literal.{IsLitWithin}
 use Rattle.mono_search.specs.Outcomes.{HasModel}
@@ -9,6 +9,9 @@ use Rattle.mono_best.specs.declared.questions.Reply.{Reply}
 use Rattle.mono_best.specs.declared.questions.Reply.TheVariants as reply
 use Rattle.mono_best.proofs.Asked.{met_beyond}
 use Rattle.mono_best.proofs.improving.best.Goals as goal
+
+pub loop-signs-init : goal.loop-signs-init
+loop-signs-init g c = (omega arith, refl, search rules)
 
 pub returns-in-Spent : goal.returns-in-Spent
 returns-in-Spent g c =

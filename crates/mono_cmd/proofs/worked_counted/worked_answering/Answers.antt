@@ -4,8 +4,8 @@ use Rattle.mono_problem.specs.Instance.{Instance}
 use Rattle.mono_gnf.specs.Stands.{Stands}
 use Rattle.mono_gen.specs.Generated.{generated}
 use Rattle.mono_gen.specs.declared.kind.GenKind.{GenKind}
-use Rattle.mono_forms.specs.declared.command.Command.{Command}
-use Rattle.mono_forms.specs.declared.command.Command.TheVariants as command
+use Rattle.mono_words.specs.declared.command.Command.{Command}
+use Rattle.mono_words.specs.declared.command.Command.TheVariants as command
 use Rattle.mono_forms.specs.Runs.{SolvesGenerated, summary_of}
 use Rattle.mono_forms.specs.Told.{RunsOver}
 use Rattle.mono_cmd.specs.Worked.{empty_problem, one_file}

@@ -1,6 +1,6 @@
 use Rattle.std.proofs.Common.{◌≡◌, ℕ, List, Some, codes, refl, ap, arith, inl, inr}
 use Rattle.std.specs.Prelude.{slice_index}
-use Rattle.mono_forms.specs.declared.command.Command.TheVariants as command
+use Rattle.mono_words.specs.declared.command.Command.TheVariants as command
 use Rattle.mono_cmd.specs.Refusals.{IsRefusal}
 use Rattle.mono_cmd.proofs.worked_counted.worked_writing.Goals as goal
 

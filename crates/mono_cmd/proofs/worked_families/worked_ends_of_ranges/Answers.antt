@@ -4,7 +4,7 @@ use Rattle.std.proofs.lemmas.List.Elements.{All-cons, All-nil}
 use Rattle.mono_base.specs.declared.limits.TheConstants.{MAX_VARS}
 use Rattle.mono_base.specs.Literal.{IsLitWithin}
 use Rattle.mono_steps.specs.WorkedLemmas.{minus}
-use Rattle.mono_forms.specs.declared.command.TheConstants.{MAX_ROUNDS, MAX_WORKERS}
+use Rattle.mono_words.specs.declared.command.TheConstants.{MAX_ROUNDS, MAX_WORKERS}
 use Rattle.mono_cmd.proofs.worked_families.worked_ends_of_ranges.Goals as goal
 
 pub returns-clause-least_budget : goal.returns-clause-least_budget

@@ -1,6 +1,6 @@
 use Rattle.std.proofs.Common.{◌≡◌, ◌⊎◌, Option, arith, refl, inl, inr}
 use Rattle.mono_forms.specs.declared.asking.AskRefusal.TheVariants as refusal
-use Rattle.mono_forms.specs.declared.command.Command.{Command}
+use Rattle.mono_words.specs.declared.command.Command.{Command}
 use Rattle.mono_forms.specs.declared.status.Status.TheVariants.{Memory}
 use Rattle.mono_cmd.specs.Machines.{HasRun, Machine}
 use Rattle.mono_forms.specs.Statuses.{code_of}

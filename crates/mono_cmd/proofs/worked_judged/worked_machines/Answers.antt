@@ -1,7 +1,7 @@
 use Rattle.std.proofs.Common.{◌≡◌, ◌⊎◌, Option, None, arith, refl, subst, inl, inr}
-use Rattle.mono_forms.specs.declared.command.Command.{Command}
+use Rattle.mono_words.specs.declared.command.Command.{Command}
 use Rattle.mono_forms.specs.declared.status.Status.TheVariants.{Memory}
-use Rattle.mono_forms.specs.Commands.{command_of}
+use Rattle.mono_words.specs.Commands.{command_of}
 use Rattle.mono_cmd.specs.Machines.{HasRun, Machine}
 use Rattle.mono_forms.specs.Statuses.{code_of}
 use Rattle.mono_cmd.proofs.ExitNumbers.{not_3, not_8}

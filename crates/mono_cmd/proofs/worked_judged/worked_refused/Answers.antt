@@ -9,7 +9,7 @@ use Rattle.mono_gnf.specs.declared.fault.GnfFault.TheVariants as fault
 use Rattle.mono_best.specs.Asking.{HasBoundedAtom}
 use Rattle.mono_forms.specs.declared.asking.AskRefusal.{AskRefusal}
 use Rattle.mono_forms.specs.declared.asking.AskRefusal.TheVariants as refusal
-use Rattle.mono_forms.specs.declared.command.Command.TheVariants as command
+use Rattle.mono_words.specs.declared.command.Command.TheVariants as command
 use Rattle.mono_forms.specs.declared.ending.Ending.TheVariants as ending
 use Rattle.mono_forms.specs.BestTexts.{refusal_text}
 use Rattle.mono_forms.specs.Endings.{text_of}

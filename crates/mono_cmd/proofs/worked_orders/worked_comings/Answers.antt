@@ -1,5 +1,5 @@
 use Rattle.std.proofs.Common.{◌≡◌, subst}
-use Rattle.mono_forms.specs.declared.command.TheConstants.{DEFAULT_BUDGET}
+use Rattle.mono_words.specs.declared.command.TheConstants.{DEFAULT_BUDGET}
 use Rattle.mono_forms.specs.declared.ending.Ending.TheVariants as ending
 use Rattle.mono_forms.specs.declared.summary.Summary.{Summary}
 use Rattle.mono_forms.specs.Solved.{IsSummary}

@@ -5,9 +5,9 @@ use Rattle.mono_io.specs.Reading.{IsGivenUp}
 use Rattle.mono_io.specs.Shelf.{ShelfView}
 use Rattle.mono_problem.specs.Instance.{Instance}
 use Rattle.mono_answer.specs.declared.version.Version.{Version}
-use Rattle.mono_forms.specs.declared.command.Command.{Command}
-use Rattle.mono_forms.specs.declared.command.Command.TheVariants as command
-use Rattle.mono_forms.specs.declared.command.TheConstants.{MAX_MIGRATED_BYTES}
+use Rattle.mono_words.specs.declared.command.Command.{Command}
+use Rattle.mono_words.specs.declared.command.Command.TheVariants as command
+use Rattle.mono_words.specs.declared.command.TheConstants.{MAX_MIGRATED_BYTES}
 use Rattle.mono_forms.specs.declared.ending.Ending.TheVariants as ending
 use Rattle.mono_forms.specs.Runs.{HasProblem, IsOutOfMemory}
 use Rattle.mono_cmd.specs.Worked.{fresh, read_in}

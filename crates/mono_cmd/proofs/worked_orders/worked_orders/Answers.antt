@@ -6,8 +6,8 @@ use Rattle.mono_gnf.specs.Faults.{first_fault}
 use Rattle.mono_gnf.specs.Statements.{statement_of}
 use Rattle.mono_gnf.specs.declared.fault.GnfFault.TheVariants as fault
 use Rattle.mono_answer.specs.declared.version.Version.{Version}
-use Rattle.mono_forms.specs.declared.command.Command.{Command}
-use Rattle.mono_forms.specs.declared.command.Command.TheVariants as command
+use Rattle.mono_words.specs.declared.command.Command.{Command}
+use Rattle.mono_words.specs.declared.command.Command.TheVariants as command
 use Rattle.mono_forms.specs.declared.ending.Ending.{Ending}
 use Rattle.mono_forms.specs.declared.ending.Ending.TheVariants as ending
 use Rattle.mono_forms.specs.declared.status.Status.TheVariants as status

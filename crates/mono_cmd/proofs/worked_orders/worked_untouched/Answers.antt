@@ -1,5 +1,5 @@
 use Rattle.std.proofs.Common.{◌≡◌, ◌⊎◌, true, false, List, ℕ, [], Option, Some, None, codes, refl, ap, sym, subst, ◌∙◌, inl, inr, arith}
-use Rattle.mono_forms.specs.declared.command.Command.{Command}
+use Rattle.mono_words.specs.declared.command.Command.{Command}
 use Rattle.mono_forms.specs.declared.status.Status.{Status}
 use Rattle.mono_forms.specs.declared.status.Status.TheVariants as status
 use Rattle.mono_cmd.specs.Machines.{HasRun, Machine, untouched}

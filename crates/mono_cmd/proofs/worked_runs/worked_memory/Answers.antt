@@ -1,7 +1,7 @@
 use Rattle.std.proofs.Common.{◌≡◌, [], ◌∷◌, Some, None, ap, arith, codes, inl, inr}
 use Rattle.mono_io.specs.Shelf.{ShelfView}
 use Rattle.mono_io.specs.Worked.{steady_shelf}
-use Rattle.mono_forms.specs.declared.command.Command.TheVariants as command
+use Rattle.mono_words.specs.declared.command.Command.TheVariants as command
 use Rattle.mono_forms.specs.Runs.{IsOutOfMemory}
 use Rattle.mono_cmd.proofs.UnknownWord.{faulty}
 use Rattle.mono_cmd.proofs.worked_runs.worked_memory.Goals as goal

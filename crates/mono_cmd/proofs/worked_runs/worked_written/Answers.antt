@@ -7,8 +7,8 @@ use Rattle.mono_check.specs.declared.verdict.Verdict.{Verdict}
 use Rattle.mono_check.specs.declared.verdict.Verdict.TheVariants as verdict
 use Rattle.mono_forms.specs.Endings.{verdict_status, verdict_text}
 use Rattle.mono_best.specs.Worked.{weighed}
-use Rattle.mono_forms.specs.declared.command.Command.{Command}
-use Rattle.mono_forms.specs.declared.command.Command.TheVariants as command
+use Rattle.mono_words.specs.declared.command.Command.{Command}
+use Rattle.mono_words.specs.declared.command.Command.TheVariants as command
 use Rattle.mono_forms.specs.declared.status.Status.TheVariants as status
 use Rattle.mono_forms.specs.Runs.{IsBestBy, SolvesGenerated}
 use Rattle.mono_gen.specs.Generated.{generated}

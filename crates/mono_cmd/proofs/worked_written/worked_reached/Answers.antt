@@ -1,9 +1,9 @@
 use Rattle.std.proofs.Common.{◌≡◌, ◌≤◌, ℕ, true, false, List, [], length, Some, codes, refl, ap, arith}
 use Rattle.std.specs.Prelude.{slice_index}
 use Rattle.mono_base.specs.declared.limits.TheConstants.{MAX_INPUT_BYTES}
-use Rattle.mono_forms.specs.declared.command.Command.{Command}
-use Rattle.mono_forms.specs.declared.command.Command.TheVariants as command
-use Rattle.mono_forms.specs.Commands.{files_of}
+use Rattle.mono_words.specs.declared.command.Command.{Command}
+use Rattle.mono_words.specs.declared.command.Command.TheVariants as command
+use Rattle.mono_words.specs.Commands.{files_of}
 use Rattle.mono_forms.specs.Runs.{EachReached, IsHeld}
 use Rattle.mono_cmd.proofs.worked_written.worked_reached.Goals as goal
 

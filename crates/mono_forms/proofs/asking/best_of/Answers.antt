@@ -1,5 +1,5 @@
 use Rattle.std.proofs.lemmas.Result.{IfOk-weaker}
-use Rattle.mono_forms.specs.declared.command.TheConstants.{DEFAULT_BUDGET}
+use Rattle.mono_words.specs.declared.command.TheConstants.{DEFAULT_BUDGET}
 use Rattle.mono_forms.proofs.Bests.{outcome_bounds}
 use Rattle.mono_forms.proofs.asking.best_of.Goals as goal
 

@@ -1,5 +1,5 @@
 use Rattle.std.proofs.Common.{ap, Err, Some}
-use Rattle.mono_forms.specs.declared.command.Command.TheVariants as command
+use Rattle.mono_words.specs.declared.command.Command.TheVariants as command
 use Rattle.mono_forms.specs.Endings.{unjudged_ending}
 use Rattle.mono_forms.proofs.OutOfMemory.{unjudged_with, ends_in_error}
 use Rattle.mono_forms.proofs.forms.judged_with.Goals as goal

@@ -1,5 +1,5 @@
 use Rattle.std.proofs.Common.{Some}
-use Rattle.mono_forms.specs.declared.command.Command.TheVariants as command
+use Rattle.mono_words.specs.declared.command.Command.TheVariants as command
 use Rattle.mono_forms.proofs.PlaceByEnding.{alone_too_long, first_too_long, second_too_long}
 use Rattle.mono_forms.proofs.laws.too_long_by_place.Goals as goal
 

@@ -1,5 +1,5 @@
 use Rattle.std.proofs.lemmas.Result.{IfOk-weaker}
-use Rattle.mono_forms.specs.declared.command.TheConstants.{DEFAULT_BUDGET}
+use Rattle.mono_words.specs.declared.command.TheConstants.{DEFAULT_BUDGET}
 use Rattle.mono_forms.proofs.Cores.{outcome_narrows}
 use Rattle.mono_forms.proofs.solving.core_of.Goals as goal
 

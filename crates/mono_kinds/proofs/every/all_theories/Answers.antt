@@ -1,6 +1,6 @@
 use Rattle.std.proofs.lemmas.Result.{IfOk-weaker}
 use Rattle.mono_theory.specs.Owners.{facts_of}
-use Rattle.mono_kinds.specs.Kinds.{graph_of, atoms_of, seen_of}
+use Rattle.mono_any.specs.Kinds.{graph_of, atoms_of, seen_of}
 use Rattle.mono_kinds.proofs.SlotNumbers.{made_all}
 use Rattle.mono_kinds.proofs.every.all_theories.Goals as goal
 

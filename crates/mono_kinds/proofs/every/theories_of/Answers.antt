@@ -2,7 +2,7 @@ use Rattle.std.proofs.Common.{◌≡◌, ◌+◌, ◌<◌, ◌==◌, ℕ, zero, 
 use Rattle.std.proofs.lemmas.Bool.{eqb-true}
 use Rattle.std.proofs.lemmas.List.{map_push}
 use Rattle.mono_theory.specs.Owners.{fact_of, facts_of}
-use Rattle.mono_kinds.specs.Kinds.{graph_of, atoms_of, seen_of}
+use Rattle.mono_any.specs.Kinds.{graph_of, atoms_of, seen_of}
 use Rattle.mono_kinds.specs.Slots.{AreMade, made_of, numbers_in}
 use Rattle.mono_kinds.proofs.SlotNumbers.{made_push, made_skip}
 use Rattle.mono_kinds.proofs.every.theories_of.Goals as goal

@@ -3,6 +3,7 @@
 ghost use Rattle.std.specs.Prelude.{◌≡◌, length};
 ghost use Rattle.mono_trail.specs.Order.{AllOpenWait};
 
+use super::super::assert_same;
 use super::draws::Draws;
 use mono_base::{Lit, Value};
 use mono_trail::{Order, Reason, Trail};
@@ -98,13 +99,13 @@ fn give_all_back(order: &mut Order, trail: &Trail)
 fn decide(rt: &impl Abort, pair: &mut Pair, slow: &SlowOrder) {
     give_all_back(&mut pair.order, &pair.trail);
     let Some(var) = pair.order.pick(&pair.trail) else {
-        assert_eq!(rt; pair.trail.lits().len(), VARS as usize);
+        assert_same(rt, pair.trail.lits().len(), VARS as usize);
         return;
     };
     assert!(rt; var <= VARS);
     assert!(rt; slow.is_most_active(var, &pair.trail));
     let phase = pair.order.phase(var);
-    assert_eq!(rt; slow.phases.get(var as usize).copied(), Some(phase));
+    assert_same(rt, slow.phases.get(var as usize).copied(), Some(phase));
     let positive = Lit::new(var as i32).expect(rt, "a literal");
     let lit = if phase { positive } else { positive.negated() };
     assert!(rt; lit.var() <= pair.trail.vars());
@@ -221,9 +222,9 @@ fn bump_in_turn(alloc: Global, pair: &mut Pair) -> Result<(), AllocError> {
 /// The variables are decided from the last one on.
 fn assert_last_comes_first(rt: &impl Abort, pair: &mut Pair) {
     for var in (1..=VARS).rev() {
-        assert_eq!(rt; next(pair), Some(var));
+        assert_same(rt, next(pair), Some(var));
     }
-    assert_eq!(rt; next(pair), None);
+    assert_same(rt, next(pair), None);
 }
 
 #[test]

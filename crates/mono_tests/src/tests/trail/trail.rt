@@ -3,6 +3,7 @@
 ghost use Rattle.std.specs.Prelude.{IfSome};
 ghost use Rattle.mono_base.specs.Literal.{IsLitWithin};
 
+use super::super::assert_same;
 use super::draws::Draws;
 use mono_base::{Lit, Value};
 use mono_trail::{Reason, Trail};
@@ -35,8 +36,33 @@ impl SlowTrail {
         }
     }
 
-    fn place_of(&self, var: u32) -> Option<usize> {
-        self.entries.iter().position(|entry| entry.lit.var() == var)
+    /// The place and the entry of a variable that has a value.
+    fn find(&self, var: u32) -> Option<(u32, Entry)> {
+        let mut place = 0u32;
+        for entry in &self.entries {
+            if entry.lit.var() == var {
+                return Some((place, *entry));
+            }
+            place = place.saturating_add(1);
+        }
+        None
+    }
+
+    /// The literal that is given next.
+    fn next_due(&self) -> Option<Lit> {
+        let entry = self.entries.get(self.given)?;
+        Some(entry.lit)
+    }
+
+    /// How many literals came up to a level.
+    fn count_to(&self, level: u32) -> usize {
+        let mut count = 0usize;
+        for entry in &self.entries {
+            if entry.level <= level {
+                count = count.saturating_add(1);
+            }
+        }
+        count
     }
 
     fn value(&self, lit: Lit) -> Value {
@@ -59,11 +85,7 @@ impl SlowTrail {
     }
 
     fn backjump(&mut self, level: u32) {
-        let kept = self
-            .entries
-            .iter()
-            .filter(|entry| entry.level <= level)
-            .count();
+        let kept = self.count_to(level);
         self.entries.truncate(kept);
         self.given = self.given.min(self.entries.len());
     }
@@ -143,8 +165,7 @@ fn settle(trail: &mut Trail, slow: &mut SlowTrail, draws: &mut Draws) {
 
 /// Both give the same literal.
 fn give(rt: &impl Abort, trail: &mut Trail, slow: &mut SlowTrail) {
-    let lit = slow.entries.get(slow.given).map(|entry| entry.lit);
-    assert_eq!(rt; trail.next_due(), lit);
+    assert_same(rt, trail.next_due(), slow.next_due());
     slow.given = slow.given.saturating_add(1).min(slow.entries.len());
 }
 
@@ -155,25 +176,22 @@ fn assert_same_literal(rt: &impl Abort, trail: &Trail, slow: &SlowTrail, number:
     };
     let var = lit.var();
     assert!(rt; var <= trail.vars());
-    let place = slow.place_of(var);
-    assert_eq!(rt; trail.value(lit), slow.value(lit));
-    assert_eq!(rt; trail.place_of(var).map(|place| place as usize), place);
-    let entry = place.and_then(|place| slow.entries.get(place));
-    assert_eq!(rt; trail.level_of(var), entry.map(|entry| entry.level));
-    assert_eq!(rt; trail.reason(var), entry.map(|entry| entry.reason));
+    assert_same(rt, trail.value(lit), slow.value(lit));
+    let (place, level, reason) = match slow.find(var) {
+        None => (None, None, None),
+        Some((place, entry)) => (Some(place), Some(entry.level), Some(entry.reason)),
+    };
+    assert_same(rt, trail.place_of(var), place);
+    assert_same(rt, trail.level_of(var), level);
+    assert_same(rt, trail.reason(var), reason);
 }
 
 /// Both hold the same literals at the same levels.
-fn assert_same(rt: &impl Abort, trail: &Trail, slow: &SlowTrail) {
-    assert_eq!(rt; trail.level(), slow.level());
-    assert_eq!(rt; trail.lits().len(), slow.entries.len());
+fn assert_alike(rt: &impl Abort, trail: &Trail, slow: &SlowTrail) {
+    assert_same(rt, trail.level(), slow.level());
+    assert_same(rt, trail.lits().len(), slow.entries.len());
     for level in 0..VARS {
-        let count = slow
-            .entries
-            .iter()
-            .filter(|entry| entry.level <= level)
-            .count();
-        assert_eq!(rt; trail.count_to(level), count);
+        assert_same(rt, trail.count_to(level), slow.count_to(level));
     }
     for number in -6..=6 {
         assert_same_literal(rt, trail, slow, number);
@@ -205,7 +223,7 @@ fn play(rt: &impl Abort, alloc: Global, trail: &mut Trail, seed: u64) -> Result<
     };
     for _ in 0..200 {
         call(rt, trail, &mut slow, &mut draws)?;
-        assert_same(rt, trail, &slow);
+        assert_alike(rt, trail, &slow);
     }
     Ok(())
 }

@@ -1,14 +1,16 @@
-use Rattle.std.proofs.Common.{◌≡◌, ◌∙◌, ◌<◌, ◌++◌, [], ℕ, List, Bool, false, length, take, drop, get_or, sym, ap, subst, arith}
-use Rattle.std.specs.Prelude.{IsTrue}
+use Rattle.std.proofs.Common.{◌≡◌, ◌∙◌, ◌+◌, ◌<◌, ◌≤◌, ◌++◌, [], ℕ, List, Bool, false, length, take, drop, get_or, refl, sym, ap, subst, arith}
+use Rattle.std.specs.Prelude.{All, IsTrue, vec_capacity}
 use Rattle.std.proofs.lemmas.List.{get_or_read, take_at}
-use Rattle.mono_graph.specs.Digraph.{has}
+use Rattle.mono_base.specs.declared.limits.TheConstants.{MAX_NODES}
+use Rattle.mono_graph.specs.Digraph.{edge_at, has}
 use Rattle.mono_graph.specs.declared.edge.Edge.{Edge}
 use Rattle.mono_graph.proofs.Membership.{has_here}
-use Rattle.mono_cycles.specs.Arranged.{arranged, is_marked}
+use Rattle.mono_cycles.specs.Arranged.{arranged, is_marked, AreRanks}
 use Rattle.mono_cycles.specs.Behind.{IsClosed}
 use Rattle.mono_graph.specs.Cycles.{is_order}
 use Rattle.mono_cycles.specs.Kept.{Kept}
-use Rattle.mono_cycles.proofs.Found.{continues_has}
+use Rattle.mono_cycles.specs.Searches.{IsStep}
+use Rattle.mono_cycles.proofs.Found.{continues_at, continues_has}
 use Rattle.mono_cycles.proofs.Grown.{IsMended, order_stays, order_mended, rank_known, ranked_arranged, ranked_at, one_not}
 use Rattle.mono_cycles.proofs.kept_order.KeptOrder.grow.Goals as goal
 
@@ -121,3 +123,121 @@ returns-in-None-clause-order c =
 
 pub returns-in-None-clause-cycle_stays : goal.returns-in-None-clause-cycle_stays
 returns-in-None-clause-cycle_stays c = λ ok. ap (λ (v : Kept). v.cycle) c.self.view_is
+
+kept_size : (kept old : Kept) (nodes : ℕ) → kept ≡ old → length old.order ≡ nodes → length kept.order ≡ nodes
+kept_size kept old nodes is size = ap (λ (v : Kept). length v.order) is ∙ size
+
+pub index-low-requires : goal.index-low-requires
+index-low-requires c =
+    let len = c.self.invariant.ranked.ranks_len in
+    let size : length c.self.inside.order.items ≡ c.args.graph.now.nodes = kept_size _ _ _ c.self.view_is c.requires.size in
+    omega (arith, len, size, c.edge-edge.ensures.to)
+
+pub index-high-requires : goal.index-high-requires
+index-high-requires c =
+    let len = c.self.invariant.ranked.ranks_len in
+    let size : length c.self.inside.order.items ≡ c.args.graph.now.nodes = kept_size _ _ _ c.self.view_is c.requires.size in
+    omega (arith, len, size, c.edge-edge.ensures.from)
+
+pub begin-requires-clause-marks : goal.begin-requires-clause-marks
+begin-requires-clause-marks c = c.self.invariant.room.marks_len ∙ kept_size _ _ _ c.self.view_is c.requires.size
+
+pub begin-requires-clause-onward : goal.begin-requires-clause-onward
+begin-requires-clause-onward c = c.self.invariant.room.onward_len ∙ kept_size _ _ _ c.self.view_is c.requires.size
+
+pub begin-requires-clause-room : goal.begin-requires-clause-room
+begin-requires-clause-room c = subst (λ (n : ℕ). n ≤ vec_capacity c.self.inside.behind.nodes) (kept_size _ _ _ c.self.view_is c.requires.size) c.self.invariant.room.found
+
+pub search-found-requires-clause-ranks : goal.search-found-requires-clause-ranks
+search-found-requires-clause-ranks c = ap (λ (ks : List ℕ). length ks) c.deref.ensures.value ∙ (c.self.invariant.ranked.ranks_len ∙ kept_size _ _ _ c.self.view_is c.requires.size)
+
+-- ---- an edge that closes a cycle
+
+pub invariant_of-self : goal.invariant_of-self
+invariant_of-self c =
+    let room = c.self.invariant.room in
+    record {
+      ranked = c.self.invariant.ranked;
+      room = record {
+        marks_len = room.marks_len;
+        onward_len = room.onward_len;
+        clear = room.clear;
+        found = room.found;
+        buffer = room.buffer;
+        cycle = let cycle = room.cycle in let cleared = c.clear.ensures.capacity in let pushed = c.push_reserved.ensures.capacity in omega (arith, cycle, cleared, pushed);
+      };
+    }
+
+pub close-requires-clause-closing : goal.close-requires-clause-closing
+close-requires-clause-closing c =
+    subst (λ (x : Edge). IsStep c.args.graph.now c.args.part.now c.in-Some.closing x.to (edge_at c.args.graph.now c.in-Some.closing).to) c.edge-edge.ensures.edge c.in-Some.ensures.found.0
+
+pub close-requires-clause-place : goal.close-requires-clause-place
+close-requires-clause-place c =
+    let first = c.begin.ensures.nodes in
+    let some : 0 < length c.begin.new.self.nodes.items = subst (λ (ks : List ℕ). 0 < length ks) (sym first) (omega arith) in
+    record {
+      known = c.requires.place;
+      here = c.requires.here;
+      from = ap (λ (x : Edge). x.from) (sym c.edge-edge.ensures.edge)
+          ∙ sym (continues_at c.begin.new.self.nodes.items c.search-found.new.self.nodes.items 0 c.in-Some.ensures.continues some ∙ ap (λ (ks : List ℕ). get_or ks 0 0) first);
+      to = refl;
+    }
+
+pub close-requires-clause-room : goal.close-requires-clause-room
+close-requires-clause-room c = subst (λ (n : ℕ). n + 1 ≤ vec_capacity c.self.inside.cycle) (kept_size _ _ _ c.self.view_is c.requires.size) c.self.invariant.room.cycle
+
+pub forget-requires-clause-known : goal.forget-requires-clause-known
+forget-requires-clause-known c = subst (λ (n : ℕ). All (λ u. u < n) c.search-found.new.self.nodes.items) (sym c.in-Some.ensures.behind.marks_len) c.in-Some.ensures.behind.known
+
+pub invariant_of-self-in-Some : goal.invariant_of-self-in-Some
+invariant_of-self-in-Some c =
+    let behind = c.in-Some.ensures.behind in
+    let room = c.self.invariant.room in
+    let size : length c.self.inside.order.items ≡ c.args.graph.now.nodes = kept_size _ _ _ c.self.view_is c.requires.size in
+    record {
+      ranked = c.self.invariant.ranked;
+      room = record {
+        marks_len = c.forget.ensures.len ∙ (behind.marks_len ∙ sym size);
+        onward_len = ap (λ (ks : List ℕ). length ks) c.forget.ensures.onward ∙ (behind.onward_len ∙ sym size);
+        clear = c.forget.ensures.clear;
+        found = let found = c.in-Some.ensures.room in let capacity = c.forget.ensures.capacity in omega (arith, size, found, capacity);
+        buffer = room.buffer;
+        cycle = let cycle = room.cycle in let capacity = c.close.ensures.capacity in omega (arith, cycle, capacity);
+      };
+    }
+
+-- ---- an edge after which there is another order
+
+pub arrange-requires-clause-few : goal.arrange-requires-clause-few
+arrange-requires-clause-few c = subst (λ (ks : List ℕ). length ks ≤ MAX_NODES) (sym c.deref_mut.ensures.value) c.self.invariant.ranked.few
+
+pub arrange-requires-clause-marks : goal.arrange-requires-clause-marks
+arrange-requires-clause-marks c =
+    let size : length c.self.inside.order.items ≡ c.args.graph.now.nodes = kept_size _ _ _ c.self.view_is c.requires.size in
+    ap (λ (ms : List Bool). length ms) c.deref-in-None.ensures.value ∙ (c.in-None.ensures.behind.marks_len ∙ (sym size ∙ ap (λ (ks : List ℕ). length ks) (sym c.deref_mut.ensures.value)))
+
+pub arrange-requires-clause-ranks_len : goal.arrange-requires-clause-ranks_len
+arrange-requires-clause-ranks_len c =
+    ap (λ (ks : List ℕ). length ks) c.deref_mut-in-None.ensures.value ∙ (c.self.invariant.ranked.ranks_len ∙ ap (λ (ks : List ℕ). length ks) (sym c.deref_mut.ensures.value))
+
+pub arrange-requires-clause-known : goal.arrange-requires-clause-known
+arrange-requires-clause-known c = subst (λ (ks : List ℕ). All (λ u. u < length ks) ks) (sym c.deref_mut.ensures.value) c.self.invariant.ranked.known
+
+pub arrange-requires-clause-ranks : goal.arrange-requires-clause-ranks
+arrange-requires-clause-ranks c =
+    subst (λ (ks : List ℕ). AreRanks c.deref_mut-in-None.result.now ks) (sym c.deref_mut.ensures.value)
+    (subst (λ (rs : List ℕ). AreRanks rs c.self.inside.order.items) (sym c.deref_mut-in-None.ensures.value) c.self.invariant.ranked.ranks_are)
+
+pub arrange-requires-clause-room : goal.arrange-requires-clause-room
+arrange-requires-clause-room c = subst (λ (ks : List ℕ). length ks ≤ vec_capacity c.self.inside.buffer) (sym c.deref_mut.ensures.value) c.self.invariant.room.buffer
+
+pub forget-requires-in-None-clause-known : goal.forget-requires-in-None-clause-known
+forget-requires-in-None-clause-known c = subst (λ (n : ℕ). All (λ u. u < n) c.search-found.new.self.nodes.items) (sym c.in-None.ensures.behind.marks_len) c.in-None.ensures.behind.known
+
+pub returns-in-None-clause-size : goal.returns-in-None-clause-size
+returns-in-None-clause-size c =
+    let o = c.self.inside.order in
+    let len : length c.arrange.new.order ≡ o.len = c.arrange.auto.order ∙ c.deref_mut.ensures.len in
+    ap (λ (ks : List ℕ). length ks) (take_at c.arrange.new.order (drop (length c.arrange.new.order) o.items) o.len len)
+    ∙ (c.arrange.auto.order ∙ (ap (λ (ks : List ℕ). length ks) c.deref_mut.ensures.value ∙ ap (λ (v : Kept). length v.order) c.self.view_is))

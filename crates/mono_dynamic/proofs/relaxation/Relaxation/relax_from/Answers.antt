@@ -23,3 +23,8 @@ loop-next-preserved c =
 
 pub returns-in_err-expand-clause-later : goal.returns-in_err-expand-clause-later
 returns-in_err-expand-clause-later c = later_trans c.args.step.now.stamp c.args.self.now.table c.loop-next.self.table c.expand.new.self.table c.loop-next.invariant.later c.in_err-expand.ensures.later
+
+pub loop-next-smaller : goal.loop-next-smaller
+loop-next-smaller c =
+    let fewer : suc (length (heap_items c.pop.new.self)) ≡ length (heap_items c.loop-next.self.queue) = length_permutation (heap_items c.loop-next.self.queue) (c.in-Some.next ∷ heap_items c.pop.new.self) c.in-Some.ensures.permutation in
+    omega (arith, fewer, c.in_ok-expand.ensures.relaxed.work)

@@ -67,3 +67,33 @@ returns-clause-flow c =
           let top = c.requires.path.tree.most (length path - 1) (omega arith) in
           omega (arith, top, c.requires.path.residual, c.requires.flow.most, c.loop-at.invariant.value);
     }
+
+pub overflow_add-index_mut : goal.overflow_add-index_mut
+overflow_add-index_mut c =
+    let path : List Visit = c.args.path.now in
+    let place : ℕ = (visit_at path c.loop-at.at).edge.place in
+    let known = (c.requires.path.tree.steps c.loop-at.at c.loop-at-test.true c.loop-at.invariant.moving.inside).known in
+    let read = get_or_read c.loop-at.self.amounts.items place c.index_mut-else-visit.result.now (let len = c.loop-at.invariant.len in omega (arith, known, len)) c.index_mut-else-visit.ensures.value 0 in
+    let fresh = c.loop-at.invariant.moving.fresh c.loop-at.at c.loop-at-test.true (omega arith) in
+    let low = c.requires.flow.flow.flowing.small place in
+    let some = c.requires.path.tree.some in
+    let top = c.requires.path.tree.most (length path - 1) (omega (arith, some)) in
+    omega (arith, read, fresh, low, top, c.requires.path.residual, c.requires.flow.most, c.requires.flow.small)
+
+pub overflow_add-self : goal.overflow_add-self
+overflow_add-self c =
+    let some = c.requires.path.tree.some in
+    let top = c.requires.path.tree.most (length c.args.path.now - 1) (omega (arith, some)) in
+    omega (arith, top, c.requires.path.residual, c.requires.flow.most, c.requires.flow.small, c.loop-at.invariant.value)
+
+pub index_mut-requires : goal.index_mut-requires
+index_mut-requires c =
+    let known = (c.requires.path.tree.steps c.loop-at.at c.loop-at-test.true c.loop-at.invariant.moving.inside).known in
+    let len = c.loop-at.invariant.len in
+    omega (arith, known, len)
+
+pub returns-clause-more : goal.returns-clause-more
+returns-clause-more c =
+    let some = c.requires.path.tree.some in
+    let extra = c.requires.path.tree.residuals (length c.args.path.now - 1) (omega (arith, some)) in
+    omega (arith, extra, c.loop-at.invariant.value)

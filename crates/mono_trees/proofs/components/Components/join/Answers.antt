@@ -1,50 +1,34 @@
-use Rattle.std.proofs.Common.{◌≡◌, ◌∙◌, ◌<◌, ◌++◌, ◌∷◌, [], length, List, ℕ, subst, sym, refl, inl, inr, take, drop, get_or, arith}
-use Rattle.std.proofs.lemmas.List.{length-map}
+use Rattle.std.proofs.Common.{◌≡◌, ◌∙◌, ◌++◌, ◌∷◌, [], length, List, ℕ, subst, sym, take, drop, arith}
 use Rattle.std.proofs.Math.Seq.{take-append_seam}
+use Rattle.std.specs.Prelude.{Vec}
+use Rattle.std.specs.declared.alloc.Global.{Global}
+use Rattle.mono_trees.specs.Kept.{AreLists}
+use Rattle.mono_trees.specs.Lists.{lists_of}
 use Rattle.mono_trees.specs.Tells.{Tells}
-use Rattle.mono_trees.proofs.Relabelled.{join_lent, join_known, get_default}
 use Rattle.mono_trees.proofs.components.Components.join.Goals as goal
 
 -- what was lent comes back whole
-taken : (new rest : List ℕ) (n : ℕ) → length new ≡ n → take n (new ++ rest) ≡ new
+taken : {X : Type 0} (new rest : List X) (n : ℕ) → length new ≡ n → take n (new ++ rest) ≡ new
 taken new rest n e = subst (λ (m : ℕ). take m (new ++ rest) ≡ new) e (take-append_seam new rest)
 
-pub returns-then-first-second-clause-tells : goal.returns-then-first-second-clause-tells
-returns-then-first-second-clause-tells c = λ es e.
-    join_known es e c.args.u c.args.v c.args.self.now c.self.inside.labels.items c.index-first.result.now c.index-second.result.now c.self.view_is c.requires.u c.requires.v
-    c.index-first.ensures c.index-second.ensures c.if-first-second.true
+both_taken : (labels more : List ℕ) (lists rest : List (Vec ℕ Global)) (n m : ℕ) → length labels ≡ n → length lists ≡ m → AreLists labels (lists_of lists) → AreLists (take n (labels ++ more)) (lists_of (take m (lists ++ rest)))
+both_taken labels more lists rest n m e f h = rw (taken labels more n e, taken lists rest m f) h
 
-in_lists : (labels : List ℕ) (old : List ℕ) (u first : ℕ) → labels ≡ old → u < length old → first ≡ get_or labels u first → get_or labels u 0 < length labels → first < length labels
-in_lists labels old u first same lt is below =
-    let e : first ≡ get_or labels u 0 = is ∙ get_default labels u first 0 (subst (λ (ls : List ℕ). u < length ls) (sym same) lt) in
-    omega arith
+pub join_labels-requires-clause-kept : goal.join_labels-requires-clause-kept
+join_labels-requires-clause-kept c = rw (c.deref_mut.ensures.value, c.deref_mut-2.ensures.value) c.self.invariant
 
-pub index-requires : goal.index-requires
-index-requires c =
-    let lt : c.args.u < length c.self.inside.labels.items = subst (λ (ls : List ℕ). c.args.u < length ls) (sym c.self.view_is) c.requires.u in
-    let a = in_lists c.self.inside.labels.items c.args.self.now c.args.u c.index-first.result.now c.self.view_is c.requires.u c.index-first.ensures (c.self.invariant.label c.args.u lt) in
-    let b = length-map c.self.inside.lists.items (λ r. r.items) in
-    let d = c.self.invariant.len in
-    omega (arith, a, b, d)
+pub invariant_of-self : goal.invariant_of-self
+invariant_of-self c =
+    both_taken c.join_labels.new.labels _ c.join_labels.new.lists _ _ _ (omega (arith, c.join_labels.auto.labels, c.deref_mut.ensures.len)) (omega (arith, c.join_labels.auto.lists, c.deref_mut-2.ensures.len)) c.in_err-join_labels.ensures.kept
 
-pub index-requires-2 : goal.index-requires-2
-index-requires-2 c =
-    let lt : c.args.v < length c.self.inside.labels.items = subst (λ (ls : List ℕ). c.args.v < length ls) (sym c.self.view_is) c.requires.v in
-    let a = in_lists c.self.inside.labels.items c.args.self.now c.args.v c.index-second.result.now c.self.view_is c.requires.v c.index-second.ensures (c.self.invariant.label c.args.v lt) in
-    let b = length-map c.self.inside.lists.items (λ r. r.items) in
-    let d = c.self.invariant.len in
-    omega (arith, a, b, d)
+pub invariant_of-self-2 : goal.invariant_of-self-2
+invariant_of-self-2 c =
+    both_taken c.join_labels.new.labels _ c.join_labels.new.lists _ _ _ (omega (arith, c.join_labels.auto.labels, c.deref_mut.ensures.len)) (omega (arith, c.join_labels.auto.lists, c.deref_mut-2.ensures.len)) c.in_ok-join_labels.ensures.kept
 
-pub returns-in_ok-merge-clause-tells : goal.returns-in_ok-merge-clause-tells
-returns-in_ok-merge-clause-tells c = λ es e from to tells.
-    let same : take c.self.inside.labels.len (c.merge.new.labels ++ drop (length c.merge.new.labels) c.self.inside.labels.items) ≡ c.merge.new.labels = taken c.merge.new.labels (drop (length c.merge.new.labels) c.self.inside.labels.items) c.self.inside.labels.len (omega (arith, c.merge.auto.labels, c.deref_mut.ensures.len)) in
+pub returns-clause-tells : goal.returns-clause-tells
+returns-clause-tells c = λ es e from to tells.
+    let new : List ℕ = c.join_labels.new.labels in
+    let rest : List ℕ = drop (length new) c.self.inside.labels.items in
+    let same : take c.self.inside.labels.len (new ++ rest) ≡ new = taken new rest c.self.inside.labels.len (omega (arith, c.join_labels.auto.labels, c.deref_mut.ensures.len)) in
     subst (λ (ls : List ℕ). Tells (es ++ e ∷ []) ls) (sym same)
-    (join_lent es e c.args.u c.args.v c.args.self.now c.self.inside.labels.items _ c.merge.new.labels c.index-first.result.now c.index-second.result.now c.index-first.result.now c.index-second.result.now
-    c.self.view_is c.deref_mut.ensures.value c.requires.u c.requires.v c.index-first.ensures c.index-second.ensures (inl (refl, refl)) c.merge.auto.labels c.in_ok-merge.ensures.ok from to tells)
-
-pub returns-in_ok-merge-2-clause-tells : goal.returns-in_ok-merge-2-clause-tells
-returns-in_ok-merge-2-clause-tells c = λ es e from to tells.
-    let same : take c.self.inside.labels.len (c.merge-else-len.new.labels ++ drop (length c.merge-else-len.new.labels) c.self.inside.labels.items) ≡ c.merge-else-len.new.labels = taken c.merge-else-len.new.labels (drop (length c.merge-else-len.new.labels) c.self.inside.labels.items) c.self.inside.labels.len (omega (arith, c.merge-else-len.auto.labels, c.deref_mut-else-len.ensures.len)) in
-    subst (λ (ls : List ℕ). Tells (es ++ e ∷ []) ls) (sym same)
-    (join_lent es e c.args.u c.args.v c.args.self.now c.self.inside.labels.items _ c.merge-else-len.new.labels c.index-first.result.now c.index-second.result.now c.index-second.result.now c.index-first.result.now
-    c.self.view_is c.deref_mut-else-len.ensures.value c.requires.u c.requires.v c.index-first.ensures c.index-second.ensures (inr (refl, refl)) c.merge-else-len.auto.labels c.in_ok-merge-2.ensures.ok from to tells)
+    (c.in_ok-join_labels.ensures.tells es e from to (subst (λ (ls : List ℕ). Tells es ls) (sym (c.deref_mut.ensures.value ∙ c.self.view_is)) tells))
