@@ -38,14 +38,12 @@ impl SlowTrail {
 
     /// The place and the entry of a variable that has a value.
     fn find(&self, var: u32) -> Option<(u32, Entry)> {
-        let mut place = 0u32;
-        for entry in &self.entries {
-            if entry.lit.var() == var {
-                return Some((place, *entry));
-            }
-            place = place.saturating_add(1);
-        }
-        None
+        let place = self
+            .entries
+            .iter()
+            .position(|entry| entry.lit.var() == var)?;
+        let entry = self.entries.get(place)?;
+        Some((u32::try_from(place).ok()?, *entry))
     }
 
     /// The literal that is given next.
@@ -56,13 +54,10 @@ impl SlowTrail {
 
     /// How many literals came up to a level.
     fn count_to(&self, level: u32) -> usize {
-        let mut count = 0usize;
-        for entry in &self.entries {
-            if entry.level <= level {
-                count = count.saturating_add(1);
-            }
-        }
-        count
+        self.entries
+            .iter()
+            .filter(|entry| entry.level <= level)
+            .count()
     }
 
     fn value(&self, lit: Lit) -> Value {
