@@ -86,7 +86,7 @@ pub(crate) fn ask_ending(
     printed(alloc, &asked)
 }
 
-/// A problem, printed. It only borrows the problem, so that dropping it, a large value, is written out once.
+/// A problem, printed.
 pub(crate) fn printed(alloc: Global, problem: &Problem) -> Result<Ending, AllocError>
     ensures { IfOk result (λ ending. ending ≡ Printed (printed_form problem.now)) }
 {

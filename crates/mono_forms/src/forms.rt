@@ -56,7 +56,7 @@ fn carry_out<S: Shelf>(alloc: Global, words: &[String], shelf: &mut S) -> Result
     }
 }
 
-/// What a command comes to. It only borrows the command, so that dropping it, a value of many forms, is written out once.
+/// What a command comes to.
 fn obey<S: Shelf>(alloc: Global, shelf: &mut S, command: &Command) -> Result<Ending, Ending>
     requires { IsWithinRange command.now }
     ensures { let ends = Ends (Some command.now) (S.seen shelf.old) (S.seen shelf.new) in MatchResult result ends ends }
@@ -180,7 +180,7 @@ fn check_with<S: Shelf>(
     judged_with(alloc, shelf, &input, answer, lits)
 }
 
-/// What `check-with` comes to behind FILE. It only borrows the problem, so that dropping it, a large value, is written out once.
+/// What `check-with` comes to behind FILE.
 fn judged_with<S: Shelf>(
     alloc: Global,
     shelf: &mut S,

@@ -1,5 +1,5 @@
 -- Evidence: a witness for or against a predicate, and the edges on which it rests.
-use Rattle.std.specs.Prelude.{◌≡◌, ℕ, ◌<◌, nat_lt, Bool, true, false, not, ℤ, pos, int_lt, List, ◌∷◌, length, map, IsTrue, All, if◌then◌else◌}
+use Rattle.std.specs.Prelude.{◌≡◌, ℕ, ◌<◌, nat_lt, Bool, true, false, not, ℤ, pos, int_lt, List, ◌∷◌, length, map, Option, None, Some, IsTrue, All, if◌then◌else◌}
 use Rattle.mono_graph.specs.Digraph.{Digraph, edge_at, places, present, has}
 use Rattle.mono_graph.specs.Flows.{amount_at}
 use Rattle.mono_problem.specs.declared.atom.Atom.{Atom}
@@ -49,6 +49,11 @@ clause_by g x e = literal_of (is_positive e.witness) x.var ∷ map (λ k. litera
 
 abbrev pub lemma_by : Digraph → Atom → Evidence → Lemma
 lemma_by g x e = record { atom = x.number; clause = clause_by g x e; witness = e.witness }
+
+-- of two pieces of evidence the one that rests on fewer edges, the first where neither does; the other may lack
+abbrev pub lighter : Evidence → Option Evidence → Evidence
+lighter e None = e
+lighter e (Some other) = if nat_lt (length other.edges) (length e.edges) then other else e
 
 -- the part that decides whether a literal of an atom with this predicate is forced
 abbrev pub side : Digraph → Predicate → List ℤ → ℤ → List Bool

@@ -8,6 +8,7 @@ use Rattle.mono_problem.specs.declared.atom.Predicate.TheVariants as kind
 use Rattle.mono_steps.specs.declared.lemma.Lemma.{Lemma}
 use Rattle.mono_steps.specs.declared.lemma.Witness.TheVariants as by
 use Rattle.mono_steps.specs.WorkedLemmas.{minus, of_1}
+use Rattle.mono_theory.specs.declared.evidence.Evidence.{Evidence}
 use Rattle.mono_theory.specs.declared.stage.Stage.{Stage}
 use Rattle.mono_theory.specs.declared.threat.Threat.{Threat}
 use Rattle.mono_bounds.specs.Bound.{Bound}
@@ -26,6 +27,10 @@ twice = record { number = 1; graph = 0; var = 3; predicate = kind.Reach 0 1 } �
 -- the walk along edge k, whose variable is k, shows it
 abbrev pub walk_along : ℕ → Lemma
 walk_along k = of_1 (minus k ∷ pos 3 ∷ []) (by.Path (k ∷ []))
+
+-- a cut around node 0 that rests on these edges
+abbrev pub cut_on : List ℕ → Evidence
+cut_on edges = record { witness = by.Cut (0 ∷ []); edges = edges }
 
 -- the edge at a place would break the atom, by the walk along the edge of a number, which stands at another place
 abbrev pub along : ℕ → ℕ → ℕ → Threat

@@ -3,11 +3,11 @@
 //! A witness has a sign, what it shows of the predicate, and rests on edges of one value, present or absent. For most
 //! predicates what rests on present edges shows that they hold; for those that fall as edges come it shows that they fail.
 
-ghost use Rattle.std.specs.Prelude.{◌≡◌, ◌<◌, ◌⊎◌, ◌∷◌, map, length, IfOk, All, Some};
+ghost use Rattle.std.specs.Prelude.{◌≡◌, ◌<◌, ◌∷◌, map, length, IfOk, All};
 ghost use Rattle.mono_graph.specs.Digraph.{edge_at};
 ghost use Rattle.mono_steps.specs.Switching.{literal_of};
 ghost use Rattle.mono_steps.specs.Witnesses.{is_positive as is_positive_witness, rests_on_present as rests_on_present_witness};
-ghost use Rattle.mono_theory.specs.Evidences.{lemma_by, shown_by as shown_by_of};
+ghost use Rattle.mono_theory.specs.Evidences.{lemma_by, lighter, shown_by as shown_by_of};
 ghost use Rattle.mono_theory.specs.Frames.{IsVar};
 
 use mono_base::{Lit, Row};
@@ -70,7 +70,7 @@ impl Evidence {
 
     /// This, or the other, where that is there and rests on fewer edges.
     pub fn or_lighter(self, other: Option<Evidence>) -> Evidence
-        ensures { (result ≡ self) ⊎ (other ≡ Some result) }
+        ensures { result ≡ lighter self other }
     {
         match other {
             None => self,

@@ -10,7 +10,7 @@ ghost use Rattle.mono_steps.specs.WorkedLemmas.{minus, of_1};
 ghost use Rattle.mono_theory.specs.declared.stage.Stage.TheVariants as stage;
 ghost use Rattle.mono_theory.specs.Asked.{asks_walk, first_node, last_node, limit_of, predicate_of, target_of, IsSourceFor};
 ghost use Rattle.mono_bounds.specs.Bound.{assigned, unassigned};
-ghost use Rattle.mono_theory.specs.Evidences.{all_but, lemma_by, only, shown_by, side, uses};
+ghost use Rattle.mono_theory.specs.Evidences.{all_but, lemma_by, lighter, only, shown_by, side, uses};
 ghost use Rattle.mono_theory.specs.PossibleRows.{is_cut_off, possible_parts};
 ghost use Rattle.mono_theory.specs.Resting.{absent_across, absent_from, absent_into, absent_out, is_joining};
 ghost use Rattle.mono_theory.specs.Stages.{undone, waiting};
@@ -19,7 +19,7 @@ ghost use Rattle.mono_theory.specs.SureParts.{sure_parts};
 ghost use Rattle.mono_theory.specs.SureRows.{row_of_atom};
 ghost use Rattle.mono_theory.specs.Theories.{atom_of, concerns_of, cut_to, owns_of, seeing};
 ghost use Rattle.mono_theory.specs.Walked.{walk_evidence};
-ghost use Rattle.mono_theory.specs.Worked.{bound_by, reaches, seen_so_far, side_with, twice, two_rows};
+ghost use Rattle.mono_theory.specs.Worked.{bound_by, cut_on, reaches, seen_so_far, side_with, twice, two_rows};
 
 use mono_graph::Limit;
 
@@ -99,6 +99,14 @@ pub fn edges_of_evidence()
     ensures used { uses (parallel 1 1) (by.Flow (amount 1 0 ∷ amount 2 1 ∷ [])) 1 ≡ true }
     ensures unused { uses (parallel 1 1) (by.Flow (amount 1 0 ∷ amount 2 1 ∷ [])) 0 ≡ false }
     ensures used_by_a_walk { uses (parallel 1 1) (by.Path (2 ∷ [])) 1 ≡ true }
+{}
+
+/// Of two pieces of evidence the one on fewer edges is taken, the first where they rest on as many or there is no other.
+pub fn evidence_on_fewer_edges()
+    ensures second { lighter (cut_on (0 ∷ 1 ∷ [])) (Some (cut_on (2 ∷ []))) ≡ cut_on (2 ∷ []) }
+    ensures first { lighter (cut_on (2 ∷ [])) (Some (cut_on (0 ∷ 1 ∷ []))) ≡ cut_on (2 ∷ []) }
+    ensures as_many { lighter (cut_on (0 ∷ 1 ∷ [])) (Some (cut_on (1 ∷ 2 ∷ []))) ≡ cut_on (0 ∷ 1 ∷ []) }
+    ensures no_other { lighter (cut_on (0 ∷ [])) None ≡ cut_on (0 ∷ []) }
 {}
 
 /// The lemma of evidence has what it shows of the atom, and the other value of each edge on which it rests.
