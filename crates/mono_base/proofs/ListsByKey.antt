@@ -1,9 +1,9 @@
 -- Lists by key in one table, after a change of a stretch or of the items.
-use Rattle.std.proofs.Common.{◌≡◌, ◌∙◌, ℕ, zero, suc, ◌+◌, ◌-◌, ◌<◌, ◌≤◌, List, [], ◌∷◌, ◌++◌, length, map, take, drop, get_or, set, refl, sym, ap, subst, inl, inr, arith, length-append}
+use Rattle.std.proofs.Common.{◌≡◌, ◌∙◌, ℕ, zero, suc, ◌+◌, ◌-◌, ◌<◌, ◌≤◌, List, [], ◌∷◌, ◌++◌, length, take, drop, get_or, set, refl, sym, ap, subst, inl, inr, arith, length-append}
 use Rattle.std.specs.Prelude.{◌≢◌, ◌⊎◌, replicate}
 use Rattle.std.proofs.lemmas.Bool.{cases_eq, cases_lt}
 use Rattle.std.proofs.lemmas.Grind.{get_or-set_at}
-use Rattle.std.proofs.lemmas.List.{drop-append-le, drop-set-add, drop-set-lt, ext_get_or, get_or-map, get_or-replicate, get_or-set_other, get_or_append_left, get_or_push, length-drop, length-map, length-replicate, length-set, length-take-le, map-append, set-get_or, take-append-drop, take-append-le, take-set-le, take-take, take_all, take_more_set}
+use Rattle.std.proofs.lemmas.List.{drop-append-le, drop-set-add, drop-set-lt, ext_get_or, get_or-map, get_or-replicate, get_or-set_other, get_or_append_left, get_or_push, length-drop, length-map, length-replicate, length-set, length-take, length-take-le, map-append, set-get_or, take-append-drop, take-append-le, take-set-le, take-take, take_all, take_more_set}
 use Rattle.std.proofs.Math.Seq.{drop-append_seam, take-append_seam}
 use Rattle.mono_base.specs.declared.buckets.Stretch.{Stretch}
 use Rattle.mono_base.specs.Buckets.{AreApart, IsApart, IsBehind, has_room, listed_in, lists_in, no_stretch, stretch_at}
@@ -68,11 +68,11 @@ swapped : (s t : Stretch) → IsApart s t → IsApart t s
 swapped s t (inl le) = inr le
 swapped s t (inr le) = inl le
 
--- more items
-pub apart_more : (n m : ℕ) (ss : List Stretch) → AreApart n ss → n ≤ m → AreApart m ss
-apart_more n m ss are le = record {
+-- more items behind
+pub apart_more : {T : Type 0} (xs ys : List T) (ss : List Stretch) → AreApart (length xs) ss → take (length xs) ys ≡ xs → AreApart (length ys) ss
+apart_more xs ys ss are kept = record {
   held = are.held;
-  within = λ k lt. let most = are.within k lt in omega (arith, le, most);
+  within = λ k lt. let most = are.within k lt in omega (arith, most, ap length kept, length-take (length xs) ys);
   apart = are.apart;
 }
 
@@ -170,12 +170,12 @@ moved_lists xs ys ss k s are lt kept behind =
         let within = are.within j below in
         begins xs ys (stretch_at ss j).start (stretch_at ss j).len kept (omega (arith, held, within))
 
-pub moved_apart : {T : Type 0} (xs ys : List T) (ss : List Stretch) (k : ℕ) (s : Stretch) → AreApart (length xs) ss → k < length ss → length xs ≤ length ys → IsBehind xs ys (stretch_at ss k) s
-    → AreApart (length ys) (set ss k s)
-moved_apart xs ys ss k s are lt le behind =
+pub moved_apart : {T : Type 0} (xs ys : List T) (ss : List Stretch) (k : ℕ) (s : Stretch) → AreApart (length xs) ss → k < length ss → IsBehind xs ys (stretch_at ss k) s → AreApart (length ys) (set ss k s)
+moved_apart xs ys ss k s are lt behind =
     let start = behind.start in
     let room = behind.room in
-    apart_set (length xs) (length ys) ss k s are lt le (omega (arith, room)) behind.end
+    let end = behind.end in
+    apart_set (length xs) (length ys) ss k s are lt (omega (arith, start, end)) (omega (arith, room)) end
     (λ j below ne. let within = are.within j below in inr (omega (arith, start, within)))
 
 -- no list changes where items come behind all others

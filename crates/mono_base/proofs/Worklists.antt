@@ -1,16 +1,16 @@
 -- Lists of places, each at most once, with a mark for each place.
-use Rattle.std.proofs.Common.{◌≡◌, ◌∙◌, ℕ, zero, suc, ◌<◌, ◌≤◌, Bool, true, false, ◌||◌, List, [], ◌∷◌, ◌++◌, All, eqb, eqb-true, get_or, set, length, refl, sym, ap, subst, inl, inr, arith, length-append}
-use Rattle.std.specs.Prelude.{Some, replicate}
+use Rattle.std.proofs.Common.{◌≡◌, ◌∙◌, ℕ, zero, suc, ◌-◌, ◌<◌, ◌≤◌, Bool, true, false, ◌||◌, List, [], ◌∷◌, ◌++◌, All, eqb, eqb-true, get_or, set, length, refl, sym, ap, subst, inl, inr, arith, length-append}
+use Rattle.std.specs.Prelude.{MatchOption, None, Option, Some, replicate}
 use Rattle.std.specs.List.{IsDistinct, AllByRecursion}
 use Rattle.std.proofs.Math.Bool.{or-false}
 use Rattle.std.proofs.Math.Seq.{get_or-append_seam}
 use Rattle.std.proofs.lemmas.Bool.{or_parts, or_from, or_right, eq-eqb, ne_eqb, cases_eq}
-use Rattle.std.proofs.lemmas.List.{ext_get_or, get_or-replicate, get_or-set_other, get_or-set_same, length-replicate, length-set}
+use Rattle.std.proofs.lemmas.List.{ext_get_or, get_or-replicate, get_or_push, get_or-set_other, get_or-set_same, length-replicate, length-set}
 use Rattle.std.proofs.lemmas.List.Elements.{All-nil, All-push, All-pop}
 use Rattle.std.proofs.lemmas.List.Folds.{list_any-append, Any-from_list_any}
 use Rattle.std.proofs.lemmas.Map.Steps.{length-le_from_distinct_below}
 use Rattle.mono_base.specs.Numbers.{has}
-use Rattle.mono_base.specs.Worklist.{IsWorklist, WorklistView}
+use Rattle.mono_base.specs.Worklist.{IsEmpty, IsTaken, IsWorklist, WorklistView, last_of}
 
 -- ---- places that are listed once
 
@@ -117,3 +117,10 @@ seen_as w listed places same_marks same_places = ap (λ (bs : List Bool). record
 pub all_on : (listed : List Bool) (n : ℕ) → length listed ≡ n → ((p : ℕ) → p < n → get_or listed p false ≡ true) → listed ≡ replicate n true
 all_on listed n size on = ext_get_or false listed (replicate n true) (size ∙ sym (length-replicate n true))
     (λ p lt. (let below : p < n = omega (arith, lt, size) in on p below ∙ sym (get_or-replicate n p true false below)))
+
+-- what is taken from a list that isn't empty is its last place
+pub taken_last : (old new : WorklistView) (found : Option ℕ) → MatchOption found ((new ≡ old) × IsEmpty old) (IsTaken old new) → 0 < length old.places → IsTaken old new (last_of old.places)
+taken_last old new None left some = let none = ap length left.1.none in absurd (omega (arith, some, none))
+taken_last old new (Some p) taken some =
+    let at : length new.places ≡ length (new.places ++ p ∷ []) - 1 = omega (arith, length-append new.places (p ∷ [])) in
+    subst (IsTaken old new) (sym (ap (λ (ps : List ℕ). last_of ps) taken.places ∙ get_or_push new.places p 0 _ at)) taken

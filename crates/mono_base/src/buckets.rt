@@ -65,7 +65,6 @@ fn listed<T>(items: &[T], at: Stretch) -> &[T]
 /// Copies the items of a stretch behind all others, to a stretch of twice the length.
 fn copy_behind<T: Copy>(items: &mut Vec<T>, at: Stretch, filler: T) -> Result<Stretch, AllocError>
     requires { at.start + at.len ≤ length items.old.items }
-    ensures more { length items.old.items ≤ length items.new.items }
     ensures kept { take (length items.old.items) items.new.items ≡ items.old.items }
     ensures behind { IfOk result (IsBehind items.old.items items.new.items at) }
 {
@@ -96,7 +95,6 @@ fn make_room<T: Copy>(
     requires apart { AreApart (length items.old.items) stretches.old.items }
     requires key { key < length stretches.old.items }
     ensures apart { AreApart (length items.new.items) stretches.new.items }
-    ensures len { length stretches.new.items ≡ length stretches.old.items }
     ensures same { lists_in items.new.items stretches.new.items ≡ lists_in items.old.items stretches.old.items }
     ensures room { OnOk result (has_room (stretch_at stretches.new.items key)) }
 {

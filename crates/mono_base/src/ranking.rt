@@ -83,11 +83,7 @@ impl Ranking {
 fn numbers(alloc: Global, count: u32) -> Result<Vec<u32>, AllocError>
     ensures { IfOk result (λ all. all.items ≡ range_with_len 0 count) }
 {
-    let mut all = Vec::with_capacity(alloc, count as usize)?;
-    for number in 0..count {
-        all.push(number)?;
-    }
-    Ok(all)
+    (0..count).collect(alloc)
 }
 
 /// The items at two places change places.

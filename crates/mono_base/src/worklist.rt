@@ -119,9 +119,7 @@ impl Worklist {
         requires { 0 < length self.old.places }
         ensures { IsTaken self.old self.new (last_of self.old.places) }
     {
-        if let Some(place) = self.places.pop() {
-            self.listed[place] = false;
-        }
+        let _ = self.take_next();
     }
 
     /// The place that joined last leaves: `None` exactly where none is listed.

@@ -139,6 +139,14 @@ impl Index {
         })
     }
 
+    /// The key of a place.
+    pub fn key(&self, place: usize) -> u32
+        requires { place < length self.now.keys }
+        ensures { result ≡ slice_index self.now.keys place }
+    {
+        self.keys[place]
+    }
+
     /// Where the places of a key stand.
     pub fn find(&self, key: u32) -> Span
         ensures { IsSpanOf self.now.keys self.now.places key result }

@@ -126,6 +126,24 @@ fn assert_outcome(rt: &impl Abort, found: &Outcome, text: &[u8], status: Status)
     assert_same(rt, found.status, status);
 }
 
+/// The run ended so, and what it wrote begins with this.
+fn assert_begins(rt: &impl Abort, found: &Outcome, beginning: &[u8], status: Status) {
+    assert_same(rt, found.status, status);
+    assert!(rt; found.text.as_slice().starts_with(beginning));
+}
+
+/// `check` accepts the answer, and says this of it.
+fn accepts(
+    rt: &(impl Abort + AllocGlobal),
+    input: &[u8],
+    answer: &[u8],
+    verdict: &[u8],
+) -> Result<(), Fail> {
+    let judged = outcome_of(rt.alloc(), &["check", "f", "a"], input, answer)?;
+    assert_outcome(rt, &judged, verdict, Status::Accepted);
+    Ok(())
+}
+
 /// The run of `check f a` ends so, however the shelf cuts the files.
 fn checks(
     rt: &(impl Abort + AllocGlobal),

@@ -1,12 +1,11 @@
 -- The order after an edge came.
-use Rattle.std.proofs.Common.{◌≡◌, ℕ, ◌+◌, ◌-◌, ◌<◌, ◌≤◌, Bool, false, ◌&&◌, ◌||◌, ◌⊎◌, List, [], ◌∷◌, ◌++◌, length, take, drop, filter, not, get_or, refl, sym, ap, subst, ◌∙◌, inl, inr, arith, zero-add, add-one}
+use Rattle.std.proofs.Common.{◌≡◌, ℕ, ◌+◌, ◌-◌, ◌<◌, ◌≤◌, Bool, false, ◌&&◌, ◌||◌, ◌⊎◌, List, [], ◌∷◌, ◌++◌, length, take, drop, filter, not, get_or, refl, sym, ap, subst, ◌∙◌, inl, inr, arith, zero-add}
 use Rattle.std.specs.Prelude.{IsTrue, All, ◌==◌}
 use Rattle.std.specs.List.{list_all, range_with_len}
 use Rattle.std.proofs.lemmas.Bool.{and_from, and_parts, or_cases, eqb-true, both_ways, ne_eqb}
 use Rattle.std.proofs.lemmas.List.Elements.{All-append, All-filter, All-take, All-drop, All-from_get_or}
 use Rattle.std.proofs.lemmas.List.FromFn.{length-range_with_len, get_or-range_with_len}
 use Rattle.mono_base.specs.declared.limits.TheConstants.{MAX_NODES}
-use Rattle.mono_graph.proofs.Ranges.{range_push}
 use Rattle.mono_graph.specs.Digraph.{Digraph, HasEnds, no_edge, present, edge_at, has, is_distinct, nodes_of}
 use Rattle.mono_graph.proofs.Places.{all_of}
 use Rattle.mono_graph.proofs.Membership.{has_range}
@@ -200,9 +199,6 @@ pub ranked_at : (o o' r r' : List ℕ) → o' ≡ o → r' ≡ r → IsRanked o 
 ranked_at o o' r r' eo er k = subst (λ (x : List ℕ). IsRanked x r') (sym eo) (subst (λ (x : List ℕ). IsRanked o x) (sym er) k)
 
 -- ---- the first order
-
-pub numbers_more : (n : ℕ) → range_with_len 0 n ++ n ∷ [] ≡ range_with_len 0 (n + 1)
-numbers_more n = sym (ap (λ (k : ℕ). range_with_len 0 k) (add-one n) ∙ (range_push 0 n ∙ ap (λ (k : ℕ). range_with_len 0 n ++ k ∷ []) (zero-add n)))
 
 number_at : (n i : ℕ) → i < n → get_or (range_with_len 0 n) i 0 ≡ i
 number_at n i lt = get_or-range_with_len 0 n i 0 (omega (arith, length-range_with_len 0 n)) ∙ zero-add i

@@ -57,11 +57,7 @@ impl Model for KeptOrder {
 fn numbers(alloc: Global, count: u32) -> Result<Vec<u32>, AllocError>
     ensures { IfOk result (λ numbers. numbers.items ≡ range_with_len 0 count) }
 {
-    let mut numbers = Vec::new(alloc);
-    for number in 0..count {
-        numbers.push(number)?;
-    }
-    Ok(numbers)
+    (0..count).collect(alloc)
 }
 
 /// The cycle of an edge from the target to a node that was found, the way on from there, and the edge back to the target.

@@ -18,9 +18,10 @@ use Rattle.mono_problem.specs.Read.{no_atom}
 use Rattle.mono_theory.specs.Asked.{asks_walk, no_source, source_at, target_of, AreOfAtoms, HasTarget, HaveRows}
 use Rattle.mono_theory.specs.DueAtoms.{PutsDue}
 use Rattle.mono_bounds.specs.DueNodes.{PutsNodes}
-use Rattle.mono_theory.specs.PossibleRows.{AreTargetRows, AreAsked, AreEach, IsFilledRow, IsRenewedRow, lacks_by, possible_parts, target_at}
+use Rattle.mono_theory.specs.PossibleRows.{PossibleView, AreTargetRows, AreAsked, AreBroughtUp, AreEach, IsFilledRow, IsRenewedRow, is_cut_off, lacks_by, possible_parts, target_at}
 use Rattle.mono_theory.specs.Supports.{atom_at}
 use Rattle.mono_theory.specs.Theories.{Facts}
+use Rattle.mono_theory.proofs.DueStay.{due_more}
 use Rattle.mono_theory.proofs.PossibleParts.{same_ways}
 
 -- ---- targets are added
@@ -232,3 +233,21 @@ part_due Is olds news i row_of targets before after h puts = record {
     | inr ne ↦ subst (λ (r : Targets). is_lacking r (target_at targets a) ≡ true) (h.others (get_or row_of a 0) ne) on
   ];
 }
+
+-- ---- all that comes of it
+
+-- one row more is brought up to date
+pub one_row_more : {g : Digraph} {P : List Bool} {n : ℕ} {row_of : List ℕ} {old between new : TargetRows} {first second third : List Bool} (i : ℕ) → AreBroughtUp (AreEach (IsRenewedRow g P n)) row_of old between first second
+    → AreBroughtUp (λ olds news. IsOneChanged (IsRenewedRow g P n) olds news i) row_of between new second third → AreBroughtUp (AreEach (IsRenewedRow g P n)) row_of old new first third
+one_row_more i all one = record {
+  nodes = one.nodes ∙ all.nodes;
+  size = one.size ∙ all.size;
+  rows = each_renewed i all.rows one.rows;
+  due = λ targets asked. due_more (all.due targets asked) (one.due targets (still_asked all.rows asked));
+}
+
+-- the atoms are due of which the rows show something new
+pub atoms_due : {f : Facts} {s : PossibleView} {n : ℕ} {new : TargetRows} {Is : List Targets → List Targets → Type 0} {before after : List Bool} → AreTargetRows f n s → AreBroughtUp Is s.row_of s.rows new before after
+    → PutsDue (length f.atoms) (is_cut_off s) (lacks_by new.rows s.row_of s.targets) before after
+atoms_due {s = s} {new = new} {before = before} {after = after} h all =
+    subst (λ (count : ℕ). PutsDue count (is_cut_off s) (lacks_by new.rows s.row_of s.targets) before after) h.row_len (all.due s.targets h.asked)

@@ -7,6 +7,7 @@ use Rattle.mono_dynamic.specs.Ways.{no_target, IsSameSource, IsTarget, IsTargetO
 use Rattle.mono_dynamic.specs.Targets.{Targets, TargetRows, targets_at, is_lacking, is_settled, AreTold, OnlyShrink}
 use Rattle.mono_problem.specs.declared.atom.Predicate.{Predicate}
 use Rattle.mono_problem.specs.Quiet.{over}
+use Rattle.mono_theory.specs.DueAtoms.{PutsDue}
 use Rattle.mono_theory.specs.Asked.{asks_walk, first_node, target_of, AreOfAtoms, HasTarget}
 use Rattle.mono_theory.specs.Supports.{AreCovered, atom_at}
 use Rattle.mono_theory.specs.Theories.{Facts}
@@ -75,6 +76,15 @@ pub record IsRenewedRow (g : Digraph) (P : List Bool) (number : ℕ) (old new : 
 pub record AreEach (Is : Targets → Targets → Type 0) (olds news : List Targets) : Type 0 where
   pub len : length news ≡ length olds
   pub each : (i : ℕ) → i < length olds → Is (targets_at olds i) (targets_at news i)
+
+-- Rows were brought up to date as the relation says, and the atoms are due of which that shows something new.
+pub record AreBroughtUp (Is : List Targets → List Targets → Type 0) (row_of : List ℕ) (old new : TargetRows)
+    (before after : List Bool) : Type 0 where
+  pub nodes : new.nodes ≡ old.nodes
+  pub size : length after ≡ length before
+  pub rows : Is old.rows new.rows
+  pub due : (targets : List WalkTarget) → AreAsked old.rows row_of targets
+      → PutsDue (length row_of) (lacks_by old.rows row_of targets) (lacks_by new.rows row_of targets) before after
 
 -- targets were added
 pub record IsFilledRow (old new : Targets) : Type 0 where

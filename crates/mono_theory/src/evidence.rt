@@ -100,23 +100,23 @@ fn edge_literal(graph: &Graph, place: u32, value: bool) -> Lit
     literal(edge.var, value)
 }
 
-/// A literal, and those of the edges.
+/// The clause of a literal and of those of the edges.
 fn clause_of(
     alloc: Global,
     graph: &Graph,
     head: Lit,
     places: &[u32],
     value: bool,
-) -> Result<Vec<Lit>, AllocError>
+) -> Result<Clause, AllocError>
     requires places { All (λ k. k < length graph.now.edges) places.now }
-    ensures { IfOk result (λ lits. lits.items ≡ head ∷ map (λ k. literal_of value (edge_at graph.now k).var) places.now) }
+    ensures { IfOk result (λ clause. clause ≡ head ∷ map (λ k. literal_of value (edge_at graph.now k).var) places.now) }
 {
     let mut lits = vec![in alloc; head]?;
     for place in places {
         let lit = edge_literal(graph, *place, value);
         lits.push(lit)?;
     }
-    Ok(lits)
+    Clause::from_lits(alloc, lits.as_slice())
 }
 
 /// The lemma that the evidence makes of the atom.
@@ -130,14 +130,12 @@ pub(crate) fn lemma_of(
     requires places { All (λ k. k < length graph.now.edges) evidence.edges }
     ensures { IfOk result (λ m. m ≡ lemma_by graph.now atom evidence) }
 {
-    let Evidence { witness, edges } = evidence;
-    let head = literal(atom.var, is_positive(&witness));
-    let value = rests_on_present(&witness);
-    let lits = clause_of(alloc, graph, head, edges.as_slice(), !value)?;
-    let clause = Clause::from_lits(alloc, lits.as_slice())?;
+    let head = literal(atom.var, is_positive(&evidence.witness));
+    let value = rests_on_present(&evidence.witness);
+    let clause = clause_of(alloc, graph, head, evidence.edges.as_slice(), !value)?;
     Ok(Lemma {
         atom: atom.number,
         clause,
-        witness,
+        witness: evidence.witness,
     })
 }

@@ -77,13 +77,6 @@ fn vars_of(alloc: Global, atoms: &[Atom]) -> Result<Vec<u32>, AllocError>
     atoms.iter().map(|x| x.var).collect(alloc)
 }
 
-/// The numbers of the atoms.
-fn numbers_of(alloc: Global, atoms: &[Atom]) -> Result<Vec<u32>, AllocError>
-    ensures { IfOk result (λ numbers. numbers.items ≡ atom_numbers atoms.now) }
-{
-    atoms.iter().map(|x| x.number).collect(alloc)
-}
-
 /// The bounds of the edges, none of whose variables has a value.
 fn edge_bounds(alloc: Global, graph: &Graph, cells: usize) -> Result<SeenBounds, AllocError>
     ensures bounds { IfOk result (λ b. IsSeenBound b (edge_vars graph.now) []) }
@@ -108,7 +101,7 @@ fn number_index(alloc: Global, atoms: &[Atom]) -> Result<Index, AllocError>
     requires { length atoms.now ≤ MAX_ATOMS }
     ensures { IfOk result (λ index. index.keys ≡ atom_numbers atoms.now) }
 {
-    let numbers = numbers_of(alloc, atoms)?;
+    let numbers: Vec<u32> = atoms.iter().map(|x| x.number).collect(alloc)?;
     Index::new(alloc, numbers)
 }
 

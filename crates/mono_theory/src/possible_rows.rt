@@ -5,13 +5,14 @@
 //! are there. So a literal costs a look at its edges for each row, and only rows whose walks went are searched once more (Even
 //! and Shiloach 1981).
 
-ghost use Rattle.std.specs.Prelude.{◌≡◌, ◌<◌, ◌^◌, ℕ, List, true, length, IfOk, IsTrue, OnOk, slice_index_or};
+ghost use Rattle.std.specs.Prelude.{◌≡◌, ◌<◌, ◌≤◌, ◌^◌, ℕ, true, length, All, IfOk, OnOk, slice_index_or};
 ghost use Rattle.mono_graph.specs.Digraph.{IsPartOf};
-ghost use Rattle.mono_dynamic.specs.declared.walk_target.WalkTarget.{WalkTarget};
+ghost use Rattle.mono_dynamic.specs.LeastRows.{IsCostSource};
 ghost use Rattle.mono_dynamic.specs.Ways.{IsTargetOf};
 ghost use Rattle.mono_dynamic.specs.Targets.{targets_at, is_settled, IsOneChanged};
-ghost use Rattle.mono_theory.specs.DueAtoms.{PutsDue};
-ghost use Rattle.mono_theory.specs.PossibleRows.{is_cut_off as is_cut_off_by, lacks_by, target_at, AreAsked, AreEach, AreSettledRows, IsFilledRow, IsRenewedRow};
+ghost use Rattle.mono_theory.specs.Asked.{AreOfAtoms, HasTarget, HaveRows};
+ghost use Rattle.mono_theory.specs.Theories.{cut_to};
+ghost use Rattle.mono_theory.specs.PossibleRows.{is_cut_off as is_cut_off_by, target_at, AreAsked, AreBroughtUp, AreEach, AreSettledRows, AreTargetRows, IsFilledRow, IsRenewedRow};
 
 use crate::asked::{AsksWalk, sources_of, targets_of};
 use crate::{Evidence, Frame, Rows};
@@ -35,9 +36,7 @@ const LEAST_SHARED: usize = 4;
 /// The rows of the walks for which atoms ask, along the possibly present edges.
 pub struct PossibleRows {
     rows: TargetsBySource,
-    /// By place of an atom its row.
-    row_of: Vec<u32>,
-    /// By row its atoms.
+    /// By place of an atom its row, and by row its atoms.
     atoms: Index,
     /// By place of an atom where its walk is to lead.
     targets: Vec<WalkTarget>,
@@ -47,7 +46,6 @@ impl Drop for PossibleRows {
     fn drop(self) {
         let PossibleRows {
             rows: _,
-            row_of: _,
             atoms: _,
             targets: _,
         } = self;
@@ -55,14 +53,11 @@ impl Drop for PossibleRows {
 }
 
 impl Model for PossibleRows {
-    ghost use Rattle.std.specs.Prelude.{◌≡◌};
     ghost use Rattle.mono_theory.specs.PossibleRows.{PossibleView};
 
     ghost Value = { PossibleView };
 
-    ghost view = { λ s. record { rows = s.rows; row_of = s.row_of.items; targets = s.targets.items } };
-
-    ghost invariant = { λ s. s.atoms.keys ≡ s.row_of.items };
+    ghost view = { λ s. record { rows = s.rows; row_of = s.atoms.keys; targets = s.targets.items } };
 }
 
 /// The row of each atom is asked for the atom's walk.
@@ -85,6 +80,28 @@ fn add_targets(
     Ok(())
 }
 
+/// The rows of the atoms of a frame where no literal was looked at, each asked for the walks of its atoms.
+fn rows_of(
+    alloc: Global,
+    frame: &Frame,
+    sources: &Sources,
+    targets: &[WalkTarget],
+) -> Result<TargetsBySource, AllocError>
+    requires known { All (IsCostSource frame.now.graph.nodes) sources.now.rows.items }
+    requires few { length sources.now.rows.items ≤ length frame.now.atoms }
+    requires own { HaveRows frame.now.atoms (length frame.now.atoms) sources.now.row_of.items sources.now.rows.items }
+    requires targets { AreOfAtoms HasTarget frame.now.atoms (length frame.now.atoms) targets.now }
+    requires ends { All (λ t. t.node < frame.now.graph.nodes) targets.now }
+    ensures { IfOk result (λ rows. AreTargetRows (cut_to 0 frame.now) 0
+        (record { rows = rows; row_of = sources.now.row_of.items; targets = targets.now })) }
+{
+    let graph = frame.graph();
+    frame.known();
+    let mut rows = TargetsBySource::new(alloc, graph.nodes(), sources.rows.as_slice())?;
+    add_targets(&mut rows, sources.row_of.as_slice(), targets)?;
+    Ok(rows)
+}
+
 /// Brings a row up to date, and puts its atoms in `due` where that shows of one of them that there is no walk. Where memory is
 /// missing, nothing is known of the row.
 fn settle_row(
@@ -102,13 +119,9 @@ fn settle_row(
     requires nodes { rows.old.nodes ≡ graph.now.nodes }
     requires part { IsPartOf part.now graph.now }
     requires size { length due.old.listed ≡ length atoms.now.keys }
-    ensures nodes { rows.new.nodes ≡ rows.old.nodes }
-    ensures size { length due.new.listed ≡ length due.old.listed }
-    ensures renewed { IsOneChanged (IsRenewedRow graph.now part.now number) rows.old.rows rows.new.rows row }
+    ensures renewed { AreBroughtUp (λ olds news. IsOneChanged (IsRenewedRow graph.now part.now number) olds news row) atoms.now.keys
+        rows.old rows.new due.old.listed due.new.listed }
     ensures settled { OnOk result (is_settled (targets_at rows.new.rows row) ≡ true) }
-    ensures due { (targets : List WalkTarget) → AreAsked rows.old.rows atoms.now.keys targets
-        → PutsDue (length atoms.now.keys) (lacks_by rows.old.rows atoms.now.keys targets) (lacks_by rows.new.rows atoms.now.keys targets)
-        due.old.listed due.new.listed }
 {
     if rows.is_settled(row) {
         return Ok(());
@@ -134,13 +147,9 @@ fn settle_rows(
     requires nodes { rows.old.nodes ≡ graph.now.nodes }
     requires part { IsPartOf part.now graph.now }
     requires size { length due.old.listed ≡ length atoms.now.keys }
-    ensures nodes { rows.new.nodes ≡ rows.old.nodes }
-    ensures size { length due.new.listed ≡ length due.old.listed }
-    ensures renewed { AreEach (IsRenewedRow graph.now part.now number) rows.old.rows rows.new.rows }
-    ensures settled { OnOk result (AreSettledRows rows.new.rows) }
-    ensures due { (targets : List WalkTarget) → AreAsked rows.old.rows atoms.now.keys targets
-        → PutsDue (length atoms.now.keys) (lacks_by rows.old.rows atoms.now.keys targets) (lacks_by rows.new.rows atoms.now.keys targets)
+    ensures renewed { AreBroughtUp (AreEach (IsRenewedRow graph.now part.now number)) atoms.now.keys rows.old rows.new
         due.old.listed due.new.listed }
+    ensures settled { OnOk result (AreSettledRows rows.new.rows) }
 {
     for row in 0..rows.count() {
         settle_row(rows, atoms, alloc, row, graph, part, number, due)?;
@@ -157,7 +166,7 @@ impl PossibleRows {
         requires node { (target_at self.now.targets place).node < self.now.rows.nodes }
         ensures { result ≡ is_cut_off_by self.now place }
     {
-        let row = self.row_of[place] as usize;
+        let row = self.atoms.key(place) as usize;
         self.rows.is_lacking(row, self.targets[place])
     }
 }
@@ -184,17 +193,13 @@ impl<K: AsksWalk> Rows<K> for PossibleRows {
     }
 
     fn of_frame(alloc: Global, frame: &Frame) -> Result<Self, AllocError> {
-        let graph = frame.graph();
         frame.known();
         let sources = sources_of::<K>(alloc, frame)?;
         let targets = targets_of::<K>(alloc, frame)?;
-        let Sources { rows, row_of } = sources;
-        let mut rows = TargetsBySource::new(alloc, graph.nodes(), rows.as_slice())?;
-        add_targets(&mut rows, row_of.as_slice(), targets.as_slice())?;
-        let atoms = Index::new(alloc, Vec::from_slice(alloc, row_of.as_slice())?)?;
+        let rows = rows_of(alloc, frame, &sources, targets.as_slice())?;
+        let atoms = Index::new(alloc, sources.row_of)?;
         Ok(PossibleRows {
             rows,
-            row_of,
             atoms,
             targets,
         })

@@ -12,7 +12,7 @@ ghost use Rattle.mono_dynamic.specs.LeastRows.{IsCostSource};
 ghost use Rattle.mono_bounds.specs.DueNodes.{PutsNodes, PutsRows};
 ghost use Rattle.mono_theory.specs.PossibleRows.{target_at};
 ghost use Rattle.mono_theory.specs.SureParts.{sure_parts};
-ghost use Rattle.mono_theory.specs.SureRows.{nodes_of as nodes_of_targets, row_of_atom, HaveLooked};
+ghost use Rattle.mono_theory.specs.SureRows.{nodes_of, row_of_atom, HaveLooked};
 
 use crate::asked::{AsksWalk, sources_of, targets_of};
 use crate::shows_walks::ShowsWalks;
@@ -59,11 +59,13 @@ impl<R> Model for SureRows<R> {
     ghost invariant = { λ s. s.lasts.keys ≡ nodes_of s.targets.items };
 }
 
-/// The nodes of the targets.
-fn nodes_of(alloc: Global, targets: &[WalkTarget]) -> Result<Vec<u32>, AllocError>
-    ensures { IfOk result (λ nodes. nodes.items ≡ nodes_of_targets targets.now) }
+/// The targets by their nodes.
+fn lasts_of(alloc: Global, targets: &[WalkTarget]) -> Result<Index, AllocError>
+    requires { length targets.now < 2 ^ 32 }
+    ensures { IfOk result (λ lasts. lasts.keys ≡ nodes_of targets.now) }
 {
-    targets.iter().map(|target| target.node).collect(alloc)
+    let nodes: Vec<u32> = targets.iter().map(|target| target.node).collect(alloc)?;
+    Index::new(alloc, nodes)
 }
 
 /// Puts the atoms in `due` whose last nodes have changed in a row after the first `looked` steps.
@@ -102,8 +104,7 @@ impl<R: SourceRow> SureRows<R> {
         ensures { IfOk result (λ s. s
             ≡ record { rows = map (R.at_first nodes) sources.now; row_of = row_of.items; targets = targets.items }) }
     {
-        let ends = nodes_of(alloc, targets.as_slice())?;
-        let lasts = Index::new(alloc, ends)?;
+        let lasts = lasts_of(alloc, targets.as_slice())?;
         let rows = BySource::new(alloc, nodes, sources)?;
         Ok(SureRows {
             rows,

@@ -162,11 +162,7 @@ fn join_labels(
 fn own_labels(alloc: Global, count: u32) -> Result<Vec<u32>, AllocError>
     ensures { IfOk result (λ labels. labels.items ≡ range_with_len 0 count) }
 {
-    let mut labels = Vec::new(alloc);
-    for node in 0..count {
-        labels.push(node)?;
-    }
-    Ok(labels)
+    (0..count).collect(alloc)
 }
 
 /// Gives each node its own label.

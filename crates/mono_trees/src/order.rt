@@ -54,11 +54,7 @@ pub fn by_weight(alloc: Global, graph: &Graph, places: &[u32]) -> Result<Vec<u32
 fn all_places(alloc: Global, graph: &Graph) -> Result<Vec<u32>, AllocError>
     ensures { IfOk result (λ v. v.items ≡ places graph.now) }
 {
-    let mut found = Vec::new(alloc);
-    for place in 0..graph.edge_count() {
-        found.push(place)?;
-    }
-    Ok(found)
+    (0..graph.edge_count()).collect(alloc)
 }
 
 /// The places of all edges, in the order of their weights.

@@ -1,6 +1,6 @@
 //! Cores of assumptions, each handed to `check-with`.
 
-use super::{Outcome, USAGE, assert_outcome, assert_same, outcome_of};
+use super::{Outcome, USAGE, assert_begins, assert_outcome, assert_same, outcome_of};
 use mono_forms::Status;
 use std::alloc::{AllocError, Global};
 use std::process::Abort;
@@ -74,8 +74,7 @@ fn cores_are_accepted_under_their_literals(rt: HostRuntime) -> Result<(), Fail> 
     ];
     for (literals, beginning, status, judged_under, verdict) in rows {
         let found = core_of(rt.alloc(), literals)?;
-        assert_same(&rt, found.status, *status);
-        assert!(rt; found.text.as_slice().starts_with(beginning));
+        assert_begins(&rt, &found, beginning, *status);
         let judged = judged_with(rt.alloc(), found.text.as_slice(), judged_under)?;
         assert_outcome(&rt, &judged, verdict, Status::Accepted);
     }

@@ -1,6 +1,6 @@
 //! Best bounds, each answer handed to `check` with what `ask` prints.
 
-use super::{assert_outcome, assert_same, outcome_of};
+use super::{accepts, assert_begins, assert_outcome, assert_same, outcome_of};
 use mono_forms::Status;
 use std::process::Abort;
 use std::test::Fail;
@@ -108,8 +108,7 @@ fn best_bounds_are_accepted(rt: HostRuntime) -> Result<(), Fail> {
     ];
     for (input, atom, beginning, status, bound, verdict) in rows {
         let found = outcome_of(rt.alloc(), &["best", "f", atom], input.as_bytes(), b"")?;
-        assert_same(&rt, found.status, *status);
-        assert!(rt; found.text.as_slice().starts_with(beginning));
+        assert_begins(&rt, &found, beginning, *status);
         let asked = outcome_of(
             rt.alloc(),
             &["ask", "f", atom, bound],
@@ -117,13 +116,7 @@ fn best_bounds_are_accepted(rt: HostRuntime) -> Result<(), Fail> {
             b"",
         )?;
         assert_same(&rt, asked.status, Status::Printed);
-        let judged = outcome_of(
-            rt.alloc(),
-            &["check", "f", "a"],
-            asked.text.as_slice(),
-            found.text.as_slice(),
-        )?;
-        assert_outcome(&rt, &judged, verdict, Status::Accepted);
+        accepts(&rt, asked.text.as_slice(), found.text.as_slice(), verdict)?;
     }
     Ok(())
 }

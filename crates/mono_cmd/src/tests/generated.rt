@@ -1,6 +1,6 @@
 //! Inputs that are generated, solved and summed up, how large they are, and what one conflict teaches.
 
-use super::{assert_outcome, assert_same, checks, outcome_of};
+use super::{assert_begins, assert_outcome, assert_same, checks, outcome_of};
 use mono_forms::Status;
 use mono_gnf::read_gnf;
 use mono_problem::Problem;
@@ -23,8 +23,7 @@ fn writes(
 /// The generated text begins so.
 fn begins(rt: &(impl Abort + AllocGlobal), line: &[&str], start: &[u8]) -> Result<(), Fail> {
     let found = outcome_of(rt.alloc(), line, b"", b"")?;
-    assert!(rt; found.text.as_slice().starts_with(start));
-    assert_same(rt, found.status, Status::Printed);
+    assert_begins(rt, &found, start, Status::Printed);
     Ok(())
 }
 
@@ -175,8 +174,7 @@ fn has_one_chain_of_two(text: &[u8]) -> bool {
 fn one_conflict_teaches_a_clause_of_two_literals(rt: HostRuntime) -> Result<(), Fail> {
     let line = ["solve", "f", "--conflicts", "1"];
     let found = outcome_of(rt.alloc(), &line, EIGHT, b"")?;
-    assert_same(&rt, found.status, Status::Unknown);
-    assert!(rt; found.text.as_slice().starts_with(b"s UNKNOWN\n"));
+    assert_begins(&rt, &found, b"s UNKNOWN\n", Status::Unknown);
     assert!(rt; has_one_chain_of_two(found.text.as_slice()));
     Ok(())
 }

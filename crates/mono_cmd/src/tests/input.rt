@@ -183,89 +183,82 @@ fn there_are_at_most_1024_graphs(rt: HostRuntime) -> Result<(), Fail> {
     prints(&rt, input.as_slice(), text, Status::Refused)
 }
 
-/// The words of the line are no command.
-fn is_no_command(rt: &(impl Abort + AllocGlobal), line: &str) -> Result<(), Fail> {
-    let words: Vec<&str> = line
-        .split(' ')
-        .filter(|word| !word.is_empty())
-        .collect(rt.alloc())?;
-    let found = outcome_of(rt.alloc(), words.as_slice(), GRAPH, b"")?;
+/// Words that are no command, on a line each. The first line has none.
+const OTHER_WORDS: &str = "
+check
+print
+check f
+print f a
+check f a b
+check -f a
+check f -a
+print -f
+--help
+--version
+Print f
+solve
+solve -f
+solve f a
+solve f --conflicts
+solve f --conflicts 0
+solve f --conflicts -1
+solve f --conflicts +1
+solve f --conflicts 1x
+solve f --conflicts 18446744073709551616
+solve f --conflicts 1 x
+solve f conflicts 1
+solve --conflicts 1 f
+check f --conflicts 1
+gen grid 10
+gen grid 1 7
+gen grid 101 7
+gen grid x 7
+gen maze 10 7
+gen grid 10 18446744073709551616
+gen grid 10 -7
+gen grid 10 7 --solve 1
+gen grid 10 7 solve
+gen --solve grid 10 7
+print grid 10 7 --solve
+core f
+core f 0
+core f -0
+core f 1 x
+core f 1000001
+core -f 1
+check-with f a
+check-with f 1
+check-with f -a 1
+team f 2
+team f 0 1
+team f 9 1
+team f 1 0
+team f 1 101
+team -f 1 1
+team f 1 1 1
+team f +1 1
+migrate f a 0
+migrate f a 3
+migrate f a 02
+migrate f a two";
+
+/// The words are no command.
+fn are_no_command(rt: &(impl Abort + AllocGlobal), words: &[&str]) -> Result<(), Fail> {
+    let found = outcome_of(rt.alloc(), words, GRAPH, b"")?;
     assert_outcome(rt, &found, USAGE, Status::Words);
     Ok(())
 }
 
 #[test]
 fn other_words_are_no_command(rt: HostRuntime) -> Result<(), Fail> {
-    let words = [
-        "",
-        "check",
-        "print",
-        "check f",
-        "print f a",
-        "check f a b",
-        "check -f a",
-        "check f -a",
-        "print -f",
-        "--help",
-        "--version",
-        "Print f",
-        "solve",
-        "solve -f",
-        "solve f a",
-        "solve f --conflicts",
-        "solve f --conflicts 0",
-        "solve f --conflicts -1",
-        "solve f --conflicts +1",
-        "solve f --conflicts 1x",
-        "solve f --conflicts 18446744073709551616",
-        "solve f --conflicts 1 x",
-        "solve f conflicts 1",
-        "solve --conflicts 1 f",
-        "check f --conflicts 1",
-        "gen grid 10",
-        "gen grid 1 7",
-        "gen grid 101 7",
-        "gen grid x 7",
-        "gen maze 10 7",
-        "gen grid 10 18446744073709551616",
-        "gen grid 10 -7",
-        "gen grid 10 7 --solve 1",
-        "gen grid 10 7 solve",
-        "gen --solve grid 10 7",
-        "print grid 10 7 --solve",
-        "core f",
-        "core f 0",
-        "core f -0",
-        "core f 1 x",
-        "core f 1000001",
-        "core -f 1",
-        "check-with f a",
-        "check-with f 1",
-        "check-with f -a 1",
-        "team f 2",
-        "team f 0 1",
-        "team f 9 1",
-        "team f 1 0",
-        "team f 1 101",
-        "team -f 1 1",
-        "team f 1 1 1",
-        "team f +1 1",
-        "migrate f a 0",
-        "migrate f a 3",
-        "migrate f a 02",
-        "migrate f a two",
-    ];
-    for line in &words {
-        is_no_command(&rt, line)?;
+    for line in OTHER_WORDS.split('\n') {
+        let words: Vec<&str> = line
+            .split(' ')
+            .filter(|word| !word.is_empty())
+            .collect(rt.alloc())?;
+        are_no_command(&rt, words.as_slice())?;
     }
-    let others: [&[&str]; 3] = [
-        &["print", ""],
-        &["migrate", "f", "a", "1 "],
-        &["migrate", "f", "a", ""],
-    ];
-    for line in others {
-        let found = outcome_of(rt.alloc(), line, GRAPH, b"")?;
-        assert_outcome(&rt, &found, USAGE, Status::Words);
-    }
-    Ok(())
+    are_no_command(&rt, &["print", ""])?;
+    are_no_command(&rt, &["migrate", "f", "a", "1 "])?;
+    are_no_command(&rt, &["migrate", "f", "a", ""])
 }

@@ -86,12 +86,22 @@ fn finds(rt: &(impl Abort + AllocGlobal), input: &[u8], text: &[u8]) -> Result<(
     checks(rt, input, text, b"accepted model\n", Status::Accepted)
 }
 
+/// The one model of the input, which is in two parts, is found.
+fn finds_model(
+    rt: &(impl Abort + AllocGlobal),
+    start: &str,
+    rest: &str,
+    model: &str,
+) -> Result<(), Fail> {
+    let input = joined(rt.alloc(), &[start, rest])?;
+    let text = joined(rt.alloc(), &["s SATISFIABLE\nv ", model, " 0\n"])?;
+    finds(rt, input.as_bytes(), text.as_bytes())
+}
+
 /// Each row is an input in two parts, and its one model.
 fn finds_each(rt: &(impl Abort + AllocGlobal), rows: &[(&str, &str, &str)]) -> Result<(), Fail> {
     for (start, rest, model) in rows {
-        let input = joined(rt.alloc(), &[*start, *rest])?;
-        let text = joined(rt.alloc(), &["s SATISFIABLE\nv ", *model, " 0\n"])?;
-        finds(rt, input.as_bytes(), text.as_bytes())?;
+        finds_model(rt, start, rest, model)?;
     }
     Ok(())
 }
@@ -320,13 +330,11 @@ fn spends(rt: &(impl Abort + AllocGlobal), budget: &str, enough: bool) -> Result
 /// Three conflicts above level 0 are met, whatever is decided.
 #[test]
 fn a_budget_is_spent_or_enough(rt: HostRuntime) -> Result<(), Fail> {
-    for budget in ["1", "2"] {
+    for budget in "1 2".split(' ') {
         spends(&rt, budget, false)?;
     }
-    for budget in [
-        "3", "4", "5", "6", "7", "8", "9", "10", "11", "12", "13", "14", "15", "16", "17", "18",
-        "19", "20", "21", "22", "23", "24", "25", "26", "27",
-    ] {
+    let enough = "3 4 5 6 7 8 9 10 11 12 13 14 15 16 17 18 19 20 21 22 23 24 25 26 27";
+    for budget in enough.split(' ') {
         spends(&rt, budget, true)?;
     }
     Ok(())

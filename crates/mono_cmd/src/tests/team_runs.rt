@@ -1,6 +1,6 @@
 //! Runs of `team`, each judged by `check`.
 
-use super::{Outcome, assert_outcome, assert_same, outcome_of};
+use super::{Outcome, accepts, assert_begins, outcome_of};
 use mono_forms::Status;
 use std::alloc::{AllocError, Global};
 use std::process::Abort;
@@ -68,15 +68,8 @@ fn answers_of_teams_are_accepted(rt: HostRuntime) -> Result<(), Fail> {
     ];
     for (input, workers, rounds, status, beginning, verdict) in rows {
         let found = played(rt.alloc(), input, workers, rounds)?;
-        assert_same(&rt, found.status, *status);
-        assert!(rt; found.text.as_slice().starts_with(beginning));
-        let judged = outcome_of(
-            rt.alloc(),
-            &["check", "f", "a"],
-            input,
-            found.text.as_slice(),
-        )?;
-        assert_outcome(&rt, &judged, verdict, Status::Accepted);
+        assert_begins(&rt, &found, beginning, *status);
+        accepts(&rt, input, found.text.as_slice(), verdict)?;
     }
     Ok(())
 }

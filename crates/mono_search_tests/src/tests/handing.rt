@@ -4,13 +4,13 @@
 
 ghost use Rattle.std.specs.Prelude.{◌≡◌, length, IsTrue};
 ghost use Rattle.mono_problem.specs.Read.{atom_numbered};
-ghost use Rattle.mono_reach.specs.Reaches.{is_reach};
+ghost use Rattle.mono_flow.specs.Flowing.{is_flow_predicate};
 
 use super::assert_same;
 use mono_base::Lit;
+use mono_flow::FlowTheory;
 use mono_gnf::read_gnf;
 use mono_problem::{Predicate, Problem};
-use mono_reach::ReachTheory;
 use mono_search::{Outcome, Search};
 use mono_steps::Lemma;
 use mono_theory::{Finding, Force, Theory};
@@ -18,10 +18,10 @@ use std::alloc::{AllocError, Global};
 use std::process::Abort;
 use std::test::Fail;
 
-/// Predicates of reachability behind a type of one's own.
+/// Predicates on flows behind a type of one's own.
 #[derive(Drop)]
 struct Wrapped {
-    theory: ReachTheory,
+    theory: FlowTheory,
 }
 
 impl Theory for Wrapped {
@@ -64,18 +64,18 @@ impl Theory for Wrapped {
     }
 }
 
-/// Whether the problem has one predicate, of reachability over its first graph.
-fn asks_for_one_walk(problem: &Problem) -> bool
+/// Whether the problem has one predicate, on a flow over its first graph.
+fn asks_for_one_flow(problem: &Problem) -> bool
     ensures one { IsTrue result → length problem.now.atoms ≡ 1 }
     ensures graph { IsTrue result → (atom_numbered problem.now 1).graph ≡ 0 }
-    ensures walk { IsTrue result → IsTrue (is_reach (atom_numbered problem.now 1).predicate) }
+    ensures flow { IsTrue result → IsTrue (is_flow_predicate (atom_numbered problem.now 1).predicate) }
 {
     if problem.atom_count() != 1 {
         return false;
     }
     let atom = problem.atom(1);
     match atom.predicate {
-        Predicate::Reach { .. } => atom.graph == 0,
+        Predicate::Flow { .. } => atom.graph == 0,
         _ => false,
     }
 }
@@ -96,42 +96,42 @@ fn found_by(search: &mut Search<'_, Wrapped>) -> Result<Option<bool>, AllocError
 fn found_over_one(alloc: Global, problem: &Problem) -> Result<Option<bool>, AllocError>
     requires one { length problem.now.atoms ≡ 1 }
     requires graph { (atom_numbered problem.now 1).graph ≡ 0 }
-    requires walk { IsTrue (is_reach (atom_numbered problem.now 1).predicate) }
+    requires flow { IsTrue (is_flow_predicate (atom_numbered problem.now 1).predicate) }
 {
     problem.known();
-    let theory = ReachTheory::new(alloc, problem, 0, &[1])?;
+    let theory = FlowTheory::new(alloc, problem, 0, &[1])?;
     let mut theories = Vec::new(alloc);
     theories.push(Wrapped { theory })?;
     let mut search = Search::new(alloc, problem, theories)?;
     found_by(&mut search)
 }
 
-/// Whether the problem has a model; nothing where its predicates aren't one of reachability over its first graph.
+/// Whether the problem has a model; nothing where its predicates aren't one on a flow over its first graph.
 fn is_satisfiable(alloc: Global, problem: &Problem) -> Result<Option<bool>, AllocError> {
-    if !asks_for_one_walk(problem) {
+    if !asks_for_one_flow(problem) {
         return Ok(None);
     }
     found_over_one(alloc, problem)
 }
 
-/// The graph has two edges, of variables 1 and 2, one behind the other. Variable 3 says that there is a walk along them.
+/// The graph has two edges, of variables 1 and 2, one behind the other. Variable 3 says that 1 flows along them.
 #[test]
 fn a_wrapped_theory_is_searched(rt: HostRuntime) -> Result<(), Fail> {
     for (input, satisfiable) in [
         (
-            "digraph int 3 2 0\nedge 0 0 1 1\nedge 0 1 2 2\nreach 0 0 2 3\n1 0\n2 0\n",
+            "digraph int 3 2 0\nedge 0 0 1 1\nedge 0 1 2 2\nmaximum_flow_geq 0 0 2 3 1\n1 0\n2 0\n",
             true,
         ),
         (
-            "digraph int 3 2 0\nedge 0 0 1 1\nedge 0 1 2 2\nreach 0 0 2 3\n3 0\n",
+            "digraph int 3 2 0\nedge 0 0 1 1\nedge 0 1 2 2\nmaximum_flow_geq 0 0 2 3 1\n3 0\n",
             true,
         ),
         (
-            "digraph int 3 2 0\nedge 0 0 1 1\nedge 0 1 2 2\nreach 0 0 2 3\n1 0\n2 0\n-3 0\n",
+            "digraph int 3 2 0\nedge 0 0 1 1\nedge 0 1 2 2\nmaximum_flow_geq 0 0 2 3 1\n1 0\n2 0\n-3 0\n",
             false,
         ),
         (
-            "digraph int 3 2 0\nedge 0 0 1 1\nedge 0 1 2 2\nreach 0 0 2 3\n-1 0\n3 0\n",
+            "digraph int 3 2 0\nedge 0 0 1 1\nedge 0 1 2 2\nmaximum_flow_geq 0 0 2 3 1\n-1 0\n3 0\n",
             false,
         ),
     ] {

@@ -1,8 +1,11 @@
 use Rattle.std.proofs.Common.{◌≡◌, subst}
 use Rattle.std.proofs.lemmas.List.{get_or_read}
 use Rattle.mono_base.specs.Buckets.{IsBehind, no_stretch, stretch_at}
-use Rattle.mono_base.proofs.ListsByKey.{moved_lists, same_lists}
+use Rattle.mono_base.proofs.ListsByKey.{apart_more, moved_lists, same_lists}
 use Rattle.mono_base.proofs.buckets.make_room.Goals as goal
+
+pub returns-in_err-behind-clause-apart : goal.returns-in_err-behind-clause-apart
+returns-in_err-behind-clause-apart g c = apart_more c.args.items.now.items c.copy_behind.new.items.items c.args.stretches.now.items c.requires.apart c.copy_behind.ensures.kept
 
 pub returns-in_err-behind-clause-same : goal.returns-in_err-behind-clause-same
 returns-in_err-behind-clause-same g c = same_lists c.args.items.now.items c.copy_behind.new.items.items c.args.stretches.now.items c.requires.apart c.copy_behind.ensures.kept

@@ -86,3 +86,17 @@ returns-clause-others g c =
     let counted = rw c.as_slice.ensures.value at c.count_concerned.ensures.counts in
     others_stay facts c.args.lits.now c.args.kept c.count_concerned.new.counts.items c.args.worklist.now.listed c.count_concerned.new.worklist.listed c.requires.current counted c.count_concerned.ensures.listed c.requires.others _
     (undone _ c.args.lits.now c.args.kept _ c.loop-place.counts.items (done g (goal.at.returns-clause-others g c).After-loop-place))
+
+-- the literals from `kept` on
+
+pub offset_bounds-lits-kept : goal.offset_bounds-lits-kept
+offset_bounds-lits-kept g c = let kept = c.requires.within in omega (arith, kept)
+
+pub slice_bounds-count_concerned-start : goal.slice_bounds-count_concerned-start
+slice_bounds-count_concerned-start g c = let kept = c.requires.within in omega (arith, kept)
+
+pub slice_bounds-count_concerned-end : goal.slice_bounds-count_concerned-end
+slice_bounds-count_concerned-end g c = let kept = c.requires.within in omega (arith, kept)
+
+pub slice_bounds-count_concerned-count : goal.slice_bounds-count_concerned-count
+slice_bounds-count_concerned-count g c = let kept = c.requires.within in omega (arith, kept)

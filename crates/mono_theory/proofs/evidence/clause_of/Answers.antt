@@ -15,4 +15,6 @@ loop-place-preserved c =
     ∙ ap (λ (ls : List ℤ). c.args.head ∷ ls) (sym (map_more (λ (k : ℕ). literal_of c.args.value (edge_at g k).var) ks i 0 c.loop-place-test.true))
 
 pub returns : goal.returns
-returns c = c.loop-place.invariant ∙ ap (λ (ks : List ℕ). c.args.head ∷ map (λ (k : ℕ). literal_of c.args.value (edge_at c.args.graph.now k).var) ks) (take_all c.loop-place.place-index c.args.places.now c.loop-place-test.false)
+returns c =
+    let all = c.loop-place.invariant ∙ ap (λ (ks : List ℕ). c.args.head ∷ map (λ (k : ℕ). literal_of c.args.value (edge_at c.args.graph.now k).var) ks) (take_all c.loop-place.place-index c.args.places.now c.loop-place-test.false) in
+    rw (c.as_slice.ensures.value, all) at c.from_lits.ensures.value

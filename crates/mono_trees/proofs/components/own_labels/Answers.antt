@@ -1,10 +1,6 @@
-use Rattle.std.proofs.Common.{◌≡◌, ◌∙◌, ◌+◌, ◌∷◌, ◌++◌, [], List, ℕ, ap, sym, zero-add, add-one}
-use Rattle.std.specs.List.{range_with_len}
-use Rattle.mono_graph.proofs.Ranges.{range_push}
+use Rattle.std.proofs.Common.{refl, arith}
+use Rattle.std.proofs.lemmas.Iterator.{YieldsList-from_range, items_from_collect}
 use Rattle.mono_trees.proofs.components.own_labels.Goals as goal
 
-more : (n : ℕ) → range_with_len 0 n ++ n ∷ [] ≡ range_with_len 0 (n + 1)
-more n = sym (ap (λ (k : ℕ). range_with_len 0 k) (add-one n) ∙ (range_push 0 n ∙ ap (λ (k : ℕ). range_with_len 0 n ++ k ∷ []) (zero-add n)))
-
-pub loop-node-preserved : goal.loop-node-preserved
-loop-node-preserved c = c.in_ok-push.ensures.items ∙ (ap (λ (ks : List ℕ). ks ++ c.loop-node.node ∷ []) c.loop-node.invariant ∙ more c.loop-node.node)
+pub returns : goal.returns
+returns c = items_from_collect _ c.collect.ensures.ran (YieldsList-from_range 0 c.args.count c.args.count refl (omega arith))

@@ -1,4 +1,4 @@
-use Rattle.std.proofs.Common.{◌≡◌, ◌<◌, ◌-◌, [], List, length, get_or, set, take, ap, subst, sym, arith}
+use Rattle.std.proofs.Common.{◌≡◌, ◌<◌, ◌-◌, [], List, length, get_or, set, take, ap, subst, arith}
 use Rattle.std.proofs.lemmas.List.{get_or_read, length-map}
 use Rattle.mono_base.specs.declared.buckets.Stretch.{Stretch}
 use Rattle.mono_base.specs.Buckets.{lists_in, listed_in, no_stretch, stretch_at}

@@ -1,9 +1,5 @@
-use Rattle.std.proofs.Common.{false, set, sym, subst}
-use Rattle.mono_base.specs.Worklist.{IsWorklist}
-use Rattle.mono_base.proofs.Worklists.{removed}
+use Rattle.mono_base.proofs.Worklists.{taken_last}
 use Rattle.mono_base.proofs.worklist.Worklist.remove_last.Goals as goal
 
-pub invariant_of-self : goal.invariant_of-self
-invariant_of-self c =
-    subst (λ room. IsWorklist (set c.self.inside.listed.items c.in-Some.place false) c.pop.new.self.items room) (sym c.pop.ensures.capacity)
-    (removed c.self.inside.listed.items c.self.inside.places.items c.pop.new.self.items _ c.in-Some.place c.self.invariant c.in-Some.ensures.items)
+pub returns : goal.returns
+returns c = taken_last _ _ c.take_next.result c.take_next.ensures c.requires
