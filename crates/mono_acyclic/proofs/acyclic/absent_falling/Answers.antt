@@ -1,4 +1,4 @@
-use Rattle.std.proofs.Common.{ℕ, Bool, ◌∷◌, [], ◌++◌, not, ◌&&◌, sym, ◌∙◌, ap}
+use Rattle.std.proofs.Common.{ℕ, Bool, ◌∷◌, [], ◌++◌, not, ◌&&◌, sym, ◌∙◌, ap, rules}
 use Rattle.std.specs.Prelude.{slice_index}
 use Rattle.mono_graph.specs.Digraph.{edge_at, present}
 use Rattle.mono_graph.proofs.Ranges.{filter_range_yes, filter_range_no}
@@ -14,3 +14,6 @@ loop-place-preserved c =
       | then-is_absent_falling+in_ok-push w ↦ ap (λ v. v.items) w.edges-is ∙ w.in_ok-push.ensures.items ∙ ap (λ ks. ks ++ n ∷ []) c.loop-place.invariant ∙ sym (filter_range_yes test n (sym w.if-is_absent_falling.ensures))
       | else-is_absent_falling w ↦ ap (λ v. v.items) w.edges-is ∙ c.loop-place.invariant ∙ sym (filter_range_no test n (sym w.if-is_absent_falling.ensures))
     ]
+
+pub loop-place-init : goal.loop-place-init
+loop-place-init c = search rules

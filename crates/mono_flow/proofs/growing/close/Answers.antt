@@ -1,4 +1,4 @@
-use Rattle.std.proofs.Common.{◌≡◌, ◌<◌, List, ℕ, length, get_or, sym, ◌∙◌, subst, arith}
+use Rattle.std.proofs.Common.{◌≡◌, ◌<◌, List, ℕ, length, get_or, sym, ◌∙◌, subst, arith, rules}
 use Rattle.std.specs.Prelude.{IsTrue, All}
 use Rattle.std.proofs.lemmas.List.{get_or_read}
 use Rattle.mono_graph.specs.Digraph.{edge_at, has, leaving, present}
@@ -25,3 +25,6 @@ loop-head-preserved c =
           (at_places (λ e. e.from) g c.index-node.result.now k within (start ∙ sym node)) here)
           i.closed;
     }
+
+pub returns-clause-outside : goal.returns-clause-outside
+returns-clause-outside c = search rules

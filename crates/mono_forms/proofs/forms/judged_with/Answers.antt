@@ -1,4 +1,4 @@
-use Rattle.std.proofs.Common.{ap, Err, Some}
+use Rattle.std.proofs.Common.{ap, Err, Some, rules}
 use Rattle.mono_words.specs.declared.command.Command.TheVariants as command
 use Rattle.mono_forms.specs.Endings.{unjudged_ending}
 use Rattle.mono_forms.proofs.OutOfMemory.{unjudged_with, ends_in_error}
@@ -15,3 +15,6 @@ returns-in_err-verdict g c = λ file old has.
     (unjudged_with file answer lits old (g.S.Shelf.seen c.args.shelf.now) new c.args.input.now refusal
     has c.requires (c.has_room.ensures.0 c.if-not-has_room.false) (λ same. judged.too_long (ap Err same)) (λ same. judged.fault (ap Err same)) (λ same. judged.memory (ap Err same)))
     c.from_residual-in_err-verdict.ensures.1
+
+pub returns : goal.returns
+returns g c = search rules

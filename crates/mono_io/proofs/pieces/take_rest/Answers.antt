@@ -69,3 +69,6 @@ pub pieces-smaller : goal.pieces-smaller
 pieces-smaller g c =
     let asked = length-take-le c.min-most.result c.pieces.buffer (omega arith) in
     omega (arith, c.pieces.invariant.taken.within, c.if-count-room.false, c.if-count-eq0.false, asked, c.in_ok-count.ensures.bound)
+
+pub returns-then-count-room-clause-too_long : goal.returns-then-count-room-clause-too_long
+returns-then-count-room-clause-too_long g c = search rules

@@ -1,4 +1,4 @@
-use Rattle.std.proofs.Common.{arith, ℕ, ◌-◌, ◌≤◌, length, take, subst, sym, ◌∙◌}
+use Rattle.std.proofs.Common.{arith, ℕ, ◌-◌, ◌≤◌, length, take, subst, sym, ◌∙◌, rules}
 use Rattle.std.specs.Io.KnownBytes.{Appends}
 use Rattle.mono_io.proofs.Fronts.{length-next, done-next, next_is_rest}
 use Rattle.mono_io.proofs.KnownBytes.{Appends-more}
@@ -18,3 +18,6 @@ loop-rest-preserved g c =
       written = subst (λ (n : ℕ). Appends (g.K.Sink.written c.args.sink.now) (g.K.Sink.written c.write.new.self) (take n text)) (sym (done-next text rest count kept.shorter within)) written;
       faults = c.in_ok-count.ensures.cause.succeeded ∙ kept.faults;
     }
+
+pub returns-clause-prefix : goal.returns-clause-prefix
+returns-clause-prefix g c = search rules

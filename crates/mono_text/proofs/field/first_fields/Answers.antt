@@ -1,4 +1,4 @@
-use Rattle.std.proofs.Common.{◌∙◌, ◌≤◌, sym, subst, ℕ, List, Result, get_or}
+use Rattle.std.proofs.Common.{◌∙◌, ◌≤◌, sym, subst, ℕ, List, Result, get_or, rules}
 use Rattle.std.specs.Result.{IfOk}
 use Rattle.mono_text.specs.declared.number.NumberRefusal.{NumberRefusal}
 use Rattle.mono_text.proofs.FieldSteps.{FieldsSoFar, fields_number, passed_on}
@@ -17,3 +17,6 @@ loop-place-preserved g c =
     let is = c.in-Some-Ok.field-0-is in
     let low = subst (λ (n : Result ℕ NumberRefusal). IfOk n (λ v. v ≤ get_or c.args.limits.now c.loop-place.place 0)) is c.in-Some-Ok.ensures.within in
     fields_number g.row.N c.loop-place.place c.args.limits.now c.loop-place.values c.args.tokens.now t c.next_natural.new.self c.told-limits c.loop-place-test.true before c.in-Some-Ok.value (sym is ∙ r) low
+
+pub returns-in-Some-Err-clause-value : goal.returns-in-Some-Err-clause-value
+returns-in-Some-Err-clause-value g c = search rules

@@ -1,4 +1,5 @@
-use Rattle.std.proofs.Common.{◌≡◌, ◌∙◌, ◌++◌, ◌∷◌, [], ap, sym, subst, List, ℕ, refl}
+use Rattle.std.proofs.Common.{◌≡◌, ◌∙◌, ◌++◌, ◌∷◌, [], ap, sym, subst, List, ℕ, refl, arith}
+use Rattle.std.proofs.lemmas.Grind.{common_steps}
 use Rattle.mono_clauses.proofs.WholeStore.{store_added, store_watched, added_follows, following_of, follows_of, idle_more}
 use Rattle.mono_clauses.specs.Store.{Follows}
 use Rattle.mono_clauses.specs.Visits.{IsStore, IsFollowing, Watched}
@@ -51,3 +52,6 @@ returns-clause-follows c =
     let at = (goal.at.returns-clause-follows c).In_default in
     let same : c.try_watch.new.watches ≡ c.grow.new.self = c.if-try_watch.ensures.no in
     subst (λ (v : WatchesView). Follows (record { vars = c.add.new.self.vars; clauses = c.add.new.self.list; watched = v.watched }) c.args.trail.now) (sym same) (follows at)
+
+pub invariant_of-self-in-Err : goal.invariant_of-self-in-Err
+invariant_of-self-in-Err c = grind (arith, common_steps)

@@ -1,4 +1,4 @@
-use Rattle.std.proofs.Common.{◌+◌, ℕ, length, refl, sym, subst, ◌∙◌, arith}
+use Rattle.std.proofs.Common.{◌+◌, ℕ, length, refl, sym, subst, ◌∙◌, arith, rules}
 use Rattle.std.proofs.lemmas.Bool.{both_ways}
 use Rattle.std.specs.BinaryHeap.{heap_items}
 use Rattle.mono_dynamic.specs.declared.change.Change.{Change}
@@ -47,3 +47,6 @@ lower-requires-clause-previous c =
 
 pub lower-requires-clause-stamps : goal.lower-requires-clause-stamps
 lower-requires-clause-stamps c = c.requires.row.stamps
+
+pub returns-then-old-start-clause-relaxed : goal.returns-then-old-start-clause-relaxed
+returns-then-old-start-clause-relaxed c = search rules

@@ -1,4 +1,4 @@
-use Rattle.std.proofs.Common.{◌≡◌, ℕ, List, length, refl, ap, ◌∙◌, subst, arith}
+use Rattle.std.proofs.Common.{◌≡◌, ℕ, List, length, refl, ap, ◌∙◌, subst, arith, rules}
 use Rattle.std.specs.Prelude.{None}
 use Rattle.mono_paths.specs.declared.visit.Visit.{Visit}
 use Rattle.mono_paths.specs.Queues.{IsTaken, Takes, Adds}
@@ -27,3 +27,6 @@ loop-limit-preserved c =
           (subst (λ (vs : List Visit). Adds c.take.new.self c.add.new.self c.len-first.result (length vs)) c.deref.ensures.value c.in_ok-add.ensures))
           c.loop-limit.invariant.search;
     }
+
+pub returns-in_default-clause-above : goal.returns-in_default-clause-above
+returns-in_default-clause-above c = search rules

@@ -1,0 +1,5 @@
+use Rattle.std.proofs.Common.{rules}
+use Rattle.mono_trees.proofs.spanning.is_light.Goals as goal
+
+pub returns-then-most-ge0 : goal.returns-then-most-ge0
+returns-then-most-ge0 c = search rules
