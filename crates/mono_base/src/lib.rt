@@ -13,6 +13,8 @@ pub mod limits;
 mod lit;
 mod lit_set;
 mod name;
+/// The numbers from 0 up.
+mod numbers;
 /// An order that exchanges change, and each item's place.
 mod ranking;
 mod row;
@@ -26,6 +28,7 @@ pub use buckets::Buckets;
 pub use lit::Lit;
 pub use lit_set::LitSet;
 pub use name::Name;
+pub use numbers::numbers_below;
 pub use ranking::Ranking;
 pub use row::Row;
 pub use value::Value;

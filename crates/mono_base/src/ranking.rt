@@ -5,9 +5,9 @@
 //! borders between places parts the items so, and moves one to another part by an exchange with the one at a border.
 
 ghost use Rattle.std.specs.Prelude.{◌≡◌, ◌<◌, ◌^◌, length, IfOk, slice_set, slice_index_or};
-ghost use Rattle.std.specs.List.{range_with_len};
 ghost use Rattle.mono_base.specs.Ranking.{AreInverse, exchanged, in_order, with_exchange};
 
+use crate::numbers::numbers_below;
 use std::alloc::{AllocError, Global};
 use std::marker::Model;
 
@@ -36,8 +36,8 @@ impl Ranking {
     pub fn new(alloc: Global, count: u32) -> Result<Ranking, AllocError>
         ensures { IfOk result (λ r. r ≡ in_order count) }
     {
-        let items = numbers(alloc, count)?;
-        let places = numbers(alloc, count)?;
+        let items = numbers_below(alloc, count)?;
+        let places = numbers_below(alloc, count)?;
         Ok(Ranking { items, places })
     }
 
@@ -77,13 +77,6 @@ impl Ranking {
     {
         exchange(&mut self.items, &mut self.places, first, second);
     }
-}
-
-/// The numbers from 0 up to so many.
-fn numbers(alloc: Global, count: u32) -> Result<Vec<u32>, AllocError>
-    ensures { IfOk result (λ all. all.items ≡ range_with_len 0 count) }
-{
-    (0..count).collect(alloc)
 }
 
 /// The items at two places change places.

@@ -5,7 +5,6 @@
 //! among them, the edge closes a cycle. Where edges go, nothing is to be done: an order of a part is one of each smaller part.
 
 ghost use Rattle.std.specs.Prelude.{◌≡◌, ◌<◌, ◌≤◌, ◌+◌, ℕ, Bool, List, [], true, false, IfOk, IsTrue, length, slice_index, vec_capacity};
-ghost use Rattle.std.specs.List.{range_with_len};
 ghost use Rattle.mono_graph.specs.Digraph.{Digraph, IsPartOf, edge_at, has, present};
 ghost use Rattle.mono_graph.specs.Cycles.{is_cycle, is_order};
 ghost use Rattle.mono_cycles.specs.Searches.{IsStep};
@@ -15,6 +14,7 @@ ghost use Rattle.mono_cycles.specs.Kept.{IsGrownBy};
 use crate::arrange::arrange;
 use crate::behind::Behind;
 use mono_base::limits::MAX_NODES;
+use mono_base::numbers_below;
 use mono_graph::{Graph, Part};
 use std::alloc::{AllocError, Global};
 use std::marker::Model;
@@ -53,13 +53,6 @@ impl Model for KeptOrder {
     ghost invariant = { IsKeptOrder };
 }
 
-/// The numbers below this one.
-fn numbers(alloc: Global, count: u32) -> Result<Vec<u32>, AllocError>
-    ensures { IfOk result (λ numbers. numbers.items ≡ range_with_len 0 count) }
-{
-    (0..count).collect(alloc)
-}
-
 /// The cycle of an edge from the target to a node that was found, the way on from there, and the edge back to the target.
 fn close(
     graph: &Graph,
@@ -95,8 +88,8 @@ impl KeptOrder {
             → IsTrue (is_order g P kept.order)) }
     {
         Ok(KeptOrder {
-            order: numbers(alloc, nodes)?,
-            ranks: numbers(alloc, nodes)?,
+            order: numbers_below(alloc, nodes)?,
+            ranks: numbers_below(alloc, nodes)?,
             behind: Behind::new(alloc, nodes)?,
             buffer: Vec::with_capacity(alloc, nodes as usize)?,
             cycle: Vec::with_capacity(alloc, nodes as usize + 1)?,

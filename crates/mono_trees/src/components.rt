@@ -12,6 +12,7 @@ ghost use Rattle.mono_trees.specs.Lists.{lists_of};
 ghost use Rattle.mono_trees.specs.Kept.{AreLists, moved_label};
 ghost use Rattle.mono_trees.specs.Tells.{Tells, same_label};
 
+use mono_base::numbers_below;
 use std::alloc::{AllocError, Global};
 use std::marker::Model;
 use std::mem;
@@ -158,13 +159,6 @@ fn join_labels(
     Ok(())
 }
 
-/// Each node as its own label.
-fn own_labels(alloc: Global, count: u32) -> Result<Vec<u32>, AllocError>
-    ensures { IfOk result (λ labels. labels.items ≡ range_with_len 0 count) }
-{
-    (0..count).collect(alloc)
-}
-
 /// Gives each node its own label.
 fn renumber(labels: &mut [u32])
     requires { length labels.old < 2 ^ 32 }
@@ -199,7 +193,8 @@ impl Components {
         ensures len { IfOk result (λ labels. length labels ≡ count) }
         ensures tells { IfOk result (λ labels. Tells [] labels) }
     {
-        let labels = own_labels(alloc, count)?;
+        // Each node is its own label.
+        let labels = numbers_below(alloc, count)?;
         let lists = empty_lists(alloc, count)?;
         Ok(Components { labels, lists })
     }

@@ -5,6 +5,7 @@ ghost use Rattle.std.specs.List.Sorted.{IsNonDecreasingBy};
 ghost use Rattle.mono_graph.specs.Digraph.{IsPartOf, edge_at, present, places};
 ghost use Rattle.mono_trees.specs.Order.{placed_at};
 
+use mono_base::numbers_below;
 use mono_graph::{Graph, Part};
 use std::alloc::{AllocError, Global};
 
@@ -50,19 +51,12 @@ pub fn by_weight(alloc: Global, graph: &Graph, places: &[u32]) -> Result<Vec<u32
     Ok(order)
 }
 
-/// The places of all edges, in the order of the graph.
-fn all_places(alloc: Global, graph: &Graph) -> Result<Vec<u32>, AllocError>
-    ensures { IfOk result (λ v. v.items ≡ places graph.now) }
-{
-    (0..graph.edge_count()).collect(alloc)
-}
-
 /// The places of all edges, in the order of their weights.
 pub fn all_by_weight(alloc: Global, graph: &Graph) -> Result<Vec<u32>, AllocError>
     ensures permutation { IfOk result (λ order. IsPermutation (places graph.now) order.items) }
     ensures rising { IfOk result (λ order. IsNonDecreasingBy (λ k. (edge_at graph.now k).weight) order.items) }
 {
-    let all = all_places(alloc, graph)?;
+    let all = numbers_below(alloc, graph.edge_count())?;
     let order = by_weight(alloc, graph, &all)?;
     Ok(order)
 }

@@ -4,7 +4,7 @@ ghost use Rattle.std.specs.Prelude.{◌≡◌, ◌≤◌};
 ghost use Rattle.mono_base.specs.Literal.{var_of};
 
 use super::{assert_same, assert_same_at};
-use mono_base::{Lit, LitSet, Name, Row};
+use mono_base::{Lit, LitSet, Name, Row, numbers_below};
 use std::process::Abort;
 use std::test::Fail;
 
@@ -76,6 +76,16 @@ fn rows_keep_their_items(rt: HostRuntime) -> Result<(), Fail> {
     assert_same(&rt, row.as_slice(), [3, 1, 3].as_slice());
     let items = row.into_vec();
     assert_same(&rt, items.as_slice(), [3, 1, 3].as_slice());
+    Ok(())
+}
+
+#[test]
+fn numbers_stand_in_their_own_order(rt: HostRuntime) -> Result<(), Fail> {
+    let numbers = [0, 1, 2, 3];
+    for count in 0..numbers.len() {
+        let below = numbers_below(rt.alloc(), count as u32)?;
+        assert_same(&rt, below.as_slice(), &numbers[..count]);
+    }
     Ok(())
 }
 
